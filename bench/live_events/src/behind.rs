@@ -5,7 +5,7 @@ ghost use Rattle.syntax.specs.Lists.{In};
 ghost use Rattle.runs.specs.Dependence.{SomeBefore, OnOneChannel};
 ghost use Rattle.runs.specs.Events.{places};
 ghost use Rattle.runs.specs.Moves.{Place};
-ghost use Rattle.runs.specs.walking.Below.{apart};
+ghost use Rattle.runs.specs.internal.Below.{apart};
 ghost use Rattle.dependence_bench.specs.Pairs.{Follows, IsBehind};
 
 use address::{Address, Entry, before};

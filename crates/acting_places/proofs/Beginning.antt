@@ -7,7 +7,7 @@ use Rattle.std.proofs.lemmas.Option.{slice_get_past}
 use Rattle.address.specs.declared.Entry.TheVariants.{Ordered, Branch}
 use Rattle.system.specs.Residual.{Residual}
 use Rattle.system.specs.Translation.{OnChannel, OnGuard, OnLabels, in_sequence, in_parallel, arms_of, action_layer, arm_layer, command_layer, guarded_layer, labelled_layer, residual_of}
-use Rattle.system.specs.walking.ArmParts.{arm_of, guarded_of, labelled_of}
+use Rattle.system.specs.internal.ArmParts.{arm_of, guarded_of, labelled_of}
 use Rattle.system.specs.declared.command.Action.{Action, out-Action}
 use Rattle.system.specs.declared.command.Arm.{Arm, out-Arm}
 use Rattle.system.specs.declared.command.Command.{Command}

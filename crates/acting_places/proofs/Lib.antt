@@ -1,6 +1,6 @@
-pub mod Beginning
-pub mod Knowing
-pub mod Lined
-pub mod Lying
-pub mod Placed
-pub mod Shapes
+mod Beginning
+mod Knowing
+mod Lined
+mod Lying
+mod Placed
+mod Shapes

@@ -16,8 +16,8 @@ use Rattle.runs.specs.Steps.{State, Moves, Step, Run, opening}
 use Rattle.runs.specs.declared.event.Event.{Event}
 use Rattle.runs.specs.declared.event.Kind.{Kind}
 use Rattle.runs.specs.declared.event.Kind.TheVariants.{Assign, Test, Turn, Meet, Open, Close, Sync}
-use Rattle.runs.proofs.Lists.{every-in}
-use Rattle.runs.proofs.Stepping.{place-moves}
+use Rattle.runs.proofs.public.Lists.{every-in}
+use Rattle.runs.proofs.public.Stepping.{place-moves}
 use Rattle.event_places.specs.EventPlaces.{taken_by, line_after}
 use Rattle.event_places.specs.Laws.{TakenByTheEvent}
 use Rattle.acting_places.specs.Lines.{HasLine, EventsHaveLines, AllowedHaveLines}

@@ -24,9 +24,9 @@ use Rattle.runs.specs.Steps.{State, Moves, Run, opening}
 use Rattle.runs.specs.declared.event.Event.{Event}
 use Rattle.runs.specs.declared.event.Kind.{Kind}
 use Rattle.runs.specs.declared.event.Kind.TheVariants.{Assign, Test, Turn, Meet, Open, Close, Sync}
-use Rattle.runs.proofs.Lists.{every-in}
-use Rattle.runs.proofs.Options.{some-injective}
-use Rattle.runs.proofs.Stepping.{place-moves}
+use Rattle.runs.proofs.public.Lists.{every-in}
+use Rattle.runs.proofs.public.Options.{some-injective}
+use Rattle.runs.proofs.public.Stepping.{place-moves}
 use Rattle.acting_places.specs.Branches.{all_branches, HasFewBranches, EventsLieInBranches}
 use Rattle.acting_places.proofs.Shapes.{Shape, InPart, Keeps, parallel-shape, shape-along, local-part, local-shape}
 

@@ -22,4 +22,5 @@ LiesInBranch system e = (k : ℕ) × (branch_at system (acting e) ≡ Some k) ×
 -- so does that of each event of a run
 abbrev pub EventsLieInBranches : Type 0
 EventsLieInBranches =
-    (system : System) (h : List Event) (T : State) (e : Event) → HasFewBranches system → Run (opening system) h T → In e h → LiesInBranch system e
+    (system : System) (h : List Event) (T : State) (e : Event) → HasFewBranches system → Run (opening system) h T →
+    In e h → LiesInBranch system e

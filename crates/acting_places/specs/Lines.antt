@@ -17,9 +17,11 @@ HasLine h system e = (line : ℕ) × (line_after h system (acting e) ≡ Some li
 -- so has each event of a run that does not act in the environment: its place begins with /0, where the body stands
 abbrev pub EventsHaveLines : Type 0
 EventsHaveLines =
-    (system : System) (h : List Event) (T : State) (e : Event) (b : Place) → Run (opening system) h T → In e h → acting e ≡ Branch 0 ∷ b → HasLine h system e
+    (system : System) (h : List Event) (T : State) (e : Event) (b : Place) → Run (opening system) h T → In e h →
+    acting e ≡ Branch 0 ∷ b → HasLine h system e
 
 -- and each that may be taken next
 abbrev pub AllowedHaveLines : Type 0
 AllowedHaveLines =
-    (system : System) (h : List Event) (T : State) (e : Event) (b : Place) → Run (opening system) h T → Allowed T e → acting e ≡ Branch 0 ∷ b → HasLine h system e
+    (system : System) (h : List Event) (T : State) (e : Event) (b : Place) → Run (opening system) h T → Allowed T e →
+    acting e ≡ Branch 0 ∷ b → HasLine h system e

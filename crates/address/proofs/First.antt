@@ -5,10 +5,10 @@ use Rattle.std.proofs.lemmas.List.{take-append-drop, take_rest}
 use Rattle.address.specs.declared.Entry.{Entry}
 use Rattle.address.specs.declared.Entry.TheVariants.{Ordered, Branch}
 use Rattle.address.specs.Places.{Before}
-use Rattle.address.specs.walking.Common.{FirstsDiffer, AfterCommon, first_number_of}
+use Rattle.address.specs.internal.Common.{FirstsDiffer, AfterCommon, first_number_of}
 use Rattle.address.specs.contracts.EntryPartialEq.TheImpl.{eq-value}
-use Rattle.address.proofs.Places.{before-left}
-use Rattle.address.proofs.Entries.{entry_eq-Decides}
+use Rattle.address.proofs.public.Places.{before-left}
+use Rattle.address.proofs.public.Entries.{entry_eq-Decides}
 
 -- there are two numbers, and the first is less
 abbrev pub NumbersBelow : Option ℕ → Option ℕ → Type 0

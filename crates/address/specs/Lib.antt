@@ -3,4 +3,4 @@ pub mod Order
 pub mod Text
 pub mod Reading
 pub mod Laws
-pub mod walking
+pub mod internal

@@ -118,7 +118,7 @@ impl PartialEq for Address {
     ghost use Rattle.std.specs.Cmp.{partial_equiv_from_equiv};
     ghost use Rattle.std.proofs.lemmas.Cmp.{eq_by_cmp_equiv};
     ghost use Rattle.address.specs.Order.{order_of};
-    ghost use Rattle.address.specs.walking.OrderLaws.{order_of-total};
+    ghost use Rattle.address.specs.internal.OrderLaws.{order_of-total};
 
     ghost eq = { eq_by_cmp order_of };
 
@@ -131,7 +131,7 @@ impl PartialEq for Address {
 
 impl Eq for Address {
     ghost use Rattle.std.proofs.lemmas.Cmp.{eq_by_cmp_equiv};
-    ghost use Rattle.address.specs.walking.OrderLaws.{order_of-total};
+    ghost use Rattle.address.specs.internal.OrderLaws.{order_of-total};
 
     ghost laws = { eq_by_cmp_equiv order_of-total };
 }

@@ -2,7 +2,7 @@
 ghost use Rattle.std.specs.Prelude.{◌≡◌, ◌↔◌, IsTrue};
 ghost use Rattle.address.specs.Places.{Before};
 ghost use Rattle.address.specs.Order.{order_of};
-ghost use Rattle.address.specs.walking.Common.{AfterCommon, first_number_of};
+ghost use Rattle.address.specs.internal.Common.{AfterCommon, first_number_of};
 
 use crate::{Address, Entry};
 use std::cmp::Ordering;

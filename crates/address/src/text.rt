@@ -3,7 +3,7 @@ ghost use Rattle.std.specs.Prelude.{Some, IfOk, MatchOption, length, ◌≡◌, 
 ghost use Rattle.std.specs.Option.{SomeIff};
 ghost use Rattle.address.specs.Text.{entry_text, text_of};
 ghost use Rattle.address.specs.Reading.{HasNoText, IsTextOf};
-ghost use Rattle.address.specs.walking.Entries.{IsDigitsEnd, ReadsEntry, ReadsNumber, BeginsNoEntry, ReadsNoNumber};
+ghost use Rattle.address.specs.internal.Entries.{IsDigitsEnd, ReadsEntry, ReadsNumber, BeginsNoEntry, ReadsNoNumber};
 
 use crate::{Address, Entry};
 use std::alloc::{AllocError, Global};

@@ -7,8 +7,8 @@ use Rattle.std.specs.declared.cmp.Ordering.{Ordering}
 use Rattle.std.specs.declared.cmp.Ordering.TheVariants.{Less, Equal}
 use Rattle.syntax.specs.Lists.{In}
 use Rattle.address.specs.Order.{order_of}
-use Rattle.address.specs.walking.OrderLaws.{less-not-equal}
-use Rattle.address.proofs.Total.{order-itself}
+use Rattle.address.specs.internal.OrderLaws.{less-not-equal}
+use Rattle.address.proofs.public.Total.{order-itself}
 use Rattle.runs.specs.Moves.{Place}
 use Rattle.runs.specs.Events.{acting}
 use Rattle.runs.specs.Steps.{State}
@@ -17,11 +17,11 @@ use Rattle.runs.specs.InOrder.{InOrder}
 use Rattle.runs.specs.Ready.{other, Sooner, ChoiceAllowed, Chosen}
 use Rattle.runs.specs.declared.event.Event.{Event}
 use Rattle.runs.specs.declared.event.Choice.{Choice}
-use Rattle.runs.proofs.Lists.{in-right, in-parts, every-in}
-use Rattle.runs.proofs.ReadyLists.{sooner-asymmetric}
-use Rattle.allowed_events.specs.walking.Acting.{ReadyWith}
-use Rattle.allowed_events.specs.walking.Choosing.{HasNone, FirstWith}
-use Rattle.allowed_events.specs.walking.Sorting.{sooner_by, is_sooner}
+use Rattle.runs.proofs.public.Lists.{in-right, in-parts, every-in}
+use Rattle.runs.proofs.public.ReadyLists.{sooner-asymmetric}
+use Rattle.allowed_events.specs.internal.Acting.{ReadyWith}
+use Rattle.allowed_events.specs.internal.Choosing.{HasNone, FirstWith}
+use Rattle.allowed_events.specs.internal.Sorting.{sooner_by, is_sooner}
 use Rattle.allowed_events.proofs.Entries.{parts-at, got-at, item-at, take-next}
 
 not-itself : (a : Place) → order_of a a ≡ Less → ⊥

@@ -1,8 +1,8 @@
-pub mod ActedSides
-pub mod Entries
-pub mod FirstChosen
-pub mod FromSides
-pub mod Listed
-pub mod Partners
-pub mod Placed
-pub mod Sooner
+mod ActedActions
+mod Entries
+mod FirstChosen
+mod FromActions
+mod Listed
+mod Partners
+mod Placed
+mod Sooner

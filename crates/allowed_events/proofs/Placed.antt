@@ -5,11 +5,11 @@ use Rattle.runs.specs.declared.event.Event.{Event}
 use Rattle.syntax.specs.Lists.{Every}
 use Rattle.runs.specs.InOrder.{InOrder}
 use Rattle.runs.specs.Ready.{Sooner}
-use Rattle.runs.proofs.Lists.{every-in, every-map, in-right}
-use Rattle.runs.proofs.ReadyLists.{sooner-transitive}
+use Rattle.runs.proofs.public.Lists.{every-in, every-map, in-right}
+use Rattle.runs.proofs.public.ReadyLists.{sooner-transitive}
 use Rattle.allowed_events.proofs.Entries.{parts-at, item-at, drop-next}
 use Rattle.allowed_events.proofs.Sooner.{sooner-true, sooner-tested}
-use Rattle.allowed_events.specs.walking.Sorting.{is_sooner, sooner_count, inserted}
+use Rattle.allowed_events.specs.internal.Sorting.{is_sooner, sooner_count, inserted}
 
 -- they are no more than there are
 pub count-within : (e : Event) (l : List Event) → sooner_count e l ≤ length l

@@ -8,7 +8,7 @@ use Rattle.std.specs.declared.cmp.Ordering.{Ordering}
 use Rattle.std.specs.declared.cmp.Ordering.TheVariants.{Less, Equal, Greater}
 use Rattle.syntax.specs.Lists.{In}
 use Rattle.address.specs.Order.{order_of}
-use Rattle.address.proofs.Total.{order-ties, order-itself}
+use Rattle.address.proofs.public.Total.{order-ties, order-itself}
 use Rattle.runs.specs.Events.{acting}
 use Rattle.runs.specs.Steps.{State, Allowed}
 use Rattle.runs.specs.Choices.{choice_of}
@@ -16,17 +16,17 @@ use Rattle.runs.specs.InOrder.{InOrder}
 use Rattle.runs.specs.Ready.{other, Sooner}
 use Rattle.runs.specs.Moves.{Place}
 use Rattle.runs.specs.Tests.{same_event}
-use Rattle.runs.specs.walking.EventLaws.{same_event-decides}
+use Rattle.runs.specs.internal.EventLaws.{same_event-decides}
 use Rattle.runs.specs.WellFormed.{WellFormed}
 use Rattle.runs.specs.declared.event.Event.{Event}
-use Rattle.runs.proofs.Lists.{every-in, every-of, in-left, in-right, in-parts}
-use Rattle.runs.proofs.ReadyLists.{sooner?, sooner-transitive}
+use Rattle.runs.proofs.public.Lists.{every-in, every-of, in-left, in-right, in-parts}
+use Rattle.runs.proofs.public.ReadyLists.{sooner?, sooner-transitive}
 use Rattle.std.specs.List.{Contains}
 use Rattle.std.specs.List.Sorted.{IsPermutation}
 use Rattle.std.proofs.lemmas.List.Sorted.{IsPermutation-sym, Contains-permutation}
 use Rattle.allowed_events.proofs.Entries.{parts-at, item-at}
-use Rattle.allowed_events.specs.walking.Acting.{SortedOf}
-use Rattle.allowed_events.specs.walking.Sorting.{sooner_by, is_sooner, inserted}
+use Rattle.allowed_events.specs.internal.Acting.{SortedOf}
+use Rattle.allowed_events.specs.internal.Sorting.{sooner_by, is_sooner, inserted}
 
 arms-true : (m n : ℕ) (q : Ordering) → cond (nat_lt m n) true (cond (m == n) (is_lt q) false) ≡ true → (m < n) ⊎ ((m ≡ n) × (is_lt q ≡ true))
 arms-true m n q h = pick (nat_lt m n) refl h

@@ -1,2 +1,2 @@
 pub mod ReadyBelow
-pub mod walking
+pub mod internal

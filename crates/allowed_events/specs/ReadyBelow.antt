@@ -7,7 +7,7 @@ use Rattle.runs.specs.Steps.{State, Allowed}
 use Rattle.runs.specs.InOrder.{InOrder}
 use Rattle.runs.specs.Ready.{Sooner}
 use Rattle.runs.specs.declared.event.Event.{Event}
-use Rattle.offered_sides.specs.Sides.{Under}
+use Rattle.local_actions.specs.Actions.{Under}
 
 -- exactly the events that are allowed in S and act below the place, in order
 pub record ReadyBelow (S : State) (p : Place) (es : List Event) : Type 0 where

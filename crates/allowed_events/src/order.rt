@@ -4,13 +4,13 @@ ghost use Rattle.address.specs.Order.{order_of};
 ghost use Rattle.runs.specs.InOrder.{InOrder};
 ghost use Rattle.runs.specs.Ready.{other, Sooner};
 ghost use Rattle.runs.specs.Choices.{choice_of};
-ghost use Rattle.allowed_events.specs.walking.Sorting.{is_sooner, sooner_count};
+ghost use Rattle.allowed_events.specs.internal.Sorting.{is_sooner, sooner_count};
 
 use address::{Entry, compare};
 use runs::{Choice, Event, Kind};
 use std::cmp::Ordering;
 
-/// Whether the first event comes before the second: by acting address, then by arm, then by the other side's address.
+/// Whether the first event comes before the second: by acting address, then by arm, then by the other action's address.
 fn is_sooner(one: &Event, two: &Event) -> bool
     ensures { result ≡ is_sooner one.now two.now }
 {
@@ -31,7 +31,7 @@ fn is_sooner(one: &Event, two: &Event) -> bool
     }
 }
 
-/// The place of the side that does not act, the root's where one side alone takes part.
+/// The place of the action that does not act, the root's where one action alone takes part.
 fn other_place(event: &Event) -> &[Entry]
     ensures { result.now ≡ other event.now }
 {

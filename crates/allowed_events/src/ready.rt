@@ -10,18 +10,18 @@ ghost use Rattle.syntax.specs.Lists.{In};
 ghost use Rattle.process_tree.specs.Code.{Code};
 ghost use Rattle.process_tree.specs.Tidy.{Tidy};
 ghost use Rattle.process_tree.specs.View.{tree_view};
-ghost use Rattle.offered_sides.specs.View.{state_of};
+ghost use Rattle.local_actions.specs.View.{state_of};
 ghost use Rattle.channel_uses.specs.StemsFrom.{StemsFrom};
 ghost use Rattle.channel_uses.specs.Table.{IsTableOf};
 ghost use Rattle.allowed_events.specs.ReadyBelow.{ReadyBelow};
-ghost use Rattle.allowed_events.specs.walking.Acting.{SortedOf};
-ghost use Rattle.allowed_events.specs.walking.Sorting.{inserted};
+ghost use Rattle.allowed_events.specs.internal.Acting.{SortedOf};
+ghost use Rattle.allowed_events.specs.internal.Sorting.{inserted};
 
-use crate::acting::acted_by;
+use crate::acting_events::acted_by;
 use crate::order::{latest_first, sooner_count};
 use address::Entry;
 use channel_uses::ChannelUses;
-use offered_sides::sides_below;
+use local_actions::actions_below;
 use process_tree::Tree;
 use runs::Event;
 use std::alloc::{AllocError, Global};
@@ -44,8 +44,8 @@ pub fn ready_events(
     ready_below(alloc, uses, tree, store, &[])
 }
 
-/// Those of them that act at the place or below it. It goes down along the place, and for each side that is found there
-/// looks at those on its channel alone. It is an error if there is no memory.
+/// Those of them that act at the place or below it. It goes down along the place, and for each action that is found
+/// there looks at those on its channel alone. It is an error if there is no memory.
 pub fn ready_below(
     alloc: Global,
     uses: &ChannelUses,
@@ -57,7 +57,7 @@ pub fn ready_below(
         Tidy (tree_view tree.now) →
         IfOk result (λ events. ReadyBelow (state_of tree.now store.now) place.now events) }
 {
-    let acting = sides_below(alloc, tree, store, place)?;
+    let acting = actions_below(alloc, tree, store, place)?;
     let made = acted_by(alloc, uses, tree, store, acting.as_slice())?;
     in_order(alloc, made)
 }

@@ -1,1 +1,1 @@
-pub mod Trimming
+pub mod public

@@ -8,8 +8,8 @@ ghost use Rattle.branch_lanes.specs.Lanes.{ApartInLanes, branch_numbers, lane_of
 use address::{Address, Entry};
 use std::alloc::{AllocError, Global};
 
-/// The lane of the place: the numbers of the branches that it lies in, from the outermost, without the zeros at the end but for the
-/// first number. So child 0 of a parallel goes on in the lane of the parallel.
+/// The lane of the place: the numbers of the branches that it lies in, from the outermost, without the zeros at the end
+/// but for the first number. So child 0 of a parallel goes on in the lane of the parallel.
 ///
 /// It is an error if there is no memory.
 pub fn lane_of(alloc: Global, place: &Address) -> Result<Vec<u32>, AllocError>

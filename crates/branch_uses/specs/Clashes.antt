@@ -1,5 +1,6 @@
--- The uses of a variable in a command, by its name, and which two of them clash: they stand in two branches of a parallel,
--- and one of them writes. Each definition says what is found with a part more, behind what was found before it.
+-- The uses of a variable in a command, by its name, and which two of them clash: they stand in two branches of a
+-- parallel, and one of them writes. Each definition says what is found with a part more, behind what was found before
+-- it.
 use Rattle.std.specs.Prelude.{ℕ, List, [], ◌∷◌, ◌++◌, Bool, true, false, ◌||◌, ◌==◌, Option, None, Some, nat_eq, if◌then◌else◌}
 use Rattle.std.specs.Cmp.Lexicographic.{pointwise}
 use Rattle.syntax.specs.declared.command.Arm.{Arm}
@@ -32,9 +33,10 @@ abbrev pub Finds : Type 0
 Finds = Finding → Finding
 
 -- a name at the offset, where it is that of the variable
-abbrev pub noted : List ℕ → List ℕ → ℕ → Bool → Finds
-noted name text offset writes f =
-    if pointwise nat_eq text name then finding (f.uses ++ record { offset = offset; writes = writes } ∷ []) f.clashes else f
+abbrev pub with_use : List ℕ → List ℕ → ℕ → Bool → Finds
+with_use name text offset writes f =
+    if pointwise nat_eq text name then finding (f.uses ++ record { offset = offset; writes = writes } ∷ []) f.clashes
+    else f
 
 -- ---- which two uses clash
 
@@ -58,7 +60,8 @@ against_all offset (u ∷ us) vs cs = against_all offset us vs (against_each off
 -- a branch behind those before it: what is found in it, and the clashes between it and them
 abbrev pub beside : ℕ → Finding → Finding → Finding
 beside offset branch earlier =
-    finding (earlier.uses ++ branch.uses) (against_all offset earlier.uses branch.uses (earlier.clashes ++ branch.clashes))
+    finding (earlier.uses
+    ++ branch.uses) (against_all offset earlier.uses branch.uses (earlier.clashes ++ branch.clashes))
 
 -- two parts that do not stand side by side
 abbrev pub behind : Finding → Finding → Finding
@@ -71,7 +74,7 @@ nothing = finding [] []
 
 abbrev pub shape_layer : List ℕ → Shape-F (ℕ → Finds) Finds → ℕ → Finds
 shape_layer name (Shape-F.Number n) start f = f
-shape_layer name (Shape-F.Name text) start f = noted name text start false f
+shape_layer name (Shape-F.Name text) start f = with_use name text start false f
 shape_layer name (Shape-F.Binary op left right) start f = right (left f)
 shape_layer name (Shape-F.Not operand) start f = operand f
 shape_layer name (Shape-F.Cast operand type) start f = operand f
@@ -111,9 +114,9 @@ action_layer q (Action-F.If arms last) f = then_last last (in_turn arms f)
 action_layer q (Action-F.Case subject arms last) f = then_last last (in_turn arms (reading q.name subject f))
 action_layer q (Action-F.Select arms) f = in_turn arms f
 action_layer q (Action-F.Arbitrate first second) f = second (first f)
-action_layer q (Action-F.Assign x e) f = reading q.name e (noted q.name x.name x.span.start true f)
+action_layer q (Action-F.Assign x e) f = reading q.name e (with_use q.name x.name x.span.start true f)
 action_layer q (Action-F.Send c e) f = reading q.name e f
-action_layer q (Action-F.Receive c x) f = noted q.name x.name x.span.start true f
+action_layer q (Action-F.Receive c x) f = with_use q.name x.name x.span.start true f
 action_layer q (Action-F.Input c body) f = body f
 action_layer q (Action-F.Call p arguments) f = f
 action_layer q (Action-F.Sequence children) f = in_turn children f
@@ -133,19 +136,23 @@ guarded_layer q a f = a.body (reading q.name a.guard f)
 
 -- a command
 abbrev pub found_in : Question → Command → Finds
-found_in q = fold-Command Finds Finds Finds Finds Finds (action_layer q) arm_layer case_arm_layer command_layer (guarded_layer q)
+found_in q =
+    fold-Command Finds Finds Finds Finds Finds (action_layer q) arm_layer case_arm_layer command_layer (guarded_layer q)
 
 -- an arm of `select` or `arbitrate`
 abbrev pub found_in_arm : Question → Arm → Finds
-found_in_arm q = fold-Arm Finds Finds Finds Finds Finds (action_layer q) arm_layer case_arm_layer command_layer (guarded_layer q)
+found_in_arm q =
+    fold-Arm Finds Finds Finds Finds Finds (action_layer q) arm_layer case_arm_layer command_layer (guarded_layer q)
 
 -- an arm of `case`
 abbrev pub found_in_case_arm : Question → CaseArm → Finds
-found_in_case_arm q = fold-CaseArm Finds Finds Finds Finds Finds (action_layer q) arm_layer case_arm_layer command_layer (guarded_layer q)
+found_in_case_arm q =
+    fold-CaseArm Finds Finds Finds Finds Finds (action_layer q) arm_layer case_arm_layer command_layer (guarded_layer q)
 
 -- an arm of `if`
 abbrev pub found_in_guarded : Question → Guarded → Finds
-found_in_guarded q = fold-Guarded Finds Finds Finds Finds Finds (action_layer q) arm_layer case_arm_layer command_layer (guarded_layer q)
+found_in_guarded q =
+    fold-Guarded Finds Finds Finds Finds Finds (action_layer q) arm_layer case_arm_layer command_layer (guarded_layer q)
 
 -- the clashes of a use of the name at the offset with other uses, in a whole command
 abbrev pub clashes_in : Question → Command → List Clash

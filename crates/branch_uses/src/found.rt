@@ -121,7 +121,7 @@ impl Found {
         offset: u64,
         writes: bool,
     ) -> Result<(), AllocError>
-        ensures { IfOk result (λ _. self.new ≡ model.noted name.now text.now offset writes self.old) }
+        ensures { IfOk result (λ _. self.new ≡ model.with_use name.now text.now offset writes self.old) }
     {
         if *text == *name {
             self.uses.push(NameUse { offset, writes })?;

@@ -1,4 +1,5 @@
-//! Which uses in the branches of a description clash: two of a variable, and those of a channel that has too many at one time.
+//! Which uses in the branches of a description clash: two of a variable, and those of a channel that has too many at
+//! one time.
 #![tactic(auto)]
 
 mod channel;

@@ -52,8 +52,8 @@ fn add_ports(
     Ok(())
 }
 
-/// The uses of a channel that may stand side by side in the procedure with this number, from 1, and in those that it calls:
-/// on each side as many as can be at one time, up to three. The environment of a port is not among them.
+/// The uses of a channel that may stand side by side in the procedure with this number, from 1, and in those that it
+/// calls: on each side as many as can be at one time, up to three. The environment of a port is not among them.
 pub fn channel_uses(
     alloc: Global,
     description: &Description,

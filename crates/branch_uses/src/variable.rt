@@ -32,7 +32,8 @@ fn add_command(
     offset: u64,
     found: &mut Found,
 ) -> Result<(), AllocError>
-    ensures { IfOk result (λ _. found.new ≡ model.found_in (record { name = name.now; offset = offset }) command.now found.old) }
+    ensures { IfOk result (λ _.
+        found.new ≡ model.found_in (record { name = name.now; offset = offset }) command.now found.old) }
 {
     match command.action.get() {
         Action::Continue | Action::Halt | Action::Sync(_) | Action::Call(_, _) => Ok(()),
@@ -104,7 +105,8 @@ fn add_branches(
     found: &mut Found,
 ) -> Result<(), AllocError>
     ensures { IfOk result (λ _. found.new
-        ≡ model.all_beside offset (map (model.found_in (record { name = name.now; offset = offset })) children.now) found.old) }
+        ≡ model.all_beside offset (map (model.found_in (record { name = name.now; offset = offset })) children.now)
+        found.old) }
 {
     for child in children {
         add_branch(child, alloc, name, offset, found)?;
@@ -122,7 +124,8 @@ fn add_branch(
     found: &mut Found,
 ) -> Result<(), AllocError>
     ensures { IfOk result (λ _. found.new
-        ≡ model.beside offset (model.found_in (record { name = name.now; offset = offset }) child.now model.nothing) found.old) }
+        ≡ model.beside offset (model.found_in (record { name = name.now; offset = offset }) child.now model.nothing)
+        found.old) }
 {
     let mut branch = Found::new(alloc);
     add_command(child, alloc, name, offset, &mut branch)?;
@@ -139,7 +142,8 @@ fn add_guarded(
     found: &mut Found,
 ) -> Result<(), AllocError>
     ensures { IfOk result (λ _. found.new
-        ≡ model.in_turn (map (model.found_in_guarded (record { name = name.now; offset = offset })) arms.now) found.old) }
+        ≡ model.in_turn (map (model.found_in_guarded (record { name = name.now; offset = offset })) arms.now)
+        found.old) }
 {
     for arm in arms {
         add_reads(&arm.guard, name, found)?;
@@ -158,7 +162,8 @@ fn add_case_arms(
     found: &mut Found,
 ) -> Result<(), AllocError>
     ensures { IfOk result (λ _. found.new
-        ≡ model.in_turn (map (model.found_in_case_arm (record { name = name.now; offset = offset })) arms.now) found.old) }
+        ≡ model.in_turn (map (model.found_in_case_arm (record { name = name.now; offset = offset })) arms.now)
+        found.old) }
 {
     for arm in arms {
         add_command(&arm.body, alloc, name, offset, found)?;
@@ -194,7 +199,8 @@ fn add_last(
     found: &mut Found,
 ) -> Result<(), AllocError>
     ensures { IfOk result (λ _. found.new
-        ≡ model.then_last (option_map (model.found_in (record { name = name.now; offset = offset })) last.now) found.old) }
+        ≡ model.then_last (option_map (model.found_in (record { name = name.now; offset = offset })) last.now)
+        found.old) }
 {
     match last {
         Some(body) => add_command(body, alloc, name, offset, found),

@@ -5,10 +5,10 @@ use Rattle.last_events.specs.LastEvents as last
 use Rattle.last_events.specs.declared.uses.UseTable.{UseTable}
 use Rattle.runs.specs.Dependence.{OnOneVariable, Earlier}
 use Rattle.runs.specs.declared.event.Event.{Event}
-use Rattle.runs.proofs.Lists.{in-left, in-right, in-parts}
-use Rattle.runs.proofs.Elements.{in-rearranged}
+use Rattle.runs.proofs.public.Lists.{in-left, in-right, in-parts}
+use Rattle.runs.proofs.public.Elements.{in-rearranged}
 use Rattle.calculus.specs.declared.uses.Uses.{Uses}
-use Rattle.calculus.specs.walking.Comparing.{ActsOnce, Alike, AllBefore, UsesPut, NoUses}
+use Rattle.calculus.specs.internal.Comparing.{ActsOnce, Alike, AllBefore, UsesPut, NoUses}
 use Rattle.calculus.proofs.ListPlaces.{get-within, got-in, in-got, less-or, before-at, at-before, one-place, distinct-of, rearranged-of, earlier-last, taken-before}
 
 -- e reads or writes the variable x

@@ -3,7 +3,7 @@ use Rattle.std.proofs.Common.{◌≡◌, ℕ, List, [], ◌∷◌, ◌++◌, map
 use Rattle.value.specs.Word.{Word}
 use Rattle.system.specs.Residual.{Residual, done, inside, beside, arm, within, along, put_residual, put_arms}
 use Rattle.system.specs.Translation.{arms_of}
-use Rattle.runs.specs.walking.After.{is_done}
+use Rattle.runs.specs.internal.After.{is_done}
 
 -- a value is put into each arm
 pub put_arms_of : (c : ℕ) (v : Word) (rs : List Residual) → put_arms c v (arms_of rs None) ≡ arms_of (map (put_residual c v) rs) None

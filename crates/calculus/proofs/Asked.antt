@@ -3,7 +3,7 @@ use Rattle.std.proofs.Common.{◌≡◌, ℕ, List, Option, None, refl}
 use Rattle.value.specs.Word.{Word}
 use Rattle.system.specs.Expression.{Expression, Decision}
 use Rattle.system.specs.Residual.{Residual, Arms}
-use Rattle.runs.specs.walking.After.{after_assign, after_send, after_receive, after_sync, after_held, after_loop, after_while, after_test, after_choose, after_closing, after_drain}
+use Rattle.runs.specs.internal.After.{after_assign, after_send, after_receive, after_sync, after_held, after_loop, after_while, after_test, after_choose, after_closing, after_drain}
 use Rattle.runs.specs.declared.ask.Ask.{Ask}
 use Rattle.runs.specs.declared.ask.Ask.TheVariants.{Assign, Test, Turn, Send, Hold, Receive, Open, Sync, Release, Close}
 

@@ -3,10 +3,10 @@ use Rattle.std.proofs.Common.{◌≡◌, ℕ, ◌*◌, ◌/◌, ◌%◌, ◌==�
 use Rattle.std.proofs.lemmas.Bool.Decides.{Decides-eqb, Decides-and, Decides-like}
 use Rattle.address.specs.declared.Entry.TheVariants.{Ordered, Branch}
 use Rattle.runs.specs.Moves.{Place}
-use Rattle.runs.specs.walking.EventLaws.{decided}
+use Rattle.runs.specs.internal.EventLaws.{decided}
 use Rattle.runs.specs.ByPlace.{if_here, if_act, if_child, if_branch}
-use Rattle.runs.specs.walking.After.{Answer}
-use Rattle.runs.specs.walking.Below.{below_child, below_branch, is_act, is_here}
+use Rattle.runs.specs.internal.After.{Answer}
+use Rattle.runs.specs.internal.Below.{below_child, below_branch, is_act, is_here}
 
 -- an answer at the command's own place
 pub if_here_is : (a : Place) (answer : Answer) → if_here a answer ≡ cond (is_here a) answer None

@@ -3,8 +3,8 @@ use Rattle.std.proofs.Common.{◌≡◌, ℕ, suc, ◌+◌, List, [], ◌∷◌,
 use Rattle.std.proofs.lemmas.List.{map-append, length-map}
 use Rattle.system.specs.Residual.{Residual, done, within, along}
 use Rattle.system.specs.Translation.{in_sequence, in_parallel}
-use Rattle.calculus.specs.declared.left.Left.{Left}
-use Rattle.calculus.specs.Left.{residual_of_left}
+use Rattle.calculus.specs.declared.residual_tree.ResidualTree.{ResidualTree}
+use Rattle.calculus.specs.ResidualTree.{residual_of_tree}
 
 -- children of a sequence from place n on, and then `next`
 abbrev pub sequence_onto : ℕ → List Residual → Residual → Residual
@@ -34,12 +34,12 @@ sequence_onto_last n (a ∷ rs) r next =
     ∙ ap (λ k. sequence_onto (suc n) rs (within k r next)) (let e : suc n + length rs ≡ n + suc (length rs) = omega arith in e))
 
 -- one step: the last of the children that are left is put before what is made so far
-pub sequence_goes_on : (whole : Residual) (old rest : List Left) (child left made : Left) (n : ℕ) → old ≡ rest ++ child ∷ [] → n ≡ length rest
-    → residual_of_left made ≡ within n (residual_of_left child) (residual_of_left left)
-    → sequence_onto 0 (map residual_of_left old) (residual_of_left left) ≡ whole
-    → sequence_onto 0 (map residual_of_left rest) (residual_of_left made) ≡ whole
+pub sequence_goes_on : (whole : Residual) (old rest : List ResidualTree) (child left made : ResidualTree) (n : ℕ) → old ≡ rest ++ child ∷ [] → n ≡ length rest
+    → residual_of_tree made ≡ within n (residual_of_tree child) (residual_of_tree left)
+    → sequence_onto 0 (map residual_of_tree old) (residual_of_tree left) ≡ whole
+    → sequence_onto 0 (map residual_of_tree rest) (residual_of_tree made) ≡ whole
 sequence_goes_on whole old rest child left made n h k g w =
-    let f : Left → Residual = residual_of_left in
+    let f : ResidualTree → Residual = residual_of_tree in
     ap (sequence_onto 0 (map f rest)) (g ∙ ap (λ m. within m (f child) (f left)) (k ∙ sym (length-map rest f) ∙ sym (zero-add (length (map f rest)))))
     ∙ sym (sequence_onto_last 0 (map f rest) (f child) (f left))
     ∙ ap (λ xs. sequence_onto 0 xs (f left)) (sym (map-append f rest (child ∷ [])))
@@ -64,12 +64,12 @@ parallel_onto_last n (a ∷ rs) r rest_of =
     ∙ ap (λ k. parallel_onto (suc n) rs (along k r rest_of)) (let e : suc n + length rs ≡ n + suc (length rs) = omega arith in e))
 
 -- one step: the last of the children that are left is put before what is made so far
-pub parallel_goes_on : (whole : Residual) (old rest : List Left) (child left made : Left) (n : ℕ) → old ≡ rest ++ child ∷ [] → n ≡ length rest
-    → residual_of_left made ≡ along n (residual_of_left child) (residual_of_left left)
-    → parallel_onto 0 (map residual_of_left old) (residual_of_left left) ≡ whole
-    → parallel_onto 0 (map residual_of_left rest) (residual_of_left made) ≡ whole
+pub parallel_goes_on : (whole : Residual) (old rest : List ResidualTree) (child left made : ResidualTree) (n : ℕ) → old ≡ rest ++ child ∷ [] → n ≡ length rest
+    → residual_of_tree made ≡ along n (residual_of_tree child) (residual_of_tree left)
+    → parallel_onto 0 (map residual_of_tree old) (residual_of_tree left) ≡ whole
+    → parallel_onto 0 (map residual_of_tree rest) (residual_of_tree made) ≡ whole
 parallel_goes_on whole old rest child left made n h k g w =
-    let f : Left → Residual = residual_of_left in
+    let f : ResidualTree → Residual = residual_of_tree in
     ap (parallel_onto 0 (map f rest)) (g ∙ ap (λ m. along m (f child) (f left)) (k ∙ sym (length-map rest f) ∙ sym (zero-add (length (map f rest)))))
     ∙ sym (parallel_onto_last 0 (map f rest) (f child) (f left))
     ∙ ap (λ xs. parallel_onto 0 xs (f left)) (sym (map-append f rest (child ∷ [])))

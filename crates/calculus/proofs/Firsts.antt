@@ -3,9 +3,9 @@ use Rattle.std.proofs.Common.{◌≡◌, List, [], ◌∷◌, Bool, true, false,
 use Rattle.system.specs.Expression.{Store}
 use Rattle.runs.specs.Moves.{Place, Move, sends, syncs, releases}
 use Rattle.runs.specs.Events.{Located}
-use Rattle.runs.specs.walking.Made.{made_together}
-use Rattle.calculus.specs.walking.Meets.{is_first}
-use Rattle.runs.specs.walking.AllowedEvents.{meets, those, events_with}
+use Rattle.runs.specs.internal.Made.{made_together}
+use Rattle.calculus.specs.internal.Meets.{is_first}
+use Rattle.runs.specs.internal.AllowedEvents.{meets, those, events_with}
 use Rattle.runs.specs.declared.event.Event.{Event}
 
 none_together : (s : Store) (a : Place) (m : Move) (b : Place) (n : Move) → is_first m ≡ false → made_together s a m b n ≡ None

@@ -7,14 +7,14 @@ use Rattle.std.specs.BTreeMap.{UpdatesBy}
 use Rattle.address.specs.declared.Entry.{Entry}
 use Rattle.address.specs.contracts.EntryOrd.TheImpl.{cmp-value}
 use Rattle.address.specs.Order.{order_of}
-use Rattle.address.proofs.Entries.{entries_cmp-is}
-use Rattle.address.proofs.Total.{order-ties, order-itself}
+use Rattle.address.proofs.public.Entries.{entries_cmp-is}
+use Rattle.address.proofs.public.Total.{order-ties, order-itself}
 use Rattle.syntax.specs.Lists.{In}
 use Rattle.runs.specs.Events.{acting}
 use Rattle.runs.specs.declared.event.Event.{Event}
-use Rattle.runs.proofs.Lists.{in-parts}
+use Rattle.runs.proofs.public.Lists.{in-parts}
 use Rattle.calculus.specs.declared.index.Index.{Index}
-use Rattle.calculus.specs.walking.Comparing.{place_at, PutAt, Indexes}
+use Rattle.calculus.specs.internal.Comparing.{place_at, PutAt, Indexes}
 use Rattle.calculus.proofs.ListPlaces.{get-left, get-last}
 
 -- ---- keys

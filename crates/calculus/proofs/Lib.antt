@@ -1,18 +1,18 @@
-pub mod Alikeness
-pub mod Arms
-pub mod Asked
-pub mod Below
-pub mod Children
-pub mod Firsts
-pub mod IndexLaws
-pub mod Lefts
-pub mod ListPlaces
-pub mod MeasureExamples
-pub mod Meets
-pub mod OneRunLaws
-pub mod Passing
-pub mod Ports
-pub mod Replayed
-pub mod RuleExamples
-pub mod TreeAnswers
-pub mod Walking
+mod Alikeness
+mod Arms
+mod Asked
+mod Below
+mod Children
+mod Firsts
+mod IndexLaws
+mod Lefts
+mod ListPlaces
+mod MeasureExamples
+mod Meets
+mod OneRunLaws
+mod Passing
+mod Ports
+mod Replayed
+mod RuleExamples
+mod TreeAnswers
+mod Walking

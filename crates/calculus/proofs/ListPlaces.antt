@@ -4,10 +4,10 @@ use Rattle.syntax.specs.Lists.{In}
 use Rattle.runs.specs.Dependence.{Earlier, Rearranged}
 use Rattle.runs.specs.Events.{acting}
 use Rattle.runs.specs.declared.event.Event.{Event}
-use Rattle.runs.proofs.Lists.{in-left, in-right, in-parts}
-use Rattle.runs.proofs.Options.{none-some, some-injective}
-use Rattle.runs.proofs.Elements.{Distinct}
-use Rattle.calculus.specs.walking.Comparing.{ActsOnce}
+use Rattle.runs.proofs.public.Lists.{in-left, in-right, in-parts}
+use Rattle.runs.proofs.public.Options.{none-some, some-injective}
+use Rattle.runs.proofs.public.Elements.{Distinct}
+use Rattle.calculus.specs.internal.Comparing.{ActsOnce}
 
 -- ---- lists of anything
 pub get-left : {X : Type 0} (h k : List X) (p : ℕ) (x : X) → slice_get h p ≡ Some x → slice_get (h ++ k) p ≡ Some x

@@ -5,9 +5,9 @@ use Rattle.system.specs.Expression.{Expression, Store, variables, ascending}
 use Rattle.runs.specs.Moves as model
 use Rattle.runs.specs.Moves.{Place}
 use Rattle.runs.specs.Events.{sent}
-use Rattle.runs.specs.walking.Made.{made_by_send, made_by_held_send, made_by_held_sync, made_by_release, made_by_sync}
-use Rattle.calculus.specs.walking.Meets.{met, opened_by_send}
-use Rattle.calculus.specs.walking.Meanings.{move_of}
+use Rattle.runs.specs.internal.Made.{made_by_send, made_by_held_send, made_by_held_sync, made_by_release, made_by_sync}
+use Rattle.calculus.specs.internal.Meets.{met, opened_by_send}
+use Rattle.calculus.specs.internal.Meanings.{move_of}
 use Rattle.calculus.specs.declared.moves.Move.{Move}
 use Rattle.calculus.specs.declared.moves.Move.TheVariants.{Receives, Syncs, Opens, Closes}
 

@@ -1,7 +1,7 @@
 -- Two lists of events as one run.
 use Rattle.std.proofs.Common.{◌≡◌, ◌↔◌, inl, inr, List, Bool, Option, Some, None, sym, subst, ◌∙◌, true≢false}
 use Rattle.std.specs.Prelude.{IsTrue, MatchOption, is_some}
-use Rattle.calculus.specs.Left.{state_of}
+use Rattle.calculus.specs.ResidualTree.{state_of}
 use Rattle.calculus.specs.declared.plain.Plain.{Plain}
 use Rattle.system.specs.declared.system.System.{System}
 use Rattle.sharing_check.specs.Rule.{is_shared, SharesWell}
@@ -9,11 +9,11 @@ use Rattle.runs.specs.Dependence.{OnOneVariable, Earlier, Rearranged, Respecting
 use Rattle.runs.specs.Related.{OnOneShared}
 use Rattle.runs.specs.Steps.{State, Run, opening}
 use Rattle.runs.specs.declared.event.Event.{Event}
-use Rattle.runs.proofs.Options.{none-some, some-injective}
-use Rattle.runs.proofs.Elements.{rearranged-turned, rearranged-distinct, one-order, either-order}
-use Rattle.runs.proofs.FromOpening.{respecting_orders, one_state, acting_once, same_events, runs_depend_alike}
+use Rattle.runs.proofs.public.Options.{none-some, some-injective}
+use Rattle.runs.proofs.public.Elements.{rearranged-turned, rearranged-distinct, one-order, either-order}
+use Rattle.runs.proofs.public.FromOpening.{respecting_orders, one_state, acting_once, same_events, runs_depend_alike}
 use Rattle.calculus.specs.OneRun.{OneRun, OneRunRespects, OneRunEndsOnce, OneRunDependsAlike}
-use Rattle.calculus.specs.walking.Comparing.{ActsOnce, Alike}
+use Rattle.calculus.specs.internal.Comparing.{ActsOnce, Alike}
 use Rattle.calculus.proofs.ListPlaces.{distinct-of}
 
 pub acts-once : (system : System) (h : List Event) (T : State) → Run (opening system) h T → ActsOnce h

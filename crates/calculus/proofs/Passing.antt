@@ -3,19 +3,19 @@ use Rattle.std.proofs.Common.{◌≡◌, ◌≤◌, ℕ, List, [], ◌∷◌, �
 use Rattle.value.specs.Word.{Word}
 use Rattle.system.specs.Residual.{Residual, inside, beside, along, put_residual}
 use Rattle.runs.specs.Moves.{Place}
-use Rattle.runs.specs.walking.After.{Answer, around, after}
+use Rattle.runs.specs.internal.After.{Answer, around, after}
 use Rattle.runs.specs.declared.ask.Ask.{Ask}
-use Rattle.runs.specs.walking.Below.{below_branch}
-use Rattle.calculus.specs.Left.{left_layer, residual_of_left}
-use Rattle.calculus.specs.declared.left.Left.{Left}
-use Rattle.calculus.specs.declared.left.Left.TheVariants.{Inside, Beside, rolls-Inside, rolls-Beside}
-use Rattle.calculus.specs.declared.left.Left.TheViews.{out-Left, roll-Left, roll-out-Left, sized-Inside, sized-Beside}
-use Rattle.calculus.specs.declared.left.Left.TheOpen.{Left-F}
-use Rattle.calculus.specs.declared.left.Left.TheFolds.{fold-roll-Left}
-use Rattle.calculus.specs.declared.left.Passed.{Passed}
-use Rattle.calculus.specs.declared.left.Passed.TheVariants.{InOrder, InBranch}
-use Rattle.calculus.specs.walking.Passed.{before, behind, goes_on, along_all}
-use Rattle.calculus.proofs.left.Left.TheLaws.{the_size}
+use Rattle.runs.specs.internal.Below.{below_branch}
+use Rattle.calculus.specs.ResidualTree.{residual_layer, residual_of_tree}
+use Rattle.calculus.specs.declared.residual_tree.ResidualTree.{ResidualTree}
+use Rattle.calculus.specs.declared.residual_tree.ResidualTree.TheVariants.{Inside, Beside, rolls-Inside, rolls-Beside}
+use Rattle.calculus.specs.declared.residual_tree.ResidualTree.TheViews.{out-ResidualTree, roll-ResidualTree, roll-out-ResidualTree, sized-Inside, sized-Beside}
+use Rattle.calculus.specs.declared.residual_tree.ResidualTree.TheOpen.{ResidualTree-F}
+use Rattle.calculus.specs.declared.residual_tree.ResidualTree.TheFolds.{fold-roll-ResidualTree}
+use Rattle.calculus.specs.declared.residual_tree.Passed.{Passed}
+use Rattle.calculus.specs.declared.residual_tree.Passed.TheVariants.{InOrder, InBranch}
+use Rattle.calculus.specs.internal.Passed.{before, behind, goes_on, along_all}
+use Rattle.calculus.proofs.residual_tree.ResidualTree.TheLaws.{the_size}
 use Rattle.calculus.proofs.Below.{if_branch_none}
 use Rattle.calculus.proofs.TreeAnswers.{left_inside, left_beside}
 
@@ -25,11 +25,11 @@ behind_last [] p r = refl
 behind_last (q ∷ ps) p r = ap (before q) (behind_last ps p r)
 
 -- one step along a sequence: the child is passed with the value put
-pub passes_inside : (c : ℕ) (v : Word) (whole : Residual) (old new : List Passed) (left child next got made other : Left) (n : ℕ)
-    → left ≡ Inside n child next → got ≡ next → other ≡ child → residual_of_left made ≡ put_residual c v (residual_of_left other) → new ≡ old ++ InOrder n made ∷ []
-    → behind old (put_residual c v (residual_of_left left)) ≡ whole → behind new (put_residual c v (residual_of_left got)) ≡ whole
+pub passes_inside : (c : ℕ) (v : Word) (whole : Residual) (old new : List Passed) (left child next got made other : ResidualTree) (n : ℕ)
+    → left ≡ Inside n child next → got ≡ next → other ≡ child → residual_of_tree made ≡ put_residual c v (residual_of_tree other) → new ≡ old ++ InOrder n made ∷ []
+    → behind old (put_residual c v (residual_of_tree left)) ≡ whole → behind new (put_residual c v (residual_of_tree got)) ≡ whole
 passes_inside c v whole old new left child next got made other n es eg eo em en w =
-    let f : Left → Residual = residual_of_left in
+    let f : ResidualTree → Residual = residual_of_tree in
     let put : Residual → Residual = put_residual c v in
     ap (λ z. behind new (put (f z))) eg
     ∙ ap (λ ps. behind ps (put (f next))) en
@@ -40,11 +40,11 @@ passes_inside c v whole old new left child next got made other n es eg eo em en 
     ∙ w
 
 -- one step along branches
-pub passes_beside : (c : ℕ) (v : Word) (whole : Residual) (old new : List Passed) (left child rest got made other : Left) (n : ℕ)
-    → left ≡ Beside n child rest → got ≡ rest → other ≡ child → residual_of_left made ≡ put_residual c v (residual_of_left other) → new ≡ old ++ InBranch n made ∷ []
-    → behind old (put_residual c v (residual_of_left left)) ≡ whole → behind new (put_residual c v (residual_of_left got)) ≡ whole
+pub passes_beside : (c : ℕ) (v : Word) (whole : Residual) (old new : List Passed) (left child rest got made other : ResidualTree) (n : ℕ)
+    → left ≡ Beside n child rest → got ≡ rest → other ≡ child → residual_of_tree made ≡ put_residual c v (residual_of_tree other) → new ≡ old ++ InBranch n made ∷ []
+    → behind old (put_residual c v (residual_of_tree left)) ≡ whole → behind new (put_residual c v (residual_of_tree got)) ≡ whole
 passes_beside c v whole old new left child rest got made other n es eg eo em en w =
-    let f : Left → Residual = residual_of_left in
+    let f : ResidualTree → Residual = residual_of_tree in
     let put : Residual → Residual = put_residual c v in
     ap (λ z. behind new (put (f z))) eg
     ∙ ap (λ ps. behind ps (put (f rest))) en
@@ -55,7 +55,7 @@ passes_beside c v whole old new left child rest got made other n es eg eo em en 
     ∙ w
 
 -- what comes next is no larger than the whole
-pub next_fits : (k : ℕ) (left child next got : Left) (n : ℕ) → left ≡ Inside n child next → got ≡ next → the_size left ≤ k → the_size got ≤ k
+pub next_fits : (k : ℕ) (left child next got : ResidualTree) (n : ℕ) → left ≡ Inside n child next → got ≡ next → the_size left ≤ k → the_size got ≤ k
 next_fits k left child next got n es eg h =
     let whole : the_size left ≡ the_size (Inside n child next) = ap the_size es in
     let part : the_size got ≡ the_size next = ap the_size eg in
@@ -63,7 +63,7 @@ next_fits k left child next got n es eg h =
     omega arith
 
 -- nor are the other branches
-pub rest_fits : (k : ℕ) (left child rest got : Left) (n : ℕ) → left ≡ Beside n child rest → got ≡ rest → the_size left ≤ k → the_size got ≤ k
+pub rest_fits : (k : ℕ) (left child rest got : ResidualTree) (n : ℕ) → left ≡ Beside n child rest → got ≡ rest → the_size left ≤ k → the_size got ≤ k
 rest_fits k left child rest got n es eg h =
     let whole : the_size left ≡ the_size (Beside n child rest) = ap the_size es in
     let part : the_size got ≡ the_size rest = ap the_size eg in
@@ -71,46 +71,46 @@ rest_fits k left child rest got n es eg h =
     omega arith
 
 -- a sequence goes on behind its child
-pub inside_goes_on : (left child next : Left) (n : ℕ) → left ≡ Inside n child next → goes_on (residual_of_left left) ≡ false → ⊥
+pub inside_goes_on : (left child next : ResidualTree) (n : ℕ) → left ≡ Inside n child next → goes_on (residual_of_tree left) ≡ false → ⊥
 inside_goes_on left child next n e h =
-    true≢false (sym (ap (λ z. goes_on (residual_of_left z)) e ∙ ap goes_on (left_inside n child next)) ∙ h)
+    true≢false (sym (ap (λ z. goes_on (residual_of_tree z)) e ∙ ap goes_on (left_inside n child next)) ∙ h)
 
 -- so do branches
-pub beside_goes_on : (left child rest : Left) (n : ℕ) → left ≡ Beside n child rest → goes_on (residual_of_left left) ≡ false → ⊥
+pub beside_goes_on : (left child rest : ResidualTree) (n : ℕ) → left ≡ Beside n child rest → goes_on (residual_of_tree left) ≡ false → ⊥
 beside_goes_on left child rest n e h =
-    true≢false (sym (ap (λ z. goes_on (residual_of_left z)) e ∙ ap goes_on (left_beside n child rest)) ∙ h)
+    true≢false (sym (ap (λ z. goes_on (residual_of_tree z)) e ∙ ap goes_on (left_beside n child rest)) ∙ h)
 
 -- one layer that is neither
-layer_ends : (layer : Left-F Left) (left : Left) → left ≡ roll-Left layer
-    → ((n : ℕ) (child next : Left) → left ≡ Inside n child next → ⊥) → ((n : ℕ) (child rest : Left) → left ≡ Beside n child rest → ⊥)
-    → goes_on (residual_of_left (roll-Left layer)) ≡ false
-layer_ends Left-F.Done left e p q = ap goes_on (fold-roll-Left Residual left_layer Left-F.Done)
-layer_ends Left-F.Halted left e p q = ap goes_on (fold-roll-Left Residual left_layer Left-F.Halted)
-layer_ends (Left-F.Inside n child next) left e p q = absurd (p n child next (e ∙ rolls-Inside n child next))
-layer_ends (Left-F.Beside n child rest) left e p q = absurd (q n child rest (e ∙ rolls-Beside n child rest))
-layer_ends (Left-F.Assign x w a) left e p q = ap goes_on (fold-roll-Left Residual left_layer (Left-F.Assign x w a))
-layer_ends (Left-F.Send x w a) left e p q = ap goes_on (fold-roll-Left Residual left_layer (Left-F.Send x w a))
-layer_ends (Left-F.Receive x y) left e p q = ap goes_on (fold-roll-Left Residual left_layer (Left-F.Receive x y))
-layer_ends (Left-F.Sync x) left e p q = ap goes_on (fold-roll-Left Residual left_layer (Left-F.Sync x))
-layer_ends (Left-F.Held x) left e p q = ap goes_on (fold-roll-Left Residual left_layer (Left-F.Held x))
-layer_ends (Left-F.Loop k body) left e p q = ap goes_on (fold-roll-Left Residual left_layer (Left-F.Loop k body))
-layer_ends (Left-F.While k a body) left e p q = ap goes_on (fold-roll-Left Residual left_layer (Left-F.While k a body))
-layer_ends (Left-F.Test d arms) left e p q = ap goes_on (fold-roll-Left Residual left_layer (Left-F.Test d arms))
-layer_ends (Left-F.Choose xs arms) left e p q = ap goes_on (fold-roll-Left Residual left_layer (Left-F.Choose xs arms))
-layer_ends (Left-F.Closing x) left e p q = ap goes_on (fold-roll-Left Residual left_layer (Left-F.Closing x))
-layer_ends (Left-F.Drain x k) left e p q = ap goes_on (fold-roll-Left Residual left_layer (Left-F.Drain x k))
+layer_ends : (layer : ResidualTree-F ResidualTree) (left : ResidualTree) → left ≡ roll-ResidualTree layer
+    → ((n : ℕ) (child next : ResidualTree) → left ≡ Inside n child next → ⊥) → ((n : ℕ) (child rest : ResidualTree) → left ≡ Beside n child rest → ⊥)
+    → goes_on (residual_of_tree (roll-ResidualTree layer)) ≡ false
+layer_ends ResidualTree-F.Done left e p q = ap goes_on (fold-roll-ResidualTree Residual residual_layer ResidualTree-F.Done)
+layer_ends ResidualTree-F.Halted left e p q = ap goes_on (fold-roll-ResidualTree Residual residual_layer ResidualTree-F.Halted)
+layer_ends (ResidualTree-F.Inside n child next) left e p q = absurd (p n child next (e ∙ rolls-Inside n child next))
+layer_ends (ResidualTree-F.Beside n child rest) left e p q = absurd (q n child rest (e ∙ rolls-Beside n child rest))
+layer_ends (ResidualTree-F.Assign x w a) left e p q = ap goes_on (fold-roll-ResidualTree Residual residual_layer (ResidualTree-F.Assign x w a))
+layer_ends (ResidualTree-F.Send x w a) left e p q = ap goes_on (fold-roll-ResidualTree Residual residual_layer (ResidualTree-F.Send x w a))
+layer_ends (ResidualTree-F.Receive x y) left e p q = ap goes_on (fold-roll-ResidualTree Residual residual_layer (ResidualTree-F.Receive x y))
+layer_ends (ResidualTree-F.Sync x) left e p q = ap goes_on (fold-roll-ResidualTree Residual residual_layer (ResidualTree-F.Sync x))
+layer_ends (ResidualTree-F.Held x) left e p q = ap goes_on (fold-roll-ResidualTree Residual residual_layer (ResidualTree-F.Held x))
+layer_ends (ResidualTree-F.Loop k body) left e p q = ap goes_on (fold-roll-ResidualTree Residual residual_layer (ResidualTree-F.Loop k body))
+layer_ends (ResidualTree-F.While k a body) left e p q = ap goes_on (fold-roll-ResidualTree Residual residual_layer (ResidualTree-F.While k a body))
+layer_ends (ResidualTree-F.Test d arms) left e p q = ap goes_on (fold-roll-ResidualTree Residual residual_layer (ResidualTree-F.Test d arms))
+layer_ends (ResidualTree-F.Choose xs arms) left e p q = ap goes_on (fold-roll-ResidualTree Residual residual_layer (ResidualTree-F.Choose xs arms))
+layer_ends (ResidualTree-F.Closing x) left e p q = ap goes_on (fold-roll-ResidualTree Residual residual_layer (ResidualTree-F.Closing x))
+layer_ends (ResidualTree-F.Drain x k) left e p q = ap goes_on (fold-roll-ResidualTree Residual residual_layer (ResidualTree-F.Drain x k))
 
 -- what is neither has nothing behind it
-pub ends : (left : Left) → ((n : ℕ) (child next : Left) → left ≡ Inside n child next → ⊥) → ((n : ℕ) (child rest : Left) → left ≡ Beside n child rest → ⊥)
-    → goes_on (residual_of_left left) ≡ false
+pub ends : (left : ResidualTree) → ((n : ℕ) (child next : ResidualTree) → left ≡ Inside n child next → ⊥) → ((n : ℕ) (child rest : ResidualTree) → left ≡ Beside n child rest → ⊥)
+    → goes_on (residual_of_tree left) ≡ false
 ends left p q =
-    let e : left ≡ roll-Left (out-Left left) = sym (roll-out-Left left) in
-    ap (λ z. goes_on (residual_of_left z)) e ∙ layer_ends (out-Left left) left e p q
+    let e : left ≡ roll-ResidualTree (out-ResidualTree left) = sym (roll-out-ResidualTree left) in
+    ap (λ z. goes_on (residual_of_tree z)) e ∙ layer_ends (out-ResidualTree left) left e p q
 
 -- the last branch that was passed stands right beside the rest
-pub along_last : (ps : List (ℕ × Left)) (p : ℕ × Left) (r : Residual) → along_all (ps ++ p ∷ []) r ≡ along_all ps (along p.0 (residual_of_left p.1) r)
+pub along_last : (ps : List (ℕ × ResidualTree)) (p : ℕ × ResidualTree) (r : Residual) → along_all (ps ++ p ∷ []) r ≡ along_all ps (along p.0 (residual_of_tree p.1) r)
 along_last [] p r = refl
-along_last (q ∷ ps) p r = ap (along q.0 (residual_of_left q.1)) (along_last ps p r)
+along_last (q ∷ ps) p r = ap (along q.0 (residual_of_tree q.1)) (along_last ps p r)
 
 -- an answer beside one that was passed, and then beside those before it
 around_twice : (f g : Residual → Residual) (x : Answer) → around f (around g x) ≡ around (λ r. f (g r)) x
@@ -118,11 +118,11 @@ around_twice f g None = refl
 around_twice f g (Some x) = refl
 
 -- one step along branches, past one in which the place is not
-pub passes_branch : (k : Ask) (a : Place) (whole : Answer) (old new : List (ℕ × Left)) (left child rest got made : Left) (n : ℕ)
+pub passes_branch : (k : Ask) (a : Place) (whole : Answer) (old new : List (ℕ × ResidualTree)) (left child rest got made : ResidualTree) (n : ℕ)
     → left ≡ Beside n child rest → got ≡ rest → made ≡ child → new ≡ old ++ (n, made) ∷ [] → below_branch n a ≡ None
-    → around (along_all old) (after k (residual_of_left left) a) ≡ whole → around (along_all new) (after k (residual_of_left got) a) ≡ whole
+    → around (along_all old) (after k (residual_of_tree left) a) ≡ whole → around (along_all new) (after k (residual_of_tree got) a) ≡ whole
 passes_branch k a whole old new left child rest got made n es eg em en h w =
-    let f : Left → Residual = residual_of_left in
+    let f : ResidualTree → Residual = residual_of_tree in
     let others : Answer = after k (f rest) a in
     ap (λ z. around (along_all new) (after k (f z) a)) eg
     ∙ ap (λ ps. around (along_all ps) others) (en ∙ ap (λ z. old ++ (n, z) ∷ []) em)

@@ -7,17 +7,17 @@ use Rattle.system.specs.declared.system.System.{System}
 use Rattle.sharing_check.specs.Rule.{SharesWell}
 use Rattle.calculus.specs.Ruled.{RelatedInOrder, OneForEachChoice}
 use Rattle.runs.specs.Steps.{State, Step, Allowed, Run, opening}
-use Rattle.runs.specs.walking.StepOf.{step_of, run_of}
-use Rattle.runs.specs.walking.AllowedEvents.{allowed_events}
+use Rattle.runs.specs.internal.StepOf.{step_of, run_of}
+use Rattle.runs.specs.internal.AllowedEvents.{allowed_events}
 use Rattle.runs.specs.WellFormed.{WellFormed}
 use Rattle.syntax.specs.Lists.{In}
-use Rattle.calculus.specs.Left.{state_of}
+use Rattle.calculus.specs.ResidualTree.{state_of}
 use Rattle.runs.specs.declared.event.Event.{Event}
 use Rattle.calculus.specs.declared.plain.Plain.{Plain}
-use Rattle.runs.proofs.FromOpening.{ordered, one_choice, allowed_where_formed}
-use Rattle.runs.proofs.Options.{none-some}
-use Rattle.runs.proofs.StepOf.{step-found, step-only, run-found, run-only}
-use Rattle.runs.proofs.Opening.{opening-formed}
+use Rattle.runs.proofs.public.FromOpening.{ordered, one_choice, allowed_where_formed}
+use Rattle.runs.proofs.public.Options.{none-some}
+use Rattle.runs.proofs.public.StepOf.{step-found, step-only, run-found, run-only}
+use Rattle.runs.proofs.public.Opening.{opening-formed}
 
 -- a state is answered where the events run to it, and none where they do not run
 answered : (system : System) (h : List Event) (r : Option Plain) → option_map state_of r ≡ run_of (opening system) h

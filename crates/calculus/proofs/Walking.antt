@@ -8,13 +8,13 @@ use Rattle.system.specs.Expression.{Store}
 use Rattle.system.specs.Residual.{Residual}
 use Rattle.runs.specs.Moves.{Place}
 use Rattle.runs.specs.Events.{Located, at}
-use Rattle.runs.specs.walking.AllowedEvents.{behind, offers, events_among, allowed_events}
-use Rattle.calculus.specs.Left.{residual_of_left, state_of}
-use Rattle.calculus.specs.walking.Walk.{located_of, below}
+use Rattle.runs.specs.internal.AllowedEvents.{behind, offers, events_among, allowed_events}
+use Rattle.calculus.specs.ResidualTree.{residual_of_tree, state_of}
+use Rattle.calculus.specs.internal.Walk.{located_of, below}
 use Rattle.calculus.specs.declared.plain.Plain.{Plain}
 use Rattle.calculus.specs.declared.walk.Offer.{Offer}
-use Rattle.calculus.specs.declared.left.Left.{Left}
-use Rattle.calculus.specs.declared.left.Left.TheVariants.{Inside, Beside}
+use Rattle.calculus.specs.declared.residual_tree.ResidualTree.{ResidualTree}
+use Rattle.calculus.specs.declared.residual_tree.ResidualTree.TheVariants.{Inside, Beside}
 use Rattle.calculus.proofs.TreeAnswers.{left_inside, left_beside}
 
 pub below_root : (ls : List Located) → below [] ls ≡ ls
@@ -34,11 +34,11 @@ below_entry p x [] = refl
 below_entry p x (l ∷ ls) = λ i. at (place_join p x l.place i) l.move ∷ below_entry p x ls i
 
 -- what a child in order offers
-pub inside_offers : (s : Store) (left child next given : Left) (n : ℕ) (p inner : Place) (old : List Located)
+pub inside_offers : (s : Store) (left child next given : ResidualTree) (n : ℕ) (p inner : Place) (old : List Located)
     → left ≡ Inside n child next → given ≡ child → inner ≡ p ++ Ordered n ∷ []
-    → old ++ below inner (offers s (residual_of_left given)) ≡ old ++ below p (offers s (residual_of_left left))
+    → old ++ below inner (offers s (residual_of_tree given)) ≡ old ++ below p (offers s (residual_of_tree left))
 inside_offers s left child next given n p inner old es eg ei =
-    let f : Left → Residual = residual_of_left in
+    let f : ResidualTree → Residual = residual_of_tree in
     ap (λ ls. old ++ ls)
     (ap (λ z. below inner (offers s (f z))) eg
     ∙ ap (λ q. below q (offers s (f child))) ei
@@ -47,12 +47,12 @@ inside_offers s left child next given n p inner old es eg ei =
     ∙ ap (λ z. below p (offers s (f z))) (sym es))
 
 -- what a child in a branch and the other branches offer
-pub beside_offers : (s : Store) (left child rest given other : Left) (n : ℕ) (p inner : Place) (old between : List Located)
+pub beside_offers : (s : Store) (left child rest given other : ResidualTree) (n : ℕ) (p inner : Place) (old between : List Located)
     → left ≡ Beside n child rest → given ≡ child → other ≡ rest → inner ≡ p ++ Branch n ∷ []
-    → between ≡ old ++ below inner (offers s (residual_of_left given))
-    → between ++ below p (offers s (residual_of_left other)) ≡ old ++ below p (offers s (residual_of_left left))
+    → between ≡ old ++ below inner (offers s (residual_of_tree given))
+    → between ++ below p (offers s (residual_of_tree other)) ≡ old ++ below p (offers s (residual_of_tree left))
 beside_offers s left child rest given other n p inner old between es eg eh ei eb =
-    let f : Left → Residual = residual_of_left in
+    let f : ResidualTree → Residual = residual_of_tree in
     let a : List Located = below p (behind (Branch n) (offers s (f child))) in
     let first : below inner (offers s (f given)) ≡ a =
     ap (λ z. below inner (offers s (f z))) eg
@@ -67,17 +67,17 @@ beside_offers s left child rest given other n p inner old between es eg eh ei eb
     ∙ ap (λ z. below p (offers s (f z))) (sym es))
 
 -- what is found below the root are the offers of the whole
-pub found_all : (p : Plain) (values : Store) (given : Left) (root : Place) (none found slice : List Offer)
+pub found_all : (p : Plain) (values : Store) (given : ResidualTree) (root : Place) (none found slice : List Offer)
     → values ≡ p.values.items → given ≡ p.left → root ≡ [] → none ≡ []
-    → map located_of found ≡ map located_of none ++ below root (offers values (residual_of_left given)) → slice ≡ found
+    → map located_of found ≡ map located_of none ++ below root (offers values (residual_of_tree given)) → slice ≡ found
     → events_among values (map located_of slice) ≡ allowed_events (state_of p)
 found_all p values given root none found slice ev eg er en ef es =
     let all : map located_of slice ≡ offers (state_of p).store (state_of p).residual =
     ap (map located_of) es ∙ ef
-    ∙ ap (λ o. map located_of o ++ below root (offers values (residual_of_left given))) en
-    ∙ ap (λ q. below q (offers values (residual_of_left given))) er
-    ∙ below_root (offers values (residual_of_left given))
-    ∙ (λ i. offers (ev i) (residual_of_left (eg i))) in
+    ∙ ap (λ o. map located_of o ++ below root (offers values (residual_of_tree given))) en
+    ∙ ap (λ q. below q (offers values (residual_of_tree given))) er
+    ∙ below_root (offers values (residual_of_tree given))
+    ∙ (λ i. offers (ev i) (residual_of_tree (eg i))) in
     λ i. events_among (ev i) (all i)
 
 -- a result that is one list is an equal one

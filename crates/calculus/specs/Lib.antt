@@ -1,4 +1,4 @@
-pub mod Left
+pub mod ResidualTree
 pub mod OneRun
 pub mod Ruled
-pub mod walking
+pub mod internal

@@ -1,7 +1,7 @@
 // Whether two lists have the same events, and those on one variable in one order.
 ghost use Rattle.std.specs.Prelude.{◌≡◌, ◌↔◌, Some, IsTrue, IfOk, MatchOption, slice_get};
 ghost use Rattle.syntax.specs.Lists.{In};
-ghost use Rattle.calculus.specs.walking.Comparing.{ActsOnce, Indexes, Alike};
+ghost use Rattle.calculus.specs.internal.Comparing.{ActsOnce, Indexes, Alike};
 
 use crate::index::Index;
 use crate::uses::Uses;

@@ -6,13 +6,13 @@ ghost use Rattle.runs.specs.Events.{at};
 ghost use Rattle.runs.specs.Steps.{Allowed};
 ghost use Rattle.runs.specs.WellFormed.{WellFormed};
 ghost use Rattle.runs.specs.declared.event.Event.{Event};
-ghost use Rattle.runs.specs.walking.Made as made;
-ghost use Rattle.runs.specs.walking.AllowedEvents as model;
-ghost use Rattle.calculus.specs.Left.{state_of};
-ghost use Rattle.calculus.specs.walking.Walk.{located_of};
+ghost use Rattle.runs.specs.internal.Made as made;
+ghost use Rattle.runs.specs.internal.AllowedEvents as model;
+ghost use Rattle.calculus.specs.ResidualTree.{state_of};
+ghost use Rattle.calculus.specs.internal.Walk.{located_of};
 
 use crate::Plain;
-use crate::making::{is_first, made_alone, sent};
+use crate::make_event::{is_first, made_alone, sent};
 use crate::moves::Move;
 use crate::step::made_apart;
 use crate::walk::{Offer, add_offers};

@@ -4,15 +4,15 @@ ghost use Rattle.system.specs.Expression as expression;
 ghost use Rattle.system.specs.Residual as residual;
 ghost use Rattle.system.specs.Translation.{expression_of, arms_of, decision_of};
 ghost use Rattle.runs.specs.ByPlace.{if_here, if_act};
-ghost use Rattle.runs.specs.walking.After as model;
+ghost use Rattle.runs.specs.internal.After as model;
 ghost use Rattle.runs.specs.Moves as moves;
-ghost use Rattle.calculus.specs.Left.{residual_of_left};
-ghost use Rattle.calculus.specs.walking.Meanings.{move_of, answer_of};
-ghost use Rattle.calculus.specs.walking.Passed.{along_all};
+ghost use Rattle.calculus.specs.ResidualTree.{residual_of_tree};
+ghost use Rattle.calculus.specs.internal.Meanings.{move_of, answer_of};
+ghost use Rattle.calculus.specs.internal.Passed.{along_all};
 
-use crate::left::{Left, along, along_all, with_received, within};
 use crate::moves::{Move, Moved};
 use crate::place::{is_act, is_here, is_turn};
+use crate::residual_tree::{ResidualTree, along, along_all, with_received, within};
 use address::Entry;
 use runs::Ask;
 use std::alloc::{AllocError, Global};
@@ -21,8 +21,8 @@ use system::{Decision, Expression};
 use value::{Value, Width};
 
 /// The answer of a move and what is left after it.
-fn moved(alloc: Global, by: Move, left: Shared<Left>) -> Result<Option<Moved>, AllocError>
-    ensures { IfOk result (λ r. answer_of r ≡ Some (move_of by, residual_of_left left)) }
+fn moved(alloc: Global, by: Move, left: Shared<ResidualTree>) -> Result<Option<Moved>, AllocError>
+    ensures { IfOk result (λ r. answer_of r ≡ Some (move_of by, residual_of_tree left)) }
 {
     let by = Boxed::new(alloc, by)?;
     Ok(Some(Moved { by, left }))
@@ -33,10 +33,10 @@ pub(crate) fn inside(
     alloc: Global,
     number: u64,
     answer: Option<Moved>,
-    next: &Shared<Left>,
+    next: &Shared<ResidualTree>,
 ) -> Result<Option<Moved>, AllocError>
     ensures { IfOk result (λ r.
-        answer_of r ≡ model.around (λ t. residual.within number t (residual_of_left next.now)) (answer_of answer)) }
+        answer_of r ≡ model.around (λ t. residual.within number t (residual_of_tree next.now)) (answer_of answer)) }
 {
     match answer {
         Some(moved) => {
@@ -53,10 +53,10 @@ pub(crate) fn in_branch(
     alloc: Global,
     number: u64,
     answer: Option<Moved>,
-    rest: &Shared<Left>,
+    rest: &Shared<ResidualTree>,
 ) -> Result<Option<Moved>, AllocError>
     ensures { IfOk result (λ r.
-        answer_of r ≡ model.around (λ t. residual.along number t (residual_of_left rest.now)) (answer_of answer)) }
+        answer_of r ≡ model.around (λ t. residual.along number t (residual_of_tree rest.now)) (answer_of answer)) }
 {
     match answer {
         Some(moved) => {
@@ -71,7 +71,7 @@ pub(crate) fn in_branch(
 /// An answer in the other branches, with those that were passed.
 pub(crate) fn beside(
     alloc: Global,
-    passed: Items<(u64, Shared<Left>)>,
+    passed: Items<(u64, Shared<ResidualTree>)>,
     answer: Option<Moved>,
 ) -> Result<Option<Moved>, AllocError>
     ensures { IfOk result (λ r. answer_of r ≡ model.around (along_all passed) (answer_of answer)) }
@@ -104,7 +104,7 @@ pub(crate) fn assign(
     }
     match ask {
         Ask::Assign => {
-            let done = Left::done(alloc)?;
+            let done = ResidualTree::done(alloc)?;
             assigned(alloc, variable, width, value, done)
         }
         _ => Ok(None),
@@ -117,10 +117,10 @@ fn assigned(
     variable: u32,
     width: Width,
     value: &Expression,
-    left: Shared<Left>,
+    left: Shared<ResidualTree>,
 ) -> Result<Option<Moved>, AllocError>
     ensures { IfOk result (λ r.
-        answer_of r ≡ Some (moves.assigns variable width (expression_of value.now), residual_of_left left)) }
+        answer_of r ≡ Some (moves.assigns variable width (expression_of value.now), residual_of_tree left)) }
 {
     let value = value.copy(alloc)?;
     moved(alloc, Move::Assigns(variable, width, value), left)
@@ -144,11 +144,11 @@ pub(crate) fn send(
     }
     match ask {
         Ask::Send => {
-            let done = Left::done(alloc)?;
+            let done = ResidualTree::done(alloc)?;
             sent(alloc, channel, width, value, false, done)
         }
         Ask::Hold => {
-            let held = Shared::new(alloc, Left::Held(channel))?;
+            let held = Shared::new(alloc, ResidualTree::Held(channel))?;
             sent(alloc, channel, width, value, true, held)
         }
         _ => Ok(None),
@@ -162,10 +162,10 @@ fn sent(
     width: Width,
     value: &Expression,
     held: bool,
-    left: Shared<Left>,
+    left: Shared<ResidualTree>,
 ) -> Result<Option<Moved>, AllocError>
     ensures { IfOk result (λ r.
-        answer_of r ≡ Some (moves.sends channel width (expression_of value.now) held, residual_of_left left)) }
+        answer_of r ≡ Some (moves.sends channel width (expression_of value.now) held, residual_of_tree left)) }
 {
     let value = value.copy(alloc)?;
     moved(alloc, Move::Sends(channel, width, value, held), left)
@@ -187,7 +187,7 @@ pub(crate) fn receive(
     }
     match ask {
         Ask::Receive => {
-            let done = Left::done(alloc)?;
+            let done = ResidualTree::done(alloc)?;
             moved(alloc, Move::Receives(channel, Some(variable)), done)
         }
         _ => Ok(None),
@@ -209,11 +209,11 @@ pub(crate) fn sync(
     }
     match ask {
         Ask::Sync => {
-            let done = Left::done(alloc)?;
+            let done = ResidualTree::done(alloc)?;
             moved(alloc, Move::Syncs(channel, false), done)
         }
         Ask::Hold => {
-            let held = Shared::new(alloc, Left::Held(channel))?;
+            let held = Shared::new(alloc, ResidualTree::Held(channel))?;
             moved(alloc, Move::Syncs(channel, true), held)
         }
         _ => Ok(None),
@@ -235,7 +235,7 @@ pub(crate) fn held(
     }
     match ask {
         Ask::Release => {
-            let done = Left::done(alloc)?;
+            let done = ResidualTree::done(alloc)?;
             moved(alloc, Move::Releases(channel), done)
         }
         _ => Ok(None),
@@ -249,10 +249,10 @@ pub(crate) fn repeat(
     ask: Ask,
     place: &[Entry],
     turn: u64,
-    body: &Shared<Left>,
+    body: &Shared<ResidualTree>,
 ) -> Result<Option<Moved>, AllocError>
     ensures { IfOk result (λ r.
-        answer_of r ≡ if_act (2 * turn) place.now (model.after_loop turn (residual_of_left body.now) ask)) }
+        answer_of r ≡ if_act (2 * turn) place.now (model.after_loop turn (residual_of_tree body.now) ask)) }
 {
     if !is_turn(place, turn) {
         return Ok(None);
@@ -267,15 +267,19 @@ pub(crate) fn repeat(
 }
 
 /// A loop in a turn.
-fn in_turn(alloc: Global, turn: u64, body: &Shared<Left>) -> Result<Shared<Left>, AllocError>
+fn in_turn(
+    alloc: Global,
+    turn: u64,
+    body: &Shared<ResidualTree>,
+) -> Result<Shared<ResidualTree>, AllocError>
     requires { turn < 2 ^ 32 }
     ensures { IfOk result (λ made.
-        residual_of_left made
-        ≡ residual.within (2 * turn + 1) (residual_of_left body.now)
-        (residual.loop (turn + 1) (residual_of_left body.now))) }
+        residual_of_tree made
+        ≡ residual.within (2 * turn + 1) (residual_of_tree body.now)
+        (residual.loop (turn + 1) (residual_of_tree body.now))) }
 {
     let again = body.clone()?;
-    let next = Shared::new(alloc, Left::Loop(turn + 1, again))?;
+    let next = Shared::new(alloc, ResidualTree::Loop(turn + 1, again))?;
     within(alloc, 2 * turn + 1, body.clone()?, next)
 }
 
@@ -287,19 +291,19 @@ pub(crate) fn repeat_while(
     place: &[Entry],
     turn: u64,
     guard: &Expression,
-    body: &Shared<Left>,
+    body: &Shared<ResidualTree>,
 ) -> Result<Option<Moved>, AllocError>
     ensures { IfOk result (λ r.
         answer_of r
         ≡ if_act (2 * turn) place.now
-        (model.after_while turn (expression_of guard.now) (residual_of_left body.now) ask)) }
+        (model.after_while turn (expression_of guard.now) (residual_of_tree body.now) ask)) }
 {
     if !is_turn(place, turn) {
         return Ok(None);
     }
     match ask {
         Ask::Test(None) => {
-            let done = Left::done(alloc)?;
+            let done = ResidualTree::done(alloc)?;
             guard_tested(alloc, guard, None, done)
         }
         Ask::Test(Some(arm)) => {
@@ -318,13 +322,13 @@ fn in_test(
     alloc: Global,
     turn: u64,
     guard: &Expression,
-    body: &Shared<Left>,
-) -> Result<Shared<Left>, AllocError>
+    body: &Shared<ResidualTree>,
+) -> Result<Shared<ResidualTree>, AllocError>
     requires { turn < 2 ^ 32 }
     ensures { IfOk result (λ made.
-        residual_of_left made
-        ≡ residual.within (2 * turn + 1) (residual_of_left body.now)
-        (residual.while (turn + 1) (expression_of guard.now) (residual_of_left body.now))) }
+        residual_of_tree made
+        ≡ residual.within (2 * turn + 1) (residual_of_tree body.now)
+        (residual.while (turn + 1) (expression_of guard.now) (residual_of_tree body.now))) }
 {
     let next = next_test(alloc, turn, guard, body.clone()?)?;
     within(alloc, 2 * turn + 1, body.clone()?, next)
@@ -335,14 +339,14 @@ fn next_test(
     alloc: Global,
     turn: u64,
     guard: &Expression,
-    body: Shared<Left>,
-) -> Result<Shared<Left>, AllocError>
+    body: Shared<ResidualTree>,
+) -> Result<Shared<ResidualTree>, AllocError>
     requires { turn < 2 ^ 32 }
     ensures { IfOk result (λ made.
-        residual_of_left made ≡ residual.while (turn + 1) (expression_of guard.now) (residual_of_left body)) }
+        residual_of_tree made ≡ residual.while (turn + 1) (expression_of guard.now) (residual_of_tree body)) }
 {
     let guard = guard.copy(alloc)?;
-    Shared::new(alloc, Left::While(turn + 1, guard, body))
+    Shared::new(alloc, ResidualTree::While(turn + 1, guard, body))
 }
 
 /// The test of a while loop that took this arm, and what is left after it.
@@ -350,11 +354,11 @@ fn guard_tested(
     alloc: Global,
     guard: &Expression,
     arm: Option<u32>,
-    left: Shared<Left>,
+    left: Shared<ResidualTree>,
 ) -> Result<Option<Moved>, AllocError>
     ensures { IfOk result (λ r.
         answer_of r
-        ≡ Some (moves.tests (expression.by_guards (expression_of guard.now ∷ []) false) arm, residual_of_left left)) }
+        ≡ Some (moves.tests (expression.by_guards (expression_of guard.now ∷ []) false) arm, residual_of_tree left)) }
 {
     let decision = one_guard(alloc, guard)?;
     moved(alloc, Move::Tests(decision, arm), left)
@@ -376,19 +380,19 @@ pub(crate) fn test(
     ask: Ask,
     place: &[Entry],
     decision: &Decision,
-    arms: &Items<Shared<Left>>,
+    arms: &Items<Shared<ResidualTree>>,
 ) -> Result<Option<Moved>, AllocError>
     ensures { IfOk result (λ r.
         answer_of r
         ≡ if_act 0 place.now
-        (model.after_test (decision_of decision.now) (arms_of (map residual_of_left arms.now) None) ask)) }
+        (model.after_test (decision_of decision.now) (arms_of (map residual_of_tree arms.now) None) ask)) }
 {
     if !is_act(place, 0) {
         return Ok(None);
     }
     match ask {
         Ask::Test(None) => {
-            let done = Left::done(alloc)?;
+            let done = ResidualTree::done(alloc)?;
             tested(alloc, decision, None, done)
         }
         Ask::Test(Some(arm)) => {
@@ -404,10 +408,10 @@ fn tested(
     alloc: Global,
     decision: &Decision,
     arm: Option<u32>,
-    left: Shared<Left>,
+    left: Shared<ResidualTree>,
 ) -> Result<Option<Moved>, AllocError>
     ensures { IfOk result (λ r.
-        answer_of r ≡ Some (moves.tests (decision_of decision.now) arm, residual_of_left left)) }
+        answer_of r ≡ Some (moves.tests (decision_of decision.now) arm, residual_of_tree left)) }
 {
     let decision = decision.copy(alloc)?;
     moved(alloc, Move::Tests(decision, arm), left)
@@ -416,26 +420,30 @@ fn tested(
 /// An arm that was taken, with nothing after it.
 fn in_tested_arm(
     alloc: Global,
-    arms: &Items<Shared<Left>>,
+    arms: &Items<Shared<ResidualTree>>,
     arm: u32,
-) -> Result<Shared<Left>, AllocError>
+) -> Result<Shared<ResidualTree>, AllocError>
     ensures { IfOk result (λ made.
-        residual_of_left made
-        ≡ residual.within 1 (residual.arm_at (arms_of (map residual_of_left arms.now) None) arm) residual.done) }
+        residual_of_tree made
+        ≡ residual.within 1 (residual.arm_at (arms_of (map residual_of_tree arms.now) None) arm) residual.done) }
 {
-    let done = Left::done(alloc)?;
+    let done = ResidualTree::done(alloc)?;
     let body = arm_at(alloc, arms, arm)?;
     within(alloc, 1, body, done)
 }
 
 /// The arm of this number; nothing past the last.
-fn arm_at(alloc: Global, arms: &Items<Shared<Left>>, arm: u32) -> Result<Shared<Left>, AllocError>
+fn arm_at(
+    alloc: Global,
+    arms: &Items<Shared<ResidualTree>>,
+    arm: u32,
+) -> Result<Shared<ResidualTree>, AllocError>
     ensures { IfOk result (λ made.
-        residual_of_left made ≡ residual.arm_at (arms_of (map residual_of_left arms.now) None) arm) }
+        residual_of_tree made ≡ residual.arm_at (arms_of (map residual_of_tree arms.now) None) arm) }
 {
     match arms.get(arm as usize) {
         Some(body) => body.clone(),
-        None => Left::done(alloc),
+        None => ResidualTree::done(alloc),
     }
 }
 
@@ -446,11 +454,11 @@ pub(crate) fn choose(
     ask: Ask,
     place: &[Entry],
     channels: &[u32],
-    arms: &Items<Shared<Left>>,
+    arms: &Items<Shared<ResidualTree>>,
 ) -> Result<Option<Moved>, AllocError>
     ensures { IfOk result (λ r.
         answer_of r
-        ≡ if_act 0 place.now (model.after_choose channels.now (arms_of (map residual_of_left arms.now) None) ask)) }
+        ≡ if_act 0 place.now (model.after_choose channels.now (arms_of (map residual_of_tree arms.now) None) ask)) }
 {
     if !is_act(place, 0) {
         return Ok(None);
@@ -465,13 +473,13 @@ pub(crate) fn choose(
 fn open(
     alloc: Global,
     channels: &[u32],
-    arms: &Items<Shared<Left>>,
+    arms: &Items<Shared<ResidualTree>>,
     arm: u32,
     received: Option<Value>,
 ) -> Result<Option<Moved>, AllocError>
     ensures { IfOk result (λ r.
         answer_of r
-        ≡ model.after_open (slice_get channels.now arm) (arms_of (map residual_of_left arms.now) None) arm received) }
+        ≡ model.after_open (slice_get channels.now arm) (arms_of (map residual_of_tree arms.now) None) arm received) }
 {
     match channels.get(arm as usize) {
         None => Ok(None),
@@ -483,12 +491,12 @@ fn open(
 fn open_on(
     alloc: Global,
     channel: u32,
-    arms: &Items<Shared<Left>>,
+    arms: &Items<Shared<ResidualTree>>,
     arm: u32,
     received: Option<Value>,
 ) -> Result<Option<Moved>, AllocError>
     ensures { IfOk result (λ r.
-        answer_of r ≡ model.after_open (Some channel) (arms_of (map residual_of_left arms.now) None) arm received) }
+        answer_of r ≡ model.after_open (Some channel) (arms_of (map residual_of_tree arms.now) None) arm received) }
 {
     let left = in_arm(alloc, channel, arms, arm, &received)?;
     moved(alloc, Move::Opens(channel, arm, received), left)
@@ -498,19 +506,19 @@ fn open_on(
 fn in_arm(
     alloc: Global,
     channel: u32,
-    arms: &Items<Shared<Left>>,
+    arms: &Items<Shared<ResidualTree>>,
     arm: u32,
     received: &Option<Value>,
-) -> Result<Shared<Left>, AllocError>
+) -> Result<Shared<ResidualTree>, AllocError>
     ensures { IfOk result (λ made.
-        residual_of_left made
+        residual_of_tree made
         ≡ residual.within 1
-        (residual.opened channel received.now (residual.arm_at (arms_of (map residual_of_left arms.now) None) arm))
+        (residual.opened channel received.now (residual.arm_at (arms_of (map residual_of_tree arms.now) None) arm))
         (residual.closing channel)) }
 {
     let body = arm_at(alloc, arms, arm)?;
     let body = opened(alloc, channel, received, body)?;
-    let closing = Shared::new(alloc, Left::Closing(channel))?;
+    let closing = Shared::new(alloc, ResidualTree::Closing(channel))?;
     within(alloc, 1, body, closing)
 }
 
@@ -519,10 +527,10 @@ fn opened(
     alloc: Global,
     channel: u32,
     received: &Option<Value>,
-    body: Shared<Left>,
-) -> Result<Shared<Left>, AllocError>
+    body: Shared<ResidualTree>,
+) -> Result<Shared<ResidualTree>, AllocError>
     ensures { IfOk result (λ made.
-        residual_of_left made ≡ residual.opened channel received.now (residual_of_left body)) }
+        residual_of_tree made ≡ residual.opened channel received.now (residual_of_tree body)) }
 {
     match received {
         None => Ok(body),
@@ -545,7 +553,7 @@ pub(crate) fn close(
     }
     match ask {
         Ask::Close => {
-            let done = Left::done(alloc)?;
+            let done = ResidualTree::done(alloc)?;
             moved(alloc, Move::Closes(channel), done)
         }
         _ => Ok(None),
@@ -568,7 +576,7 @@ pub(crate) fn drain(
     }
     match ask {
         Ask::Receive => {
-            let left = Shared::new(alloc, Left::Drain(channel, act + 1))?;
+            let left = Shared::new(alloc, ResidualTree::Drain(channel, act + 1))?;
             moved(alloc, Move::Receives(channel, None), left)
         }
         _ => Ok(None),

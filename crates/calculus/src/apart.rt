@@ -1,6 +1,6 @@
 // Whether two places are apart.
 ghost use Rattle.std.specs.Prelude.{◌≡◌};
-ghost use Rattle.runs.specs.walking.Below.{apart};
+ghost use Rattle.runs.specs.internal.Below.{apart};
 
 use address::Entry;
 

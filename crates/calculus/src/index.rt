@@ -1,6 +1,6 @@
 // Where the events of a list stand, found by their acting addresses.
 ghost use Rattle.std.specs.Prelude.{◌≡◌, IfOk};
-ghost use Rattle.calculus.specs.walking.Comparing.{ActsOnce, place_at, PutAt, Indexes};
+ghost use Rattle.calculus.specs.internal.Comparing.{ActsOnce, place_at, PutAt, Indexes};
 
 use address::{Address, Entry};
 use runs::Event;

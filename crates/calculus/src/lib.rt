@@ -9,13 +9,13 @@ mod answers;
 mod apart;
 mod index;
 mod laws;
-mod left;
-mod making;
+mod make_event;
 mod moves;
 mod offers;
 mod one_run;
 mod place;
 mod plain;
+mod residual_tree;
 mod same;
 mod slow;
 mod start;
@@ -25,9 +25,9 @@ mod uses;
 mod walk;
 
 pub use laws::one_run_laws;
-pub use left::{Left, along, with_received, within};
 pub use one_run::same_run;
 pub use plain::Plain;
+pub use residual_tree::{ResidualTree, along, with_received, within};
 pub use runs::{
     Ask, Choice, Command, Event, Kind, LAST_TICKET, MOST_LIVE_EVENTS, Refusal, Reply, acting_once,
     allowed_are_listed, apart_moves_meet, back_then_forth_law, causes_alone, dependence_laws,

@@ -1,4 +1,4 @@
-use crate::left::Left;
+use crate::residual_tree::ResidualTree;
 use syntax::{Boxed, Shared};
 use system::{Decision, Expression};
 use value::{Value, Width};
@@ -27,5 +27,5 @@ pub(crate) enum Move {
 #[derive(Drop)]
 pub(crate) struct Moved {
     pub(crate) by: Boxed<Move>,
-    pub(crate) left: Shared<Left>,
+    pub(crate) left: Shared<ResidualTree>,
 }

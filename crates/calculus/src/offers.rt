@@ -1,14 +1,14 @@
 // Local moves in memory: the move that is asked for at a place, and what is left after it.
 ghost use Rattle.std.specs.Prelude.{◌≡◌, IfOk, IsFalse};
-ghost use Rattle.runs.specs.walking.After as model;
-ghost use Rattle.calculus.specs.Left.{residual_of_left};
-ghost use Rattle.calculus.specs.walking.Meanings.{answer_of};
-ghost use Rattle.calculus.specs.walking.Passed.{is_passed};
+ghost use Rattle.runs.specs.internal.After as model;
+ghost use Rattle.calculus.specs.ResidualTree.{residual_of_tree};
+ghost use Rattle.calculus.specs.internal.Meanings.{answer_of};
+ghost use Rattle.calculus.specs.internal.Passed.{is_passed};
 
 use crate::answers;
-use crate::left::Left;
 use crate::moves::Moved;
 use crate::place::{below_branch, below_child};
+use crate::residual_tree::ResidualTree;
 use address::Entry;
 use runs::Ask;
 use std::alloc::{AllocError, Global};
@@ -21,16 +21,16 @@ use syntax::Items;
 pub(crate) fn after(
     alloc: Global,
     ask: Ask,
-    left: &Left,
+    left: &ResidualTree,
     place: &[Entry],
 ) -> Result<Option<Moved>, AllocError>
-    ensures { IfOk result (λ r. answer_of r ≡ model.after ask (residual_of_left left.now) place.now) }
+    ensures { IfOk result (λ r. answer_of r ≡ model.after ask (residual_of_tree left.now) place.now) }
 {
     let mut passed = Items::new(alloc);
     let mut left = left;
     'passing: loop {
         match left {
-            Left::Beside(number, child, rest) => {
+            ResidualTree::Beside(number, child, rest) => {
                 if below_branch(place, *number).is_some() {
                     break 'passing;
                 }
@@ -49,48 +49,50 @@ pub(crate) fn after(
 fn last_after(
     alloc: Global,
     ask: Ask,
-    left: &Left,
+    left: &ResidualTree,
     place: &[Entry],
 ) -> Result<Option<Moved>, AllocError>
-    requires { IsFalse (is_passed place.now (residual_of_left left.now)) }
-    ensures { IfOk result (λ r. answer_of r ≡ model.after ask (residual_of_left left.now) place.now) }
+    requires { IsFalse (is_passed place.now (residual_of_tree left.now)) }
+    ensures { IfOk result (λ r. answer_of r ≡ model.after ask (residual_of_tree left.now) place.now) }
 {
     match left {
-        Left::Done | Left::Halted => Ok(None),
-        Left::Inside(number, child, next) => match below_child(place, *number) {
+        ResidualTree::Done | ResidualTree::Halted => Ok(None),
+        ResidualTree::Inside(number, child, next) => match below_child(place, *number) {
             Some(below) => {
                 let answer = after(alloc, ask, child.get(), below)?;
                 answers::inside(alloc, *number, answer, next)
             }
             None => Ok(None),
         },
-        Left::Beside(number, child, rest) => match below_branch(place, *number) {
+        ResidualTree::Beside(number, child, rest) => match below_branch(place, *number) {
             Some(below) => {
                 let answer = after(alloc, ask, child.get(), below)?;
                 answers::in_branch(alloc, *number, answer, rest)
             }
             None => unreachable!(),
         },
-        Left::Assign(variable, width, value) => {
+        ResidualTree::Assign(variable, width, value) => {
             answers::assign(alloc, ask, place, *variable, *width, value)
         }
-        Left::Send(channel, width, value) => {
+        ResidualTree::Send(channel, width, value) => {
             answers::send(alloc, ask, place, *channel, *width, value)
         }
-        Left::Receive(channel, variable) => {
+        ResidualTree::Receive(channel, variable) => {
             answers::receive(alloc, ask, place, *channel, *variable)
         }
-        Left::Sync(channel) => answers::sync(alloc, ask, place, *channel),
-        Left::Held(channel) => answers::held(alloc, ask, place, *channel),
-        Left::Loop(turn, body) => answers::repeat(alloc, ask, place, *turn, body),
-        Left::While(turn, guard, body) => {
+        ResidualTree::Sync(channel) => answers::sync(alloc, ask, place, *channel),
+        ResidualTree::Held(channel) => answers::held(alloc, ask, place, *channel),
+        ResidualTree::Loop(turn, body) => answers::repeat(alloc, ask, place, *turn, body),
+        ResidualTree::While(turn, guard, body) => {
             answers::repeat_while(alloc, ask, place, *turn, guard, body)
         }
-        Left::Test(decision, arms) => { answers::test(alloc, ask, place, decision, arms.get()) }
-        Left::Choose(channels, arms) => {
+        ResidualTree::Test(decision, arms) => {
+            answers::test(alloc, ask, place, decision, arms.get())
+        }
+        ResidualTree::Choose(channels, arms) => {
             answers::choose(alloc, ask, place, channels.as_slice(), arms.get())
         }
-        Left::Closing(channel) => answers::close(alloc, ask, place, *channel),
-        Left::Drain(channel, act) => answers::drain(alloc, ask, place, *channel, *act),
+        ResidualTree::Closing(channel) => answers::close(alloc, ask, place, *channel),
+        ResidualTree::Drain(channel, act) => answers::drain(alloc, ask, place, *channel, *act),
     }
 }

@@ -2,7 +2,7 @@
 ghost use Rattle.std.specs.Prelude.{◌↔◌, IsTrue, IfOk, MatchOption};
 ghost use Rattle.std.specs.Option.{IfSome};
 ghost use Rattle.runs.specs.Dependence.{Causes, Respecting};
-ghost use Rattle.calculus.specs.Left.{state_of};
+ghost use Rattle.calculus.specs.ResidualTree.{state_of};
 ghost use Rattle.runs.specs.Steps.{State, Run, opening};
 ghost use Rattle.runs.specs.declared.event.Event as any;
 ghost use Rattle.calculus.specs.OneRun.{OneRun};

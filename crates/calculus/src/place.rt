@@ -1,7 +1,7 @@
 // The parts of a place.
 ghost use Rattle.std.specs.Prelude.{◌≡◌, ◌*◌, ◌^◌, ◌<◌, IsTrue};
 ghost use Rattle.std.specs.Option.{option_copied};
-ghost use Rattle.runs.specs.walking.Below.{below_child, below_branch, act_of, is_act, is_here};
+ghost use Rattle.runs.specs.internal.Below.{below_child, below_branch, act_of, is_act, is_here};
 
 use address::Entry;
 

@@ -1,21 +1,21 @@
 ghost use Rattle.std.specs.Prelude.{◌≡◌, slice_get};
-ghost use Rattle.calculus.specs.Left.{residual_of_left, state_of};
+ghost use Rattle.calculus.specs.ResidualTree.{residual_of_tree, state_of};
 
-use crate::left::Left;
+use crate::residual_tree::ResidualTree;
 use syntax::Shared;
 use value::Value;
 
 /// The state of a run as the slow replay holds it: what is still to do, and the values of the variables.
 #[derive(Drop)]
 pub struct Plain {
-    pub(crate) left: Shared<Left>,
+    pub(crate) left: Shared<ResidualTree>,
     pub(crate) values: Vec<Value>,
 }
 
 impl Plain {
     /// The state in which this is still to do, with these values of the variables.
-    pub fn new(left: Shared<Left>, values: Vec<Value>) -> Plain
-        ensures { state_of result ≡ record { residual = residual_of_left left; store = values.items } }
+    pub fn new(left: Shared<ResidualTree>, values: Vec<Value>) -> Plain
+        ensures { state_of result ≡ record { residual = residual_of_tree left; store = values.items } }
     {
         Plain { left, values }
     }

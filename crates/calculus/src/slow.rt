@@ -2,8 +2,8 @@ ghost use Rattle.std.specs.Prelude.{◌≡◌, IfOk, MatchOption};
 ghost use Rattle.std.specs.Option.{option_map, IfSome};
 ghost use Rattle.runs.specs.Steps.{State, Run, opening};
 ghost use Rattle.calculus.specs.Ruled.{RelatedInOrder, OneForEachChoice};
-ghost use Rattle.runs.specs.walking.StepOf.{run_of};
-ghost use Rattle.calculus.specs.Left.{state_of};
+ghost use Rattle.runs.specs.internal.StepOf.{run_of};
+ghost use Rattle.calculus.specs.ResidualTree.{state_of};
 ghost use Rattle.runs.specs.Live.{events};
 
 use crate::Plain;

@@ -3,12 +3,12 @@ ghost use Rattle.std.specs.Prelude.{◌≡◌, [], ◌∷◌, ◌++◌, map, IfO
 ghost use Rattle.system.specs.Expression.{constant, word};
 ghost use Rattle.system.specs.Residual as residual;
 ghost use Rattle.system.specs.Translation as translation;
-ghost use Rattle.calculus.specs.Left.{residual_of_left, state_of};
+ghost use Rattle.calculus.specs.ResidualTree.{residual_of_tree, state_of};
 ghost use Rattle.runs.specs.Steps.{opening};
 
 use crate::Plain;
-use crate::left::{Left, within};
-use crate::translate::{in_parallel, in_sequence, left_of};
+use crate::residual_tree::{ResidualTree, within};
+use crate::translate::{in_parallel, in_sequence, tree_of};
 use std::alloc::{AllocError, Global};
 use syntax::{Items, Shared};
 use system::{Branch, Expression, System, Variable};
@@ -25,13 +25,13 @@ pub(crate) fn opening(alloc: Global, system: &System) -> Result<Plain, AllocErro
 }
 
 /// What the root's body is to do, and then what the environment is to do on each port.
-fn branches_of(alloc: Global, system: &System) -> Result<Items<Shared<Left>>, AllocError>
+fn branches_of(alloc: Global, system: &System) -> Result<Items<Shared<ResidualTree>>, AllocError>
     ensures { IfOk result (λ made.
-        map residual_of_left made
+        map residual_of_tree made
         ≡ translation.residual_of system.now.main ∷ map translation.branch_of system.now.environment) }
 {
     let mut lefts = Items::with_capacity(alloc, 1)?;
-    lefts.push(left_of(alloc, &system.main)?)?;
+    lefts.push(tree_of(alloc, &system.main)?)?;
     for branch in system.environment.as_slice() {
         add_branch(alloc, branch, &mut lefts)?;
     }
@@ -42,21 +42,21 @@ fn branches_of(alloc: Global, system: &System) -> Result<Items<Shared<Left>>, Al
 fn add_branch(
     alloc: Global,
     branch: &Branch,
-    lefts: &mut Items<Shared<Left>>,
+    lefts: &mut Items<Shared<ResidualTree>>,
 ) -> Result<(), AllocError>
     ensures { IfOk result (λ _.
-        map residual_of_left lefts.new ≡ map residual_of_left lefts.old ++ translation.branch_of branch.now ∷ []) }
+        map residual_of_tree lefts.new ≡ map residual_of_tree lefts.old ++ translation.branch_of branch.now ∷ []) }
 {
-    lefts.push(branch_left(alloc, branch)?)
+    lefts.push(branch_tree(alloc, branch)?)
 }
 
 /// What the environment is to do on one port.
-fn branch_left(alloc: Global, branch: &Branch) -> Result<Shared<Left>, AllocError>
-    ensures { IfOk result (λ made. residual_of_left made ≡ translation.branch_of branch.now) }
+fn branch_tree(alloc: Global, branch: &Branch) -> Result<Shared<ResidualTree>, AllocError>
+    ensures { IfOk result (λ made. residual_of_tree made ≡ translation.branch_of branch.now) }
 {
     match branch {
         Branch::Feed(channel, width, values) => feed(alloc, *channel, *width, values.as_slice()),
-        Branch::Drain(channel) => Shared::new(alloc, Left::Drain(*channel, 0)),
+        Branch::Drain(channel) => Shared::new(alloc, ResidualTree::Drain(*channel, 0)),
         Branch::Syncs(channel, count) => syncs(alloc, *channel, *count),
     }
 }
@@ -68,8 +68,8 @@ fn feed(
     channel: u32,
     width: Width,
     values: &[Value],
-) -> Result<Shared<Left>, AllocError>
-    ensures { IfOk result (λ made. residual_of_left made ≡ translation.feed_from 0 channel width values.now) }
+) -> Result<Shared<ResidualTree>, AllocError>
+    ensures { IfOk result (λ made. residual_of_tree made ≡ translation.feed_from 0 channel width values.now) }
 {
     let sends = sends_of(alloc, channel, width, values)?;
     in_sequence(alloc, sends)
@@ -81,9 +81,9 @@ fn sends_of(
     channel: u32,
     width: Width,
     values: &[Value],
-) -> Result<Items<Shared<Left>>, AllocError>
+) -> Result<Items<Shared<ResidualTree>>, AllocError>
     ensures { IfOk result (λ made.
-        map residual_of_left made ≡ map (λ v. residual.send channel width (constant v)) values.now) }
+        map residual_of_tree made ≡ map (λ v. residual.send channel width (constant v)) values.now) }
 {
     let mut sends = Items::with_capacity(alloc, values.len())?;
     for value in values {
@@ -98,20 +98,20 @@ fn send_of(
     channel: u32,
     width: Width,
     value: Value,
-) -> Result<Shared<Left>, AllocError>
-    ensures { IfOk result (λ made. residual_of_left made ≡ residual.send channel width (constant value)) }
+) -> Result<Shared<ResidualTree>, AllocError>
+    ensures { IfOk result (λ made. residual_of_tree made ≡ residual.send channel width (constant value)) }
 {
     Shared::new(
         alloc,
-        Left::Send(channel, width, Expression::Constant(value)),
+        ResidualTree::Send(channel, width, Expression::Constant(value)),
     )
 }
 
 /// So many handshakes in order.
-fn syncs(alloc: Global, channel: u32, count: u32) -> Result<Shared<Left>, AllocError>
-    ensures { IfOk result (λ made. residual_of_left made ≡ translation.syncs_from 0 channel count) }
+fn syncs(alloc: Global, channel: u32, count: u32) -> Result<Shared<ResidualTree>, AllocError>
+    ensures { IfOk result (λ made. residual_of_tree made ≡ translation.syncs_from 0 channel count) }
 {
-    let mut left = Left::done(alloc)?;
+    let mut left = ResidualTree::done(alloc)?;
     let mut number = count;
     while number > 0 {
         number -= 1;
@@ -121,10 +121,10 @@ fn syncs(alloc: Global, channel: u32, count: u32) -> Result<Shared<Left>, AllocE
 }
 
 /// A handshake.
-fn sync_of(alloc: Global, channel: u32) -> Result<Shared<Left>, AllocError>
-    ensures { IfOk result (λ made. residual_of_left made ≡ residual.sync channel) }
+fn sync_of(alloc: Global, channel: u32) -> Result<Shared<ResidualTree>, AllocError>
+    ensures { IfOk result (λ made. residual_of_tree made ≡ residual.sync channel) }
 {
-    Shared::new(alloc, Left::Sync(channel))
+    Shared::new(alloc, ResidualTree::Sync(channel))
 }
 
 /// Every variable at 0.

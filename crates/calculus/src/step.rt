@@ -2,23 +2,23 @@
 ghost use Rattle.std.specs.Prelude.{◌≡◌, Option, Some, IfOk, MatchOption, cond, None};
 ghost use Rattle.std.specs.Option.{option_map, option_and_then};
 ghost use Rattle.system.specs.Expression as expression;
-ghost use Rattle.calculus.specs.Left.{residual_of_left, state_of};
-ghost use Rattle.calculus.specs.walking.Meanings.{move_of};
-ghost use Rattle.runs.specs.walking.After as after;
+ghost use Rattle.calculus.specs.ResidualTree.{residual_of_tree, state_of};
+ghost use Rattle.calculus.specs.internal.Meanings.{move_of};
+ghost use Rattle.runs.specs.internal.After as after;
 ghost use Rattle.runs.specs.Events.{store_after};
 ghost use Rattle.runs.specs.Steps.{State, Step};
 ghost use Rattle.runs.specs.WellFormed.{WellFormed};
-ghost use Rattle.runs.specs.walking.Made.{made_together};
-ghost use Rattle.runs.specs.walking.Below.{apart};
-ghost use Rattle.runs.specs.walking.StepOf.{step_of, agreed};
-ghost use Rattle.calculus.specs.walking.Sides as sides;
+ghost use Rattle.runs.specs.internal.Made.{made_together};
+ghost use Rattle.runs.specs.internal.Below.{apart};
+ghost use Rattle.runs.specs.internal.StepOf.{step_of, agreed};
+ghost use Rattle.calculus.specs.internal.Sides as sides;
 
 use crate::Plain;
 use crate::apart::are_apart;
-use crate::left::Left;
-use crate::making::{made_alone, made_together};
+use crate::make_event::{made_alone, made_together};
 use crate::moves::{Move, Moved};
 use crate::offers::after;
+use crate::residual_tree::ResidualTree;
 use address::Address;
 use runs::{Ask, Event, Kind};
 use std::alloc::{AllocError, Global};
@@ -125,7 +125,7 @@ fn second_side(
     ask: Ask,
     second: &Address,
     one: &Move,
-    left: &Left,
+    left: &ResidualTree,
 ) -> Result<Option<Plain>, AllocError>
     ensures { IfOk result (λ r.
         option_map state_of r
@@ -133,7 +133,7 @@ fn second_side(
         agreed (state_of state.now) event.now y.1
         (cond (apart event.now.first second.now)
         (made_together (state_of state.now).store event.now.first (move_of one.now) second.now y.0) None))
-        (after.after ask (residual_of_left left.now) second.now)) }
+        (after.after ask (residual_of_tree left.now) second.now)) }
 {
     match after(alloc, ask, left, second.entries())? {
         Some(moved) => {
@@ -177,11 +177,11 @@ fn agreed(
     alloc: Global,
     state: &Plain,
     event: &Event,
-    left: Shared<Left>,
+    left: Shared<ResidualTree>,
     made: Option<Event>,
 ) -> Result<Option<Plain>, AllocError>
     ensures { IfOk result (λ r.
-        option_map state_of r ≡ agreed (state_of state.now) event.now (residual_of_left left) made) }
+        option_map state_of r ≡ agreed (state_of state.now) event.now (residual_of_tree left) made) }
 {
     match made {
         Some(made) => {
@@ -200,12 +200,12 @@ fn taken(
     alloc: Global,
     state: &Plain,
     event: &Event,
-    left: Shared<Left>,
+    left: Shared<ResidualTree>,
 ) -> Result<Option<Plain>, AllocError>
     ensures { IfOk result (λ r.
         option_map state_of r
         ≡ Some
-        (record { residual = residual_of_left left; store = store_after event.now (state_of state.now).store })) }
+        (record { residual = residual_of_tree left; store = store_after event.now (state_of state.now).store })) }
 {
     let values = values_after(alloc, event, state.values.as_slice())?;
     Ok(Some(Plain { left, values }))

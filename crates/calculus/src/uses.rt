@@ -2,7 +2,7 @@
 ghost use Rattle.std.specs.Prelude.{◌≡◌, ◌⊎◌, ◌↔◌, ℕ, ◌<◌, ◌≤◌, Some, IsTrue, IfOk};
 ghost use Rattle.syntax.specs.Lists.{In};
 ghost use Rattle.last_events.specs.LastEvents as last;
-ghost use Rattle.calculus.specs.walking.Comparing.{AllBefore, UsesPut, NoUses};
+ghost use Rattle.calculus.specs.internal.Comparing.{AllBefore, UsesPut, NoUses};
 
 use last_events::UseTable;
 use runs::Event;

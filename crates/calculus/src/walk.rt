@@ -4,15 +4,15 @@ ghost use Rattle.system.specs.Expression as expression;
 ghost use Rattle.system.specs.Translation.{expression_of, decision_of};
 ghost use Rattle.runs.specs.Moves as moves;
 ghost use Rattle.runs.specs.Events.{at};
-ghost use Rattle.calculus.specs.Left.{residual_of_left};
-ghost use Rattle.calculus.specs.walking.Meanings.{move_of};
-ghost use Rattle.runs.specs.walking.AllowedEvents as model;
-ghost use Rattle.calculus.specs.walking.Passed.{goes_on};
-ghost use Rattle.calculus.specs.walking.Walk.{located_of, below};
+ghost use Rattle.calculus.specs.ResidualTree.{residual_of_tree};
+ghost use Rattle.calculus.specs.internal.Meanings.{move_of};
+ghost use Rattle.runs.specs.internal.AllowedEvents as model;
+ghost use Rattle.calculus.specs.internal.Passed.{goes_on};
+ghost use Rattle.calculus.specs.internal.Walk.{located_of, below};
 
 use crate::answers::one_guard;
-use crate::left::Left;
 use crate::moves::Move;
+use crate::residual_tree::ResidualTree;
 use address::{Address, Entry};
 use std::alloc::{AllocError, Global};
 use syntax::{Boxed, Items};
@@ -31,22 +31,22 @@ pub(crate) struct Offer {
 pub(crate) fn add_offers(
     alloc: Global,
     values: &[Value],
-    left: &Left,
+    left: &ResidualTree,
     place: &Address,
     found: &mut Items<Offer>,
 ) -> Result<(), AllocError>
     ensures { IfOk result (λ _.
         map located_of found.new
-        ≡ map located_of found.old ++ below place.now (model.offers values.now (residual_of_left left.now))) }
+        ≡ map located_of found.old ++ below place.now (model.offers values.now (residual_of_tree left.now))) }
 {
     let mut left = left;
     'passing: loop {
         match left {
-            Left::Inside(number, child, _) => {
+            ResidualTree::Inside(number, child, _) => {
                 let inner = ordered(alloc, place, *number)?;
                 return add_offers(alloc, values, child.get(), &inner, found);
             }
-            Left::Beside(number, child, rest) => {
+            ResidualTree::Beside(number, child, rest) => {
                 let inner = in_branch(alloc, place, *number)?;
                 add_offers(alloc, values, child.get(), &inner, found)?;
                 left = rest.get();
@@ -61,36 +61,38 @@ pub(crate) fn add_offers(
 fn add_own(
     alloc: Global,
     values: &[Value],
-    left: &Left,
+    left: &ResidualTree,
     place: &Address,
     found: &mut Items<Offer>,
 ) -> Result<(), AllocError>
-    requires { IsFalse (goes_on (residual_of_left left.now)) }
+    requires { IsFalse (goes_on (residual_of_tree left.now)) }
     ensures { IfOk result (λ _.
         map located_of found.new
-        ≡ map located_of found.old ++ below place.now (model.offers values.now (residual_of_left left.now))) }
+        ≡ map located_of found.old ++ below place.now (model.offers values.now (residual_of_tree left.now))) }
 {
     match left {
-        Left::Inside(_, _, _) | Left::Beside(_, _, _) => unreachable!(),
-        Left::Done | Left::Halted => Ok(()),
-        Left::Assign(variable, width, value) => {
+        ResidualTree::Inside(_, _, _) | ResidualTree::Beside(_, _, _) => unreachable!(),
+        ResidualTree::Done | ResidualTree::Halted => Ok(()),
+        ResidualTree::Assign(variable, width, value) => {
             add_assign(alloc, place, *variable, *width, value, found)
         }
-        Left::Send(channel, width, value) => {
+        ResidualTree::Send(channel, width, value) => {
             add_sends(alloc, place, *channel, *width, value, found)
         }
-        Left::Receive(channel, variable) => add_receive(alloc, place, *channel, *variable, found),
-        Left::Sync(channel) => add_syncs(alloc, place, *channel, found),
-        Left::Held(channel) => add_act(alloc, place, 1, Move::Releases(*channel), found),
-        Left::Loop(turn, _) => add_turn(alloc, place, *turn, found),
-        Left::While(turn, guard, _) => add_guard(alloc, values, place, *turn, guard, found),
-        Left::Test(decision, _) => {
+        ResidualTree::Receive(channel, variable) => add_receive(
+            alloc, place, *channel, *variable, found,
+        ),
+        ResidualTree::Sync(channel) => add_syncs(alloc, place, *channel, found),
+        ResidualTree::Held(channel) => add_act(alloc, place, 1, Move::Releases(*channel), found),
+        ResidualTree::Loop(turn, _) => add_turn(alloc, place, *turn, found),
+        ResidualTree::While(turn, guard, _) => add_guard(alloc, values, place, *turn, guard, found),
+        ResidualTree::Test(decision, _) => {
             let decision = decision.copy(alloc)?;
             add_test(alloc, values, place, 0, decision, found)
         }
-        Left::Choose(channels, _) => add_opens(alloc, place, channels.as_slice(), found),
-        Left::Closing(channel) => add_act(alloc, place, 2, Move::Closes(*channel), found),
-        Left::Drain(channel, act) => {
+        ResidualTree::Choose(channels, _) => add_opens(alloc, place, channels.as_slice(), found),
+        ResidualTree::Closing(channel) => add_act(alloc, place, 2, Move::Closes(*channel), found),
+        ResidualTree::Drain(channel, act) => {
             add_act(alloc, place, *act, Move::Receives(*channel, None), found)
         }
     }

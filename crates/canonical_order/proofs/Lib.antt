@@ -1,8 +1,7 @@
-pub mod Canonicals
-pub mod Orders
-pub mod Placing
-pub mod Queues
-pub mod Stands
-pub mod Taking
-pub mod Telling
-pub mod Waits
+pub mod public
+mod Orders
+mod Placing
+mod Queues
+mod Taking
+mod Telling
+mod Waits

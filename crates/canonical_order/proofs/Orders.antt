@@ -4,8 +4,8 @@ use Rattle.syntax.specs.Lists.{In}
 use Rattle.runs.specs.Dependence.{Earlier}
 use Rattle.runs.specs.Events.{acting}
 use Rattle.runs.specs.declared.event.Event.{Event}
-use Rattle.runs.proofs.Elements.{Distinct, earlier-more, earlier-before}
-use Rattle.runs.proofs.Lists.{in-left, in-right, in-parts}
+use Rattle.runs.proofs.public.Elements.{Distinct, earlier-more, earlier-before}
+use Rattle.runs.proofs.public.Lists.{in-left, in-right, in-parts}
 
 -- no event acts where a later one does
 abbrev pub ActsOnce : List Event → Type 0

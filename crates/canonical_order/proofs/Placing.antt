@@ -1,20 +1,20 @@
 -- One event more in a canonical order, and so a canonical order of each list that runs.
 use Rattle.std.proofs.Common.{◌≡◌, ◌⊎◌, inl, inr, List, [], ◌∷◌, ◌++◌, refl, sym, ap, ◌∙◌, subst, append_assoc, append-nil}
 use Rattle.std.specs.declared.cmp.Ordering.TheVariants.{Less}
-use Rattle.address.proofs.Total.{order-itself, order-total, order-transitive}
+use Rattle.address.proofs.public.Total.{order-itself, order-total, order-transitive}
 use Rattle.address.specs.Order.{order_of}
 use Rattle.syntax.specs.Lists.{In}
 use Rattle.runs.specs.Dependence.{Directly, Earlier, Rearranged}
 use Rattle.runs.specs.Events.{acting}
 use Rattle.runs.specs.Moves.{Place}
 use Rattle.runs.specs.declared.event.Event.{Event}
-use Rattle.runs.proofs.Decisions.{Or, search-list, directly?}
-use Rattle.runs.proofs.Elements.{earlier-before, earlier-first, rearranged-in, in-rearranged}
-use Rattle.runs.proofs.FromOpening.{acting_once}
-use Rattle.runs.proofs.Lists.{in-left, in-right, in-parts}
+use Rattle.runs.proofs.public.Decisions.{Or, search-list, directly?}
+use Rattle.runs.proofs.public.Elements.{earlier-before, earlier-first, rearranged-in, in-rearranged}
+use Rattle.runs.proofs.public.FromOpening.{acting_once}
+use Rattle.runs.proofs.public.Lists.{in-left, in-right, in-parts}
 use Rattle.canonical_order.specs.Canonical.{Free, LeastFree, IsCanonicalOrder}
 use Rattle.canonical_order.specs.Laws.{SomeCanonicalOrder}
-use Rattle.canonical_order.proofs.Canonicals.{canonical-rearranged}
+use Rattle.canonical_order.proofs.public.Canonicals.{canonical-rearranged}
 use Rattle.canonical_order.proofs.Orders.{ActsOnce, once-less, earlier-left, earlier-parts}
 
 -- none of g is a direct cause of e

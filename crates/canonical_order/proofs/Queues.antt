@@ -14,15 +14,15 @@ use Rattle.std.proofs.lemmas.Option.{slice_get-get_or}
 use Rattle.std.proofs.lemmas.List.Sorted.{list_any-IsPermutation}
 use Rattle.std.proofs.lemmas.Map.Keys.{IsDistinct-head, IsDistinct-tail, IsDistinct-cons, IsDistinct-IsPermutation}
 use Rattle.address.specs.Order.{order_of}
-use Rattle.address.proofs.Entries.{entries_cmp-is}
+use Rattle.address.proofs.public.Entries.{entries_cmp-is}
 use Rattle.syntax.specs.Lists.{In}
 use Rattle.runs.specs.Events.{acting}
 use Rattle.runs.specs.Live.{Live}
 use Rattle.runs.specs.declared.event.Event.{Event}
-use Rattle.runs.proofs.Options.{none-some, some-injective}
-use Rattle.dependence.proofs.ListPlaces.{at-within, at-one}
+use Rattle.runs.proofs.public.Options.{none-some, some-injective}
+use Rattle.dependence.proofs.public.ListPlaces.{at-within, at-one}
 use Rattle.canonical_order.specs.declared.queue.Free.{Free}
-use Rattle.canonical_order.specs.walking.Waiting.{IsEntry, IsFree, IsQueue, Joins, queue_order, same_index}
+use Rattle.canonical_order.specs.internal.Waiting.{IsEntry, IsFree, IsQueue, Joins, queue_order, same_index}
 use Rattle.canonical_order.proofs.Waits.{Rises, one-index}
 
 -- what holds of each entry, and follows from it

@@ -15,18 +15,18 @@ use Rattle.runs.specs.Events.{acting}
 use Rattle.runs.specs.Live.{Live, Rising, LiveAt, IsLive, events}
 use Rattle.runs.specs.Steps.{State, Run, opening}
 use Rattle.runs.specs.declared.event.Event.{Event}
-use Rattle.runs.proofs.DependsOnLaw.{earlier-by-tickets, tickets-of-earlier}
-use Rattle.runs.proofs.FromOpening.{acting_once}
-use Rattle.runs.proofs.Lists.{in-left, in-right, in-parts}
-use Rattle.runs.proofs.Options.{some-injective}
-use Rattle.runs.proofs.Tickets.{rising-in, rising-parts, rising-join, rising-lower, events-join, event-in, in-event}
+use Rattle.runs.proofs.public.DependsOnLaw.{earlier-by-tickets, tickets-of-earlier}
+use Rattle.runs.proofs.public.FromOpening.{acting_once}
+use Rattle.runs.proofs.public.Lists.{in-left, in-right, in-parts}
+use Rattle.runs.proofs.public.Options.{some-injective}
+use Rattle.runs.proofs.public.Tickets.{rising-in, rising-parts, rising-join, rising-lower, events-join, event-in, in-event}
 use Rattle.dependence.specs.Followers.{Follower}
-use Rattle.dependence.proofs.ListPlaces.{at-within, index-in}
+use Rattle.dependence.proofs.public.ListPlaces.{at-within, index-in}
 use Rattle.canonical_order.specs.Canonical.{LeastFree, IsCanonicalOrder, StandAt}
 use Rattle.canonical_order.specs.declared.queue.Free as entry
-use Rattle.canonical_order.specs.walking.Waiting.{IsRest, Counts, LeftFor, IsFree, IsQueue, Ready, TellingAt, SomeTelling, TellsAll, queue_order}
+use Rattle.canonical_order.specs.internal.Waiting.{IsRest, Counts, LeftFor, IsFree, IsQueue, Ready, TellingAt, SomeTelling, TellsAll, queue_order}
 use Rattle.canonical_order.proofs.Orders.{ActsOnce}
-use Rattle.canonical_order.proofs.Stands.{stand-more}
+use Rattle.canonical_order.proofs.public.Stands.{stand-more}
 use Rattle.canonical_order.proofs.Waits.{Rises, one-event, one-index, lead-left, waits-none, waits-some, waits-same}
 use Rattle.canonical_order.proofs.Queues.{popped-entry, popped-least, queue-popped}
 

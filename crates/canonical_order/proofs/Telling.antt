@@ -8,12 +8,12 @@ use Rattle.syntax.specs.Lists.{In}
 use Rattle.runs.specs.InOrder.{InOrder}
 use Rattle.runs.specs.Live.{Live, LiveAt, IsLive}
 use Rattle.runs.specs.declared.event.Event.{Event}
-use Rattle.runs.proofs.Lists.{in-left, in-right, in-parts}
-use Rattle.runs.proofs.Options.{some-injective}
+use Rattle.runs.proofs.public.Lists.{in-left, in-right, in-parts}
+use Rattle.runs.proofs.public.Options.{some-injective}
 use Rattle.dependence.specs.Followers.{Follower, ListsFollowers}
-use Rattle.dependence.proofs.ListPlaces.{at-within, at-one, in-at, set-here, set-other, parts-at, take-next, in-order-across, got-here}
+use Rattle.dependence.proofs.public.ListPlaces.{at-within, at-one, in-at, set-here, set-other, parts-at, take-next, in-order-across, got-here}
 use Rattle.canonical_order.specs.declared.queue.Free.{Free}
-use Rattle.canonical_order.specs.walking.Waiting.{WaitsFor, Counts, LeftFor, IsFree, IsQueue, Telling, Ready, CanTell, TellsOne}
+use Rattle.canonical_order.specs.internal.Waiting.{WaitsFor, Counts, LeftFor, IsFree, IsQueue, Telling, Ready, CanTell, TellsOne}
 use Rattle.canonical_order.proofs.Waits.{Rises, one-event, one-index, waits-same, waits-more, waits-less}
 use Rattle.canonical_order.proofs.Queues.{queue-same, queue-joined}
 

@@ -8,13 +8,13 @@ use Rattle.runs.specs.Dependence.{Directly}
 use Rattle.runs.specs.InOrder.{InOrder}
 use Rattle.runs.specs.Live.{Live, Rising, LiveAt, IsLive, same, later}
 use Rattle.runs.specs.declared.event.Event.{Event}
-use Rattle.runs.proofs.Lists.{every-in, every-of}
-use Rattle.runs.proofs.Options.{none-some, some-injective}
-use Rattle.runs.proofs.Tickets.{rising-in, rising-one}
+use Rattle.runs.proofs.public.Lists.{every-in, every-of}
+use Rattle.runs.proofs.public.Options.{none-some, some-injective}
+use Rattle.runs.proofs.public.Tickets.{rising-in, rising-one}
 use Rattle.dependence.specs.Followers.{Follower, ListsLeads, Reached, here, along}
-use Rattle.dependence.proofs.FollowerLaws.{reached-through-followers}
-use Rattle.dependence.proofs.ListPlaces.{in-at, at-one}
-use Rattle.canonical_order.specs.walking.Waiting.{IsRest, WaitsFor, Counts}
+use Rattle.dependence.proofs.public.FollowerLaws.{reached-through-followers}
+use Rattle.dependence.proofs.public.ListPlaces.{in-at, at-one}
+use Rattle.canonical_order.specs.internal.Waiting.{IsRest, WaitsFor, Counts}
 
 -- the tickets rise
 abbrev pub Rises : Live → Type 0

@@ -23,7 +23,8 @@ pub record LeastFree (h : List Event) (e : Event) : Type 0 where
 abbrev pub IsCanonicalOrder : List Event → List Event → Type 0
 IsCanonicalOrder h [] = h ≡ []
 IsCanonicalOrder h (e ∷ g) =
-    (before : List Event) × (after : List Event) × (h ≡ before ++ e ∷ after) × LeastFree h e × IsCanonicalOrder (before ++ after) g
+    (before : List Event) × (after : List Event) × (h ≡ before ++ e ∷ after) × LeastFree h e
+    × IsCanonicalOrder (before ++ after) g
 
 -- the events g stand at these indexes of the live events, each at its own
 abbrev pub StandAt : Live → List ℕ → List Event → Type 0

@@ -13,7 +13,8 @@ CanonicalRespects = (h g : List Event) → IsCanonicalOrder h g → Respecting h
 -- and so it runs to the same state
 abbrev pub CanonicalRuns : Type 0
 CanonicalRuns =
-    (system : System) (h g : List Event) (T : State) → Run (opening system) h T → IsCanonicalOrder h g → Run (opening system) g T
+    (system : System) (h g : List Event) (T : State) → Run (opening system) h T → IsCanonicalOrder h g →
+    Run (opening system) g T
 
 -- two lists that are respecting orders of each other, of which one runs, have one canonical order
 abbrev pub OrdersAgree : Type 0
@@ -24,13 +25,16 @@ OrdersAgree =
 -- a list that runs has no two canonical orders
 abbrev pub OneCanonicalOrder : Type 0
 OneCanonicalOrder =
-    (system : System) (h a b : List Event) (T : State) → Run (opening system) h T → IsCanonicalOrder h a → IsCanonicalOrder h b → a ≡ b
+    (system : System) (h a b : List Event) (T : State) → Run (opening system) h T → IsCanonicalOrder h a →
+    IsCanonicalOrder h b → a ≡ b
 
 -- a list that runs has a canonical order
 abbrev pub SomeCanonicalOrder : Type 0
-SomeCanonicalOrder = (system : System) (h : List Event) (T : State) → Run (opening system) h T → (g : List Event) × IsCanonicalOrder h g
+SomeCanonicalOrder =
+    (system : System) (h : List Event) (T : State) → Run (opening system) h T → (g : List Event) × IsCanonicalOrder h g
 
 -- the canonical order of a list that runs is its own canonical order
 abbrev pub IsItsOwnOrder : Type 0
 IsItsOwnOrder =
-    (system : System) (h g : List Event) (T : State) → Run (opening system) h T → IsCanonicalOrder h g → IsCanonicalOrder g g
+    (system : System) (h g : List Event) (T : State) → Run (opening system) h T → IsCanonicalOrder h g →
+    IsCanonicalOrder g g

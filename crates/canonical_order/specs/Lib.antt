@@ -1,3 +1,3 @@
 pub mod Canonical
 pub mod Laws
-pub mod walking
+pub mod internal

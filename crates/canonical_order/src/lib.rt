@@ -2,8 +2,8 @@
 #![tactic(auto)]
 
 mod laws;
-mod ordering;
+mod order;
 mod queue;
 
 pub use laws::canonical_laws;
-pub use ordering::canonical_order;
+pub use order::canonical_order;

@@ -3,8 +3,8 @@ ghost use Rattle.std.specs.Prelude.{◌≡◌, ◌<◌, ℕ, length, Some, slice
 ghost use Rattle.std.specs.BinaryHeap.{heap_items};
 ghost use Rattle.runs.specs.Live.{IsLive};
 ghost use Rattle.runs.specs.declared.event.Event.{Event};
-ghost use Rattle.dependence.specs.walking.Tables.{IsRising};
-ghost use Rattle.canonical_order.specs.walking.Waiting.{Counts, IsQueue, SomeTelling, TellsAll, TellsOne, CanTell, Joins};
+ghost use Rattle.dependence.specs.internal.Tables.{IsRising};
+ghost use Rattle.canonical_order.specs.internal.Waiting.{Counts, IsQueue, SomeTelling, TellsAll, TellsOne, CanTell, Joins};
 
 use address::Entry;
 use dependence::Live;
@@ -61,7 +61,8 @@ pub(crate) fn tell_followers<'a>(
 ) -> Result<(), AllocError>
     requires rising { IsRising live.now.live }
     requires telling { SomeTelling live.now.live index left.old (heap_items free.old) }
-    ensures { IfOk result (λ _. TellsAll live.now.live index left.old (heap_items free.old) left.new (heap_items free.new)) }
+    ensures { IfOk result (λ _.
+        TellsAll live.now.live index left.old (heap_items free.old) left.new (heap_items free.new)) }
 {
     for follower in live.followers(live.as_slice()[index].0) {
         tell(live, index_of(live, *follower), left, free)?;
@@ -77,7 +78,8 @@ fn tell<'a>(
     free: &mut Queue<'a>,
 ) -> Result<(), AllocError>
     requires { CanTell live.now.live left.old index }
-    ensures { IfOk result (λ _. TellsOne live.now.live index left.old (heap_items free.old) left.new (heap_items free.new)) }
+    ensures { IfOk result (λ _.
+        TellsOne live.now.live index left.old (heap_items free.old) left.new (heap_items free.new)) }
 {
     left[index] -= 1;
     if left[index] == 0 {

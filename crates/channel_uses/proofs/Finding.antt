@@ -4,52 +4,52 @@ use Rattle.address.specs.declared.Entry.{Entry}
 use Rattle.address.specs.declared.Entry.TheVariants.{Ordered, Branch}
 use Rattle.syntax.specs.Lists.{In}
 use Rattle.system.specs.Expression.{Store, Expression}
-use Rattle.runs.proofs.Options.{none-some, some-injective}
+use Rattle.runs.proofs.public.Options.{none-some, some-injective}
 use Rattle.process_tree.specs.Children.{proc_at}
 use Rattle.process_tree.specs.Code.{Once, assigning, receiving, Sender, sending, syncing, Code, Codes, no_code, code, code_at}
-use Rattle.process_tree.specs.Left.{Received, with_value, residual_once, residual_sender, channel_of}
+use Rattle.process_tree.specs.Remaining.{Received, with_value, residual_once, residual_sender, channel_of}
 use Rattle.process_tree.specs.Proc.{waiting, holding, past, Proc, idle, stopped, once, sender, fresh, turn, ended_at_once, ended, untested, skipped, took, unopened, entered, closed, sequence, parallel, drained, Procs, no_procs, proc, all_started}
 use Rattle.process_tree.specs.Translation.{row_of}
 use Rattle.process_tree.specs.View.{code_view}
 use Rattle.process_tree.specs.declared.code.Code as made
 use Rattle.process_tree.specs.Tidy.{last_moved}
-use Rattle.process_tree.specs.walking.Received.{puts_once, puts_sender, puts_guard}
-use Rattle.offered_sides.specs.walking.Listed.{side_at, behind, sides_of_residual, again_at, Listing, nothing, at_work, one_after, both, listed, listed_sequence, listed_parallel}
-use Rattle.offered_sides.specs.walking.Walk.{Walk, added, down, up}
-use Rattle.offered_sides.specs.declared.side.OfferedSide.{OfferedSide}
-use Rattle.offered_sides.specs.declared.side.Side.TheVariants.{Closes}
-use Rattle.offered_sides.proofs.OneByOne.{step-here}
-use Rattle.offered_sides.proofs.Walks.{added-none, added-both, through}
+use Rattle.process_tree.specs.internal.Received.{puts_once, puts_sender, puts_guard}
+use Rattle.local_actions.specs.internal.Listed.{action_at, behind, actions_of_residual, again_at, Listing, nothing, at_work, one_after, both, listed, listed_sequence, listed_parallel}
+use Rattle.local_actions.specs.internal.Walk.{Walk, added, down, up}
+use Rattle.local_actions.specs.declared.action.LocalAction.{LocalAction}
+use Rattle.local_actions.specs.declared.action.ActionKind.TheVariants.{Closes}
+use Rattle.local_actions.proofs.public.OneByOne.{step-here}
+use Rattle.local_actions.proofs.public.Walks.{added-none, added-both, through}
 use Rattle.channel_uses.specs.OnChannel.{on}
 use Rattle.channel_uses.specs.StemsFrom.{StemsFrom, AllStemFrom}
 use Rattle.channel_uses.specs.Uses.{used_once, used, all_used}
 use Rattle.std.proofs.lemmas.Bool.{cases_lt}
-use Rattle.channel_uses.specs.walking.Located.{finds, finds_at}
-use Rattle.channel_uses.specs.walking.Parts.{UnusedBetween}
+use Rattle.channel_uses.specs.internal.Located.{finds, finds_at}
+use Rattle.channel_uses.specs.internal.Parts.{UnusedBetween}
 use Rattle.channel_uses.proofs.Stems.{all-stem}
 use Rattle.channel_uses.proofs.OnChannel.{dropped, on-behind, on-both, other-channel, opens-none, in-first, in-second, in-arm, at-in}
 
 -- ---- what does not use the channel
-pub after-none : (e i : ℕ) (x rest : Listing) → on e x.sides ≡ [] → on e rest.sides ≡ [] → on e (one_after i x rest).sides ≡ []
+pub after-none : (e i : ℕ) (x rest : Listing) → on e x.actions ≡ [] → on e rest.actions ≡ [] → on e (one_after i x rest).actions ≡ []
 after-none e i x rest h k = pick x.over
   where
-    pick : (b : Bool) → on e (cond b rest (at_work (behind (Ordered i) x.sides))).sides ≡ []
+    pick : (b : Bool) → on e (cond b rest (at_work (behind (Ordered i) x.actions))).actions ≡ []
     pick true = k
-    pick false = on-behind e (Ordered i) x.sides ∙ ap (behind (Ordered i)) h
+    pick false = on-behind e (Ordered i) x.actions ∙ ap (behind (Ordered i)) h
 
-both-none : (e k : ℕ) (x rest : Listing) → on e x.sides ≡ [] → on e rest.sides ≡ [] → on e (both k x rest).sides ≡ []
+both-none : (e k : ℕ) (x rest : Listing) → on e x.actions ≡ [] → on e rest.actions ≡ [] → on e (both k x rest).actions ≡ []
 both-none e k x rest h g =
-    on-both e (behind (Branch k) x.sides) rest.sides ∙ ap₂ (λ a b. a ++ b) (on-behind e (Branch k) x.sides ∙ ap (behind (Branch k)) h) g
+    on-both e (behind (Branch k) x.actions) rest.actions ∙ ap₂ (λ a b. a ++ b) (on-behind e (Branch k) x.actions ∙ ap (behind (Branch k)) h) g
 
 again-listed-none : (e : ℕ) (s : Store) (n : ℕ) (g : Option Expression) → on e (again_at s n g) ≡ []
 again-listed-none e s n None = refl
 again-listed-none e s n (Some x) = refl
 
-once-listed-none : (e : ℕ) (s : Store) (env : Received) (o : Once) → (In e (used_once o) → ⊥) → on e (sides_of_residual s (residual_once (puts_once env o))) ≡ []
+once-listed-none : (e : ℕ) (s : Store) (env : Received) (o : Once) → (In e (used_once o) → ⊥) → on e (actions_of_residual s (residual_once (puts_once env o))) ≡ []
 once-listed-none e s env (assigning x w v) h = refl
 once-listed-none e s env (receiving d x) h = dropped _ _ [] (other-channel d e [] h)
 
-waiting-listed-none : (e : ℕ) (s : Store) (env : Received) (x : Sender) → (In e (channel_of x ∷ []) → ⊥) → on e (sides_of_residual s (residual_sender (puts_sender env x))) ≡ []
+waiting-listed-none : (e : ℕ) (s : Store) (env : Received) (x : Sender) → (In e (channel_of x ∷ []) → ⊥) → on e (actions_of_residual s (residual_sender (puts_sender env x))) ≡ []
 waiting-listed-none e s env (sending d w v) h = dropped _ _ [] (other-channel d e [] h)
 waiting-listed-none e s env (syncing d) h = dropped _ _ [] (other-channel d e [] h)
 
@@ -59,7 +59,7 @@ Unused e ds = In e ds → ⊥
 
 mutual
   -- nothing is listed on a channel that the command does not use
-  pub listed-none : (s : Store) (p : Proc) (env : Received) (c : Code) (e : ℕ) → StemsFrom p c → Unused e (used c) → on e (listed s env p).sides ≡ []
+  pub listed-none : (s : Store) (p : Proc) (env : Received) (c : Code) (e : ℕ) → StemsFrom p c → Unused e (used c) → on e (listed s env p).actions ≡ []
   listed-none s idle env c e t h = refl
   listed-none s stopped env c e t h = refl
   listed-none s (once o true) env c e t h = refl
@@ -80,7 +80,7 @@ mutual
   listed-none s (unopened ds cs) env c e t h = opens-none e 0 ds (λ i. subst (λ k. Unused e (used k)) t h (in-first e ds (all_used cs) i))
   listed-none s (entered ds cs d v q) env c e t h =
       let all = subst (λ k. Unused e (used k)) t.0 h in
-      after-none e 1 (listed s (with_value d v env) q) (at_work (side_at (Ordered 2 ∷ []) (Closes d) ∷ []))
+      after-none e 1 (listed s (with_value d v env) q) (at_work (action_at (Ordered 2 ∷ []) (Closes d) ∷ []))
       (listed-none s q (with_value d v env) (code_at cs t.1) e t.3 (λ i. all (in-second e ds (all_used cs) (in-arm e cs t.1 i))))
       (dropped _ _ [] (ne_eqb d e (λ same. all (in-first e ds (all_used cs) (subst (λ x. In x ds) same (at-in d ds t.1 t.2))))))
   listed-none s (closed ds cs d v q) env c e t h = refl
@@ -88,7 +88,7 @@ mutual
   listed-none s (parallel ps) env c e t h = parallel-none s ps env t.0 0 e t.2 (subst (λ k. Unused e (used k)) t.1 h)
   listed-none s (drained d n) env c e t h = dropped _ _ [] (other-channel d e [] (subst (λ k. Unused e (used k)) t h))
 
-  sequence-none : (s : Store) (ps : Procs) (env : Received) (cs : Codes) (k n e : ℕ) → AllStemFrom ps cs → Unused e (all_used cs) → on e (listed_sequence s env k n ps).sides ≡ []
+  sequence-none : (s : Store) (ps : Procs) (env : Received) (cs : Codes) (k n e : ℕ) → AllStemFrom ps cs → Unused e (all_used cs) → on e (listed_sequence s env k n ps).actions ≡ []
   sequence-none s no_procs env cs zero n e t h = refl
   sequence-none s no_procs env cs (suc k) n e t h = refl
   sequence-none s (proc p ps) env no_code k n e t h = absurd t
@@ -97,7 +97,7 @@ mutual
       (sequence-none s ps env cs zero (n + 1) e t.1 (λ i. h (in-second e (used c) (all_used cs) i)))
   sequence-none s (proc p ps) env (code c cs) (suc k) n e t h = sequence-none s ps env cs k (n + 1) e t.1 (λ i. h (in-second e (used c) (all_used cs) i))
 
-  parallel-none : (s : Store) (ps : Procs) (env : Received) (cs : Codes) (n e : ℕ) → AllStemFrom ps cs → Unused e (all_used cs) → on e (listed_parallel s env n ps).sides ≡ []
+  parallel-none : (s : Store) (ps : Procs) (env : Received) (cs : Codes) (n e : ℕ) → AllStemFrom ps cs → Unused e (all_used cs) → on e (listed_parallel s env n ps).actions ≡ []
   parallel-none s no_procs env cs n e t h = refl
   parallel-none s (proc p ps) env no_code n e t h = absurd t
   parallel-none s (proc p ps) env (code c cs) n e t h =
@@ -106,31 +106,31 @@ mutual
 
 -- ---- branches by their numbers
 -- what branches from number k on offer on the channel, the first of all in branch n
-pub on_from : ℕ → Store → Received → ℕ → ℕ → Procs → List OfferedSide
+pub on_from : ℕ → Store → Received → ℕ → ℕ → Procs → List LocalAction
 on_from e s env k n no_procs = []
-on_from e s env zero n (proc p ps) = behind (Branch n) (on e (listed s env p).sides) ++ on_from e s env zero (n + 1) ps
+on_from e s env zero n (proc p ps) = behind (Branch n) (on e (listed s env p).actions) ++ on_from e s env zero (n + 1) ps
 on_from e s env (suc k) n (proc p ps) = on_from e s env k (n + 1) ps
 
-pub from-all : (e : ℕ) (s : Store) (env : Received) (n : ℕ) (ps : Procs) → on_from e s env 0 n ps ≡ on e (listed_parallel s env n ps).sides
+pub from-all : (e : ℕ) (s : Store) (env : Received) (n : ℕ) (ps : Procs) → on_from e s env 0 n ps ≡ on e (listed_parallel s env n ps).actions
 unfolding on_from
 from-all e s env n no_procs = refl
 from-all e s env n (proc p ps) =
-    ap₂ (λ a b. a ++ b) (sym (on-behind e (Branch n) (listed s env p).sides)) (from-all e s env (n + 1) ps) ∙ sym (on-both e (behind (Branch n) (listed s env p).sides) (listed_parallel s env (n + 1) ps).sides)
+    ap₂ (λ a b. a ++ b) (sym (on-behind e (Branch n) (listed s env p).actions)) (from-all e s env (n + 1) ps) ∙ sym (on-both e (behind (Branch n) (listed s env p).actions) (listed_parallel s env (n + 1) ps).actions)
 
 -- one by one
 pub from-step : (e : ℕ) (s : Store) (env : Received) (ps : Procs) (k n m l : ℕ) (p : Proc) → proc_at ps k ≡ Some p → m ≡ n + k → l ≡ k + 1
-    → on_from e s env k n ps ≡ behind (Branch m) (on e (listed s env p).sides) ++ on_from e s env l n ps
+    → on_from e s env k n ps ≡ behind (Branch m) (on e (listed s env p).actions) ++ on_from e s env l n ps
 unfolding on_from
 from-step e s env no_procs k n m l p h a b = none-some p h
 from-step e s env (proc q ps) zero n m l p h a b =
     let first : n ≡ m = omega arith in
     let one : l ≡ suc zero = omega arith in
-    ap₂ (λ j (x : Proc). behind (Branch j) (on e (listed s env x).sides) ++ on_from e s env zero (n + 1) ps) first (some-injective q p h)
-    ∙ ap (λ j. behind (Branch m) (on e (listed s env p).sides) ++ on_from e s env j n (proc q ps)) (sym one)
+    ap₂ (λ j (x : Proc). behind (Branch j) (on e (listed s env x).actions) ++ on_from e s env zero (n + 1) ps) first (some-injective q p h)
+    ∙ ap (λ j. behind (Branch m) (on e (listed s env p).actions) ++ on_from e s env j n (proc q ps)) (sym one)
 from-step e s env (proc q ps) (suc k) n m l p h a b =
     let next : l ≡ suc (k + 1) = omega arith in
     from-step e s env ps k (n + 1) m (k + 1) p h (omega arith) refl
-    ∙ ap (λ j. behind (Branch m) (on e (listed s env p).sides) ++ on_from e s env j n (proc q ps)) (sym next)
+    ∙ ap (λ j. behind (Branch m) (on e (listed s env p).actions) ++ on_from e s env j n (proc q ps)) (sym next)
 
 -- those that do not use the channel are passed
 pub from-skip : (e : ℕ) (s : Store) (env : Received) (ps : Procs) (cs : Codes) (j k n : ℕ) → AllStemFrom ps cs → UnusedBetween e cs j k → j ≤ k → on_from e s env j n ps ≡ on_from e s env k n ps
@@ -152,7 +152,7 @@ parallel-rest e s env no_procs cs k m n t h none = refl
 parallel-rest e s env (proc p ps) no_code k m n t h none = absurd t
 parallel-rest e s env (proc p ps) (code c cs) k zero n t h none = none-some p (sym none)
 parallel-rest e s env (proc p ps) (code c cs) zero (suc m) n t h none =
-    ap₂ (λ (xs ys : List OfferedSide). behind (Branch n) xs ++ ys) (listed-none s p env c e t.0 (h 0 (omega arith) (omega arith)))
+    ap₂ (λ (xs ys : List LocalAction). behind (Branch n) xs ++ ys) (listed-none s p env c e t.0 (h 0 (omega arith) (omega arith)))
     (parallel-rest e s env ps cs zero m (n + 1) t.1 (λ i low high u. h (suc i) (omega arith) (omega (arith, high)) u) none)
 parallel-rest e s env (proc p ps) (code c cs) (suc k) (suc m) n t h none =
     parallel-rest e s env ps cs k m (n + 1) t.1 (λ i low high u. h (suc i) (omega (arith, low)) (omega (arith, high)) u) none
@@ -167,24 +167,24 @@ from-end e s env (x ∷ xs) (suc k) n l = from-end e s env xs k (n + 1) (omega (
 -- ---- children one by one
 -- a child that has something to do is at work
 pub child-here : (e : ℕ) (s : Store) (env : Received) (ps : Procs) (k : ℕ) (p : Proc) → proc_at ps k ≡ Some p → (listed s env p).over ≡ false
-    → on e (listed_sequence s env k 0 ps).sides ≡ behind (Ordered k) (on e (listed s env p).sides)
-child-here e s env ps k p h o = ap (λ (l : Listing). on e l.sides) (step-here s env ps k p h o) ∙ on-behind e (Ordered k) (listed s env p).sides
+    → on e (listed_sequence s env k 0 ps).actions ≡ behind (Ordered k) (on e (listed s env p).actions)
+child-here e s env ps k p h o = ap (λ (l : Listing). on e l.actions) (step-here s env ps k p h o) ∙ on-behind e (Ordered k) (listed s env p).actions
 
 -- ---- walks
 -- down, what is found there, and up again
-pub found-through : (x : Entry) (rs : List OfferedSide) (w u v : Walk) → u ≡ down x w → v ≡ added rs u → up v ≡ added (behind x rs) w
+pub found-through : (x : Entry) (rs : List LocalAction) (w u v : Walk) → u ≡ down x w → v ≡ added rs u → up v ≡ added (behind x rs) w
 found-through x rs w u v e h = ap up (h ∙ ap (added rs) e) ∙ through x rs w
 
 -- one branch more
 pub branch-added : (e : ℕ) (s : Store) (w u v : Walk) (ps : Procs) (cs : Codes) (j k l : ℕ) (p : Proc) → AllStemFrom ps cs → UnusedBetween e cs j k → j ≤ k → proc_at ps k ≡ Some p → l ≡ k + 1
     → (u.received ≡ w.received) × (added (on_from e s w.received j 0 ps) u ≡ added (on_from e s w.received 0 0 ps) w)
-    → v ≡ added (behind (Branch k) (on e (listed s u.received p).sides)) u
+    → v ≡ added (behind (Branch k) (on e (listed s u.received p).actions)) u
     → (v.received ≡ w.received) × (added (on_from e s w.received l 0 ps) v ≡ added (on_from e s w.received 0 0 ps) w)
 branch-added e s w u v ps cs j k l p t un low at next inv made =
     let rest = on_from e s w.received l 0 ps in
-    let here = behind (Branch k) (on e (listed s w.received p).sides) in
+    let here = behind (Branch k) (on e (listed s w.received p).actions) in
     let zero_plus : k ≡ 0 + k = omega arith in
-    let is : v ≡ added here u = made ∙ ap (λ env. added (behind (Branch k) (on e (listed s env p).sides)) u) inv.0 in (
+    let is : v ≡ added here u = made ∙ ap (λ env. added (behind (Branch k) (on e (listed s env p).actions)) u) inv.0 in (
       ap (λ (a : Walk). a.received) is ∙ inv.0,
       ap (added rest) is ∙ added-both here rest u
           ∙ ap (λ rs. added rs u) (sym (from-skip e s w.received ps cs j k 0 t un low ∙ from-step e s w.received ps k 0 k l p at zero_plus next)) ∙ inv.1,
@@ -192,13 +192,13 @@ branch-added e s w u v ps cs j k l p t un low at next inv made =
 
 -- what is found one entry down
 pub found-below : (x : Entry) (e : ℕ) (s : Store) (p : Proc) (w u v : Walk) → u ≡ down x w → v ≡ finds e s p u → up v ≡ finds_at x e s p w
-found-below x e s p w u v is h = ap up (h ∙ ap (finds e s p) is) ∙ through x (on e (listed s w.received p).sides) w
+found-below x e s p w u v is h = ap up (h ∙ ap (finds e s p) is) ∙ through x (on e (listed s w.received p).actions) w
 
 -- what is found of the child that is at work is what is found of the sequence
 pub child-found : (e : ℕ) (s : Store) (w u v : Walk) (ps : Procs) (k from : ℕ) (p : Proc) → u ≡ w → listed_sequence s w.received k 0 ps ≡ listed_sequence s w.received from 0 ps → proc_at ps k ≡ Some p
-    → (listed s w.received p).over ≡ false → v ≡ finds_at (Ordered k) e s p u → v ≡ added (on e (listed_sequence s w.received from 0 ps).sides) w
+    → (listed s w.received p).over ≡ false → v ≡ finds_at (Ordered k) e s p u → v ≡ added (on e (listed_sequence s w.received from 0 ps).actions) w
 child-found e s w u v ps k from p same rest at open_ h =
-    h ∙ ap (finds_at (Ordered k) e s p) same ∙ ap (λ l. added l w) (sym (child-here e s w.received ps k p at open_) ∙ ap (λ (l : Listing). on e l.sides) rest)
+    h ∙ ap (finds_at (Ordered k) e s p) same ∙ ap (λ l. added l w) (sym (child-here e s w.received ps k p at open_) ∙ ap (λ (l : Listing). on e l.actions) rest)
 
 -- the command of this number
 pub code-at : (cs : List made.Code) (i : ℕ) (x : made.Code) → i < length cs → x ≡ slice_index_or cs i x → code_at (row_of (map code_view cs)) i ≡ code_view x
@@ -217,5 +217,5 @@ from-done e s env xs j h = elim (cases_lt (length xs) j) [
 
 -- then all was found
 pub all-found : (e : ℕ) (s : Store) (w u : Walk) (ps : Procs) (j : ℕ) → on_from e s w.received j 0 ps ≡ [] → added (on_from e s w.received j 0 ps) u ≡ added (on_from e s w.received 0 0 ps) w
-    → u ≡ added (on e (listed_parallel s w.received 0 ps).sides) w
+    → u ≡ added (on e (listed_parallel s w.received 0 ps).actions) w
 all-found e s w u ps j done h = sym (added-none u) ∙ ap (λ l. added l u) (sym done) ∙ h ∙ ap (λ l. added l w) (from-all e s w.received 0 ps)

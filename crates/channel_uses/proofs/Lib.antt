@@ -1,11 +1,11 @@
-pub mod After
-pub mod Finding
-pub mod LeafLaws
-pub mod Locations
-pub mod OnChannel
-pub mod OnWalks
-pub mod Parts
-pub mod Processes
-pub mod RunStems
-pub mod Searches
-pub mod Stems
+pub mod public
+mod After
+mod Finding
+mod LeafLaws
+mod Locations
+mod OnChannel
+mod OnWalks
+mod Parts
+mod Processes
+mod Searches
+mod Stems

@@ -1,15 +1,15 @@
 -- What is known of the parts of children.
 use Rattle.std.proofs.Common.{◌≡◌, ℕ, zero, suc, ◌+◌, ◌≤◌, List, [], ◌∷◌, length, Some, None, Option, IfSome, slice_get, Bor, sym, ◌∙◌, subst, arith}
 use Rattle.std.specs.Option.{option_copied}
-use Rattle.runs.proofs.Options.{none-some, some-injective}
+use Rattle.runs.proofs.public.Options.{none-some, some-injective}
 use Rattle.process_tree.specs.Code.{Code, Codes, no_code, code, code_at, in_turn, side_by_side}
 use Rattle.last_events.specs.LastEvents.{Uses}
 use Rattle.last_events.specs.declared.uses.UseTable.{UseTable}
 use Rattle.channel_uses.specs.Uses.{used, all_used}
 use Rattle.channel_uses.specs.Table.{IsTableOf}
 use Rattle.channel_uses.specs.declared.table.ChannelUses.{ChannelUses}
-use Rattle.channel_uses.specs.walking.Located.{LocatedCode, LocatedRow}
-use Rattle.channel_uses.specs.walking.Parts.{end, parts, IsPart, AreParts, InTable, UnusedFrom, UnusedBetween}
+use Rattle.channel_uses.specs.internal.Located.{LocatedCode, LocatedRow}
+use Rattle.channel_uses.specs.internal.Parts.{end, parts, IsPart, AreParts, InTable, UnusedFrom, UnusedBetween}
 use Rattle.channel_uses.specs.declared.part.Part.{Part}
 use Rattle.channel_uses.proofs.Searches.{get-first, get-second}
 

@@ -1,7 +1,7 @@
 -- The numbers of the uses within the parts of a command.
 use Rattle.std.proofs.Common.{◌≡◌, ℕ, List, [], ◌∷◌, ◌++◌, length, map, refl, sym, ap, ◌∙◌, subst, append_assoc, append-nil, length-append, Option, option_map, rules}
 use Rattle.process_tree.specs.Code.{Once, Sender, Code, continues, halts, moves_once, may_be_held, repeats, decides, awaits, in_turn, side_by_side, drains, Codes, no_code, code}
-use Rattle.process_tree.specs.Left.{channel_of}
+use Rattle.process_tree.specs.Remaining.{channel_of}
 use Rattle.system.specs.Expression.{Expression, Decision}
 use Rattle.system.specs.Translation.{expression_of, decision_of}
 use Rattle.process_tree.specs.Translation.{row_of}
@@ -15,7 +15,7 @@ use Rattle.process_tree.specs.declared.code.Decide.{Decide}
 use Rattle.process_tree.specs.declared.code.Repeat.{Repeat}
 use Rattle.process_tree.specs.declared.code.Row.{Row}
 use Rattle.channel_uses.specs.Uses.{used_once, used, all_used}
-use Rattle.channel_uses.specs.walking.Parts.{first, end, parts, Spans, IsPart, AreParts, AddedUses, Numbered, NumberedRow}
+use Rattle.channel_uses.specs.internal.Parts.{first, end, parts, Spans, IsPart, AreParts, AddedUses, Numbered, NumberedRow}
 use Rattle.channel_uses.specs.declared.part.Part.{Part}
 
 -- a part has the uses of its command

@@ -4,17 +4,17 @@ use Rattle.std.specs.Global.{Box}
 use Rattle.address.specs.declared.Entry.TheVariants.{Ordered}
 use Rattle.value.specs.Word.{Word}
 use Rattle.system.specs.Expression.{Store, Expression, Decision}
-use Rattle.runs.proofs.Options.{none-some, some-injective}
+use Rattle.runs.proofs.public.Options.{none-some, some-injective}
 use Rattle.last_events.specs.LastEvents.{Uses}
 use Rattle.last_events.specs.declared.uses.UseTable.{UseTable}
 use Rattle.process_tree.specs.Children.{proc_at}
 use Rattle.process_tree.specs.Code.{Code, continues, halts, moves_once, may_be_held, repeats, decides, awaits, in_turn, side_by_side, drains, Codes, no_code, code, code_at}
-use Rattle.process_tree.specs.Left.{Received, with_value}
+use Rattle.process_tree.specs.Remaining.{Received, with_value}
 use Rattle.process_tree.specs.Proc.{Proc, turn, took, entered, sequence, parallel, drained, Procs, no_procs, proc, started, all_started}
 use Rattle.process_tree.specs.Translation.{row_of}
 use Rattle.process_tree.specs.View.{code_view, await_view, proc_view, begun_of, turn_of, opened_of}
-use Rattle.process_tree.specs.walking.Parts.{tested_view, gate_view}
-use Rattle.process_tree.specs.walking.Received.{puts_guard}
+use Rattle.process_tree.specs.internal.Parts.{tested_view, gate_view}
+use Rattle.process_tree.specs.internal.Received.{puts_guard}
 use Rattle.process_tree.specs.declared.code.Code as made_code
 use Rattle.process_tree.specs.declared.code.Await.{Await}
 use Rattle.process_tree.specs.declared.code.Code.TheFolds.{the_lemmas as code_lemmas}
@@ -25,18 +25,18 @@ use Rattle.process_tree.specs.declared.proc.Gate.{Gate}
 use Rattle.process_tree.specs.declared.proc.Gate.TheFolds.{the_lemmas}
 use Rattle.process_tree.specs.declared.proc.Tested as made_tested
 use Rattle.process_tree.specs.declared.proc.Tested.{Tested}
-use Rattle.offered_sides.specs.walking.Listed.{side_at, behind, again_at, Listing, nothing, at_work, one_after, listed, listed_sequence}
-use Rattle.offered_sides.specs.walking.Walk.{Walk, added}
-use Rattle.offered_sides.specs.declared.side.OfferedSide.{OfferedSide}
-use Rattle.offered_sides.specs.declared.side.Side.TheVariants.{Closes}
-use Rattle.offered_sides.proofs.Begun.{begun-row, row-is, row-past}
-use Rattle.offered_sides.proofs.OneByOne.{over-nothing, listed-step}
-use Rattle.offered_sides.proofs.Walks.{added-none, added-both}
+use Rattle.local_actions.specs.internal.Listed.{action_at, behind, again_at, Listing, nothing, at_work, one_after, listed, listed_sequence}
+use Rattle.local_actions.specs.internal.Walk.{Walk, added}
+use Rattle.local_actions.specs.declared.action.LocalAction.{LocalAction}
+use Rattle.local_actions.specs.declared.action.ActionKind.TheVariants.{Closes}
+use Rattle.local_actions.proofs.public.Begun.{begun-row, row-is, row-past}
+use Rattle.local_actions.proofs.public.OneByOne.{over-nothing, listed-step}
+use Rattle.local_actions.proofs.public.Walks.{added-none, added-both}
 use Rattle.channel_uses.specs.OnChannel.{on}
 use Rattle.channel_uses.specs.StemsFrom.{StemsFrom, AllStemFrom}
 use Rattle.channel_uses.specs.Uses.{all_used}
-use Rattle.channel_uses.specs.walking.Located.{LocatedCode, LocatedRow, LocatedProc, LocatedProcs, AgreeFrom, ClosesOn, finds, finds_at}
-use Rattle.channel_uses.specs.walking.Parts.{end, InTable, UnusedBetween}
+use Rattle.channel_uses.specs.internal.Located.{LocatedCode, LocatedRow, LocatedProc, LocatedProcs, AgreeFrom, ClosesOn, finds, finds_at}
+use Rattle.channel_uses.specs.internal.Parts.{end, InTable, UnusedBetween}
 use Rattle.channel_uses.specs.declared.part.Part.{Part}
 use Rattle.channel_uses.proofs.Finding.{after-none, listed-none}
 use Rattle.channel_uses.proofs.OnChannel.{on-behind}
@@ -172,7 +172,7 @@ agree-row xs row cs rs k t l e i m =
     ∙ ap (λ (ys : List made_code.Code). code_at (row_of (map code_view ys)) i) (sym e)
 
 -- ---- where none of the others uses the channel
-pub sequence-rest : (e : ℕ) (s : Store) (env : Received) (ps : Procs) (cs : Codes) (k m n : ℕ) → AllStemFrom ps cs → UnusedBetween e cs k m → proc_at ps m ≡ None → on e (listed_sequence s env k n ps).sides ≡ []
+pub sequence-rest : (e : ℕ) (s : Store) (env : Received) (ps : Procs) (cs : Codes) (k m n : ℕ) → AllStemFrom ps cs → UnusedBetween e cs k m → proc_at ps m ≡ None → on e (listed_sequence s env k n ps).actions ≡ []
 sequence-rest e s env no_procs cs zero m n t h none = refl
 sequence-rest e s env no_procs cs (suc k) m n t h none = refl
 sequence-rest e s env (proc p ps) no_code k m n t h none = absurd t
@@ -185,12 +185,12 @@ sequence-rest e s env (proc p ps) (code c cs) (suc k) (suc m) n t h none =
 
 -- ---- what is found of the forms
 -- a child, where what comes after it offers nothing on the channel
-child-only : (e i : ℕ) (x rest : Listing) → (x.over ≡ true → x.sides ≡ []) → on e rest.sides ≡ [] → on e (one_after i x rest).sides ≡ behind (Ordered i) (on e x.sides)
+child-only : (e i : ℕ) (x rest : Listing) → (x.over ≡ true → x.actions ≡ []) → on e rest.actions ≡ [] → on e (one_after i x rest).actions ≡ behind (Ordered i) (on e x.actions)
 child-only e i x rest h k = pick x.over h
   where
-    pick : (b : Bool) → (b ≡ true → x.sides ≡ []) → on e (cond b rest (at_work (behind (Ordered i) x.sides))).sides ≡ behind (Ordered i) (on e x.sides)
+    pick : (b : Bool) → (b ≡ true → x.actions ≡ []) → on e (cond b rest (at_work (behind (Ordered i) x.actions))).actions ≡ behind (Ordered i) (on e x.actions)
     pick true h = k ∙ sym (ap (λ l. behind (Ordered i) (on e l)) (h refl))
-    pick false h = on-behind e (Ordered i) x.sides
+    pick false h = on-behind e (Ordered i) x.actions
 
 again-none : (e : ℕ) (s : Store) (n : ℕ) (g : Option Expression) → on e (again_at s n g) ≡ []
 again-none e s n None = refl
@@ -227,21 +227,21 @@ gate-view ds cs e v over t q p is here = ap (λ (z : Gate). gate_view z ds cs) i
     view = search (rules, the_lemmas)
 
 -- an arm offers what its body does, and its close
-arm-only : (e d : ℕ) (x : Listing) → (x.over ≡ true → x.sides ≡ [])
-    → behind (Ordered 1) (on e x.sides) ++ cond x.over (on e (side_at (Ordered 2 ∷ []) (Closes d) ∷ [])) [] ≡ on e (one_after 1 x (at_work (side_at (Ordered 2 ∷ []) (Closes d) ∷ []))).sides
+arm-only : (e d : ℕ) (x : Listing) → (x.over ≡ true → x.actions ≡ [])
+    → behind (Ordered 1) (on e x.actions) ++ cond x.over (on e (action_at (Ordered 2 ∷ []) (Closes d) ∷ [])) [] ≡ on e (one_after 1 x (at_work (action_at (Ordered 2 ∷ []) (Closes d) ∷ []))).actions
 arm-only e d x h = pick x.over h
   where
-    pick : (b : Bool) → (b ≡ true → x.sides ≡ [])
-        → behind (Ordered 1) (on e x.sides) ++ cond b (on e (side_at (Ordered 2 ∷ []) (Closes d) ∷ [])) [] ≡ on e (cond b (at_work (side_at (Ordered 2 ∷ []) (Closes d) ∷ [])) (at_work (behind (Ordered 1) x.sides))).sides
-    pick true h = ap (λ l. behind (Ordered 1) (on e l) ++ on e (side_at (Ordered 2 ∷ []) (Closes d) ∷ [])) (h refl)
-    pick false h = append-nil (behind (Ordered 1) (on e x.sides)) ∙ sym (on-behind e (Ordered 1) x.sides)
+    pick : (b : Bool) → (b ≡ true → x.actions ≡ [])
+        → behind (Ordered 1) (on e x.actions) ++ cond b (on e (action_at (Ordered 2 ∷ []) (Closes d) ∷ [])) [] ≡ on e (cond b (at_work (action_at (Ordered 2 ∷ []) (Closes d) ∷ [])) (at_work (behind (Ordered 1) x.actions))).actions
+    pick true h = ap (λ l. behind (Ordered 1) (on e l) ++ on e (action_at (Ordered 2 ∷ []) (Closes d) ∷ [])) (h refl)
+    pick false h = append-nil (behind (Ordered 1) (on e x.actions)) ∙ sym (on-behind e (Ordered 1) x.actions)
 
 pub arm-found : (e d : ℕ) (s : Store) (ds : List ℕ) (cs : Codes) (x : Option Word) (q : Proc) (over : Bool) (w u v : Walk) → over ≡ false
-    → u ≡ added (behind (Ordered 1) (on e (listed s (with_value d x w.received) q).sides)) w → ClosesOn e d q u v → v ≡ finds e s (opened_of over ds cs d x q) w
+    → u ≡ added (behind (Ordered 1) (on e (listed s (with_value d x w.received) q).actions)) w → ClosesOn e d q u v → v ≡ finds e s (opened_of over ds cs d x q) w
 arm-found e d s ds cs x q over w u v f h k =
     let env = with_value d x w.received in
-    let close : List OfferedSide = cond (listed s env q).over (on e (side_at (Ordered 2 ∷ []) (Closes d) ∷ [])) [] in
-    k s env ∙ ap (added close) h ∙ added-both (behind (Ordered 1) (on e (listed s env q).sides)) close w
+    let close : List LocalAction = cond (listed s env q).over (on e (action_at (Ordered 2 ∷ []) (Closes d) ∷ [])) [] in
+    k s env ∙ ap (added close) h ∙ added-both (behind (Ordered 1) (on e (listed s env q).actions)) close w
     ∙ ap (λ l. added l w) (arm-only e d (listed s env q) (over-nothing s env q))
     ∙ sym (ap (λ o. finds e s (opened_of o ds cs d x q) w) f)
 
@@ -251,29 +251,29 @@ pub passed-on : (e : ℕ) (s : Store) (p : Proc) (j : ℕ) (w v : Walk) → (lis
 passed-on e s p j w v o h = h ∙ ap (λ l. added (behind (Ordered j) (on e l)) w) (over-nothing s w.received p o) ∙ added-none w
 
 -- one that was found is not over
-pub found-open : (e : ℕ) (s : Store) (p : Proc) (j : ℕ) (w v : Walk) → v ≡ finds_at (Ordered j) e s p w → length w.sides < length v.sides → (listed s w.received p).over ≡ false
+pub found-open : (e : ℕ) (s : Store) (p : Proc) (j : ℕ) (w v : Walk) → v ≡ finds_at (Ordered j) e s p w → length w.actions < length v.actions → (listed s w.received p).over ≡ false
 found-open e s p j w v h less = pick (listed s w.received p).over refl
   where
     pick : (b : Bool) → (listed s w.received p).over ≡ b → b ≡ false
-    pick true o = let same : length v.sides ≡ length w.sides = ap (λ (x : Walk). length x.sides) (passed-on e s p j w v o h) in absurd (omega (arith, less, same))
+    pick true o = let same : length v.actions ≡ length w.actions = ap (λ (x : Walk). length x.actions) (passed-on e s p j w v o h) in absurd (omega (arith, less, same))
     pick false o = refl
 
 -- where no later one uses the channel the child is all
 pub child-last : (e : ℕ) (s : Store) (w u v : Walk) (ps : Procs) (k from : ℕ) (p : Proc) → u ≡ w → listed_sequence s w.received k 0 ps ≡ listed_sequence s w.received from 0 ps → proc_at ps k ≡ Some p
-    → on e (listed_sequence s w.received (suc k) 0 ps).sides ≡ [] → v ≡ finds_at (Ordered k) e s p u → v ≡ added (on e (listed_sequence s w.received from 0 ps).sides) w
+    → on e (listed_sequence s w.received (suc k) 0 ps).actions ≡ [] → v ≡ finds_at (Ordered k) e s p u → v ≡ added (on e (listed_sequence s w.received from 0 ps).actions) w
 child-last e s w u v ps k from p same rest at none h =
     h ∙ ap (finds_at (Ordered k) e s p) same
     ∙ ap (λ l. added l w) (sym (child-only e k (listed s w.received p) (listed_sequence s w.received (suc k) 0 ps) (over-nothing s w.received p) none)
-    ∙ ap (λ (l : Listing). on e l.sides) (sym (listed-step s w.received ps k 0 k p at (omega arith)) ∙ rest))
+    ∙ ap (λ (l : Listing). on e l.actions) (sym (listed-step s w.received ps k 0 k p at (omega arith)) ∙ rest))
 
 -- the children that have not begun
 pub rest-found : (e : ℕ) (s : Store) (xs : List made.Proc) (row : Row) (rs : List made_code.Code) (w u v : Walk) (k from : ℕ) → min (length xs) (length row.codes) ≤ k → rs ≡ row.codes → u ≡ w
     → listed_sequence s w.received k 0 (begun-row xs row) ≡ listed_sequence s w.received from 0 (begun-row xs row)
-    → v ≡ added (on e (listed_sequence s u.received k 0 (all_started (row_of (map code_view rs)))).sides) u → v ≡ added (on e (listed_sequence s w.received from 0 (begun-row xs row)).sides) w
+    → v ≡ added (on e (listed_sequence s u.received k 0 (all_started (row_of (map code_view rs)))).actions) u → v ≡ added (on e (listed_sequence s w.received from 0 (begun-row xs row)).actions) w
 rest-found e s xs row rs w u v k from l is same rest h =
-    h ∙ ap (λ (z : Walk). added (on e (listed_sequence s z.received k 0 (all_started (row_of (map code_view rs)))).sides) z) same
-    ∙ ap (λ (ys : List made_code.Code). added (on e (listed_sequence s w.received k 0 (all_started (row_of (map code_view ys)))).sides) w) is
-    ∙ ap (λ (x : Listing). added (on e x.sides) w) (sym (row-past s w.received xs row k l) ∙ rest)
+    h ∙ ap (λ (z : Walk). added (on e (listed_sequence s z.received k 0 (all_started (row_of (map code_view rs)))).actions) z) same
+    ∙ ap (λ (ys : List made_code.Code). added (on e (listed_sequence s w.received k 0 (all_started (row_of (map code_view ys)))).actions) w) is
+    ∙ ap (λ (x : Listing). added (on e x.actions) w) (sym (row-past s w.received xs row k l) ∙ rest)
 
 -- ---- the whole tree
 pub tree-located : (table : UseTable) (part : Option (Bor Part)) (c : Code) (p q : Proc) → LocatedCode table part c → q ≡ p → StemsFrom p c → LocatedProc table part q

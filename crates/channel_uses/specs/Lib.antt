@@ -2,4 +2,4 @@ pub mod OnChannel
 pub mod StemsFrom
 pub mod Table
 pub mod Uses
-pub mod walking
+pub mod internal

@@ -1,19 +1,20 @@
--- The sides of events on a channel, and the law that a process offers none on a channel that its command does not use.
+-- The actions of events on a channel, and the law that a process offers none on a channel that its command does not
+-- use.
 use Rattle.std.specs.Prelude.{◌≡◌, ℕ, ◌==◌, List, [], ◌∷◌, Bool, false, cond}
 use Rattle.syntax.specs.Lists.{In}
 use Rattle.system.specs.Expression.{Store}
 use Rattle.process_tree.specs.Code.{Code}
 use Rattle.process_tree.specs.Proc.{Proc}
-use Rattle.process_tree.specs.Left.{Received, left}
-use Rattle.offered_sides.specs.walking.Listed.{sides_of_residual}
-use Rattle.offered_sides.specs.declared.side.OfferedSide.{OfferedSide}
-use Rattle.offered_sides.specs.declared.side.Side.{Side}
-use Rattle.offered_sides.specs.declared.side.Side.TheVariants.{Sends, Receives, Syncs, Opens, Releases, Closes}
+use Rattle.process_tree.specs.Remaining.{Received, remaining}
+use Rattle.local_actions.specs.internal.Listed.{actions_of_residual}
+use Rattle.local_actions.specs.declared.action.LocalAction.{LocalAction}
+use Rattle.local_actions.specs.declared.action.ActionKind.{ActionKind}
+use Rattle.local_actions.specs.declared.action.ActionKind.TheVariants.{Sends, Receives, Syncs, Opens, Releases, Closes}
 use Rattle.channel_uses.specs.StemsFrom.{StemsFrom}
 use Rattle.channel_uses.specs.Uses.{used}
 
--- whether the side is that of an event on channel c
-abbrev pub is_on : ℕ → Side → Bool
+-- whether the action is that of an event on channel c
+abbrev pub is_on : ℕ → ActionKind → Bool
 is_on c (Sends d v read) = d == c
 is_on c (Receives d x) = d == c
 is_on c (Syncs d) = d == c
@@ -22,13 +23,13 @@ is_on c (Releases d) = d == c
 is_on c (Closes d) = d == c
 is_on c _ = false
 
--- those of the sides that are on channel c
-abbrev pub on : ℕ → List OfferedSide → List OfferedSide
+-- those of the actions that are on channel c
+abbrev pub on : ℕ → List LocalAction → List LocalAction
 on c [] = []
-on c (r ∷ rs) = cond (is_on c r.side) (r ∷ on c rs) (on c rs)
+on c (r ∷ rs) = cond (is_on c r.action) (r ∷ on c rs) (on c rs)
 
 -- a process that stems from a command which does not use channel e offers nothing on it
 abbrev pub OffersNothingUnused : Type 0
 OffersNothingUnused =
     (s : Store) (p : Proc) (env : Received) (c : Code) (e : ℕ) → StemsFrom p c → (In e (used c) → ⊥) →
-    on e (sides_of_residual s (left env p)) ≡ []
+    on e (actions_of_residual s (remaining env p)) ≡ []

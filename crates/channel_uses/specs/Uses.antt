@@ -1,7 +1,7 @@
 -- The uses of channels by a command, in the order of the text, and the tables that are made of them.
 use Rattle.std.specs.Prelude.{◌≡◌, ◌↔◌, ℕ, List, [], ◌∷◌, ◌++◌, Some, slice_get}
 use Rattle.process_tree.specs.Code.{Once, assigning, receiving, Code, continues, halts, moves_once, may_be_held, repeats, decides, awaits, in_turn, side_by_side, drains, Codes, no_code, code}
-use Rattle.process_tree.specs.Left.{channel_of}
+use Rattle.process_tree.specs.Remaining.{channel_of}
 use Rattle.last_events.specs.LastEvents.{Uses}
 use Rattle.last_events.specs.declared.uses.UseTable.{UseTable}
 

@@ -3,21 +3,21 @@ ghost use Rattle.std.specs.Prelude.{◌≡◌, ℕ, List, Option, map, OnOk};
 ghost use Rattle.address.specs.declared.Entry.TheVariants.{Ordered as IsOrdered, Branch as IsBranch};
 ghost use Rattle.system.specs.Expression as model_expression;
 ghost use Rattle.process_tree.specs.Code as model_code;
-ghost use Rattle.process_tree.specs.Left.{with_value};
+ghost use Rattle.process_tree.specs.Remaining.{with_value};
 ghost use Rattle.process_tree.specs.Proc as model;
 ghost use Rattle.process_tree.specs.View.{once_view, sender_view, phase_view, proc_view, procs_of, begun_of, row_view, await_view, turn_of, opened_of};
-ghost use Rattle.process_tree.specs.walking.Parts.{turns_view, tested_view, gate_view};
-ghost use Rattle.offered_sides.specs.walking.Listed.{behind, listed};
-ghost use Rattle.offered_sides.specs.walking.Walk.{added};
+ghost use Rattle.process_tree.specs.internal.Parts.{turns_view, tested_view, gate_view};
+ghost use Rattle.local_actions.specs.internal.Listed.{behind, listed};
+ghost use Rattle.local_actions.specs.internal.Walk.{added};
 ghost use Rattle.channel_uses.specs.OnChannel.{on};
-ghost use Rattle.channel_uses.specs.walking.Located.{ClosesOn, LocatedProc, LocatedProcs, finds, finds_at};
+ghost use Rattle.channel_uses.specs.internal.Located.{ClosesOn, LocatedProc, LocatedProcs, finds, finds_at};
 
 use crate::fresh::fresh_in_turn_on;
 use crate::leaves::{arms_on, drain_on, held_on, once_on, waiting_on};
 use crate::located::{next_user, none_later, only_arm, part_at, part_of_only};
 use crate::part::Part;
 use last_events::UseTable;
-use offered_sides::{Around, body_of_turn, first_at_work, is_over, list_close};
+use local_actions::{Cursor, body_of_turn, first_at_work, is_over, list_close};
 use process_tree::{Await, Gate, Once, Phase, Proc, Row, Sender, Tested, Turns};
 use std::alloc::{AllocError, Global};
 use value::Value;
@@ -31,22 +31,22 @@ pub(crate) fn list_on(
     table: &UseTable,
     channel: u32,
     values: &[Value],
-    around: &mut Around,
+    cursor: &mut Cursor,
 ) -> Result<(), AllocError>
     ensures { LocatedProc table.now part.entry (proc_view proc.now) →
-        OnOk result (around.new ≡ finds channel values.now (proc_view proc.now) around.old) }
+        OnOk result (cursor.new ≡ finds channel values.now (proc_view proc.now) cursor.old) }
 {
     match proc {
         Proc::Idle | Proc::Stopped => Ok(()),
-        Proc::Once(once, made) => unmade_on(alloc, once.get(), *made, channel, values, around),
+        Proc::Once(once, made) => unmade_on(alloc, once.get(), *made, channel, values, cursor),
         Proc::Sender(sender, phase) => {
-            phase_on(alloc, sender.get(), *phase, channel, values, around)
+            phase_on(alloc, sender.get(), *phase, channel, values, cursor)
         }
-        Proc::Loop(_, turns) => loop_on(alloc, turns, part, table, channel, values, around),
-        Proc::Test(_, tested) => test_on(alloc, tested, part, table, channel, values, around),
+        Proc::Loop(_, turns) => loop_on(alloc, turns, part, table, channel, values, cursor),
+        Proc::Test(_, tested) => test_on(alloc, tested, part, table, channel, values, cursor),
         Proc::Arms(waiting, gate) => {
             let waiting = waiting.get();
-            gate_on(alloc, gate, waiting, part, table, channel, values, around)
+            gate_on(alloc, gate, waiting, part, table, channel, values, cursor)
         }
         Proc::Sequence(row, begun) => {
             let begun = begun.as_slice();
@@ -58,14 +58,14 @@ pub(crate) fn list_on(
                 table,
                 channel,
                 values,
-                around,
+                cursor,
             )
         }
         Proc::Parallel(procs) => {
             let procs = procs.as_slice();
-            parallel_on(alloc, procs, part, table, channel, values, around)
+            parallel_on(alloc, procs, part, table, channel, values, cursor)
         }
-        Proc::Drained(port, count) => drain_on(alloc, *port, *count, channel, around),
+        Proc::Drained(port, count) => drain_on(alloc, *port, *count, channel, cursor),
     }
 }
 
@@ -76,14 +76,14 @@ fn unmade_on(
     made: bool,
     channel: u32,
     values: &[Value],
-    around: &mut Around,
+    cursor: &mut Cursor,
 ) -> Result<(), AllocError>
-    ensures { OnOk result (around.new ≡ finds channel values.now (model.once (once_view once.now) made) around.old) }
+    ensures { OnOk result (cursor.new ≡ finds channel values.now (model.once (once_view once.now) made) cursor.old) }
 {
     if made {
         return Ok(());
     }
-    once_on(alloc, once, channel, values, around)
+    once_on(alloc, once, channel, values, cursor)
 }
 
 /// Lists a send or sync, unless it is past.
@@ -93,14 +93,14 @@ fn phase_on(
     phase: Phase,
     channel: u32,
     values: &[Value],
-    around: &mut Around,
+    cursor: &mut Cursor,
 ) -> Result<(), AllocError>
-    ensures { OnOk result (around.new
-        ≡ finds channel values.now (model.sender (sender_view sender.now) (phase_view phase)) around.old) }
+    ensures { OnOk result (cursor.new
+        ≡ finds channel values.now (model.sender (sender_view sender.now) (phase_view phase)) cursor.old) }
 {
     match phase {
-        Phase::Waiting => waiting_on(alloc, sender, channel, values, around),
-        Phase::Holding => held_on(alloc, sender, channel, around),
+        Phase::Waiting => waiting_on(alloc, sender, channel, values, cursor),
+        Phase::Holding => held_on(alloc, sender, channel, cursor),
         Phase::Past => Ok(()),
     }
 }
@@ -114,17 +114,17 @@ fn loop_on(
     table: &UseTable,
     channel: u32,
     values: &[Value],
-    around: &mut Around,
+    cursor: &mut Cursor,
 ) -> Result<(), AllocError>
     ensures { (g : Option model_expression.Expression) (c : model_code.Code) →
         LocatedProc table.now part.entry (turns_view turns.now g c) →
-        OnOk result (around.new ≡ finds channel values.now (turns_view turns.now g c) around.old) }
+        OnOk result (cursor.new ≡ finds channel values.now (turns_view turns.now g c) cursor.old) }
 {
     match turns {
         Turns::Fresh | Turns::EndedAtOnce => Ok(()),
         Turns::Turn(turn, over, body) => {
             turn_on(
-                alloc, body, *turn, *over, part, table, channel, values, around,
+                alloc, body, *turn, *over, part, table, channel, values, cursor,
             )
         }
     }
@@ -141,17 +141,17 @@ fn turn_on(
     table: &UseTable,
     channel: u32,
     values: &[Value],
-    around: &mut Around,
+    cursor: &mut Cursor,
 ) -> Result<(), AllocError>
     ensures { (g : Option model_expression.Expression) (c : model_code.Code) →
         LocatedProc table.now part.entry (turn_of over g c turn (proc_view body.now)) →
-        OnOk result (around.new ≡ finds channel values.now (turn_of over g c turn (proc_view body.now)) around.old) }
+        OnOk result (cursor.new ≡ finds channel values.now (turn_of over g c turn (proc_view body.now)) cursor.old) }
 {
     if over {
         return Ok(());
     }
     let number = body_of_turn(turn)?;
-    child_on(alloc, body, part, number, table, channel, values, around)
+    child_on(alloc, body, part, number, table, channel, values, cursor)
 }
 
 /// Lists what an `if` or `case` offers on the channel.
@@ -163,17 +163,17 @@ fn test_on(
     table: &UseTable,
     channel: u32,
     values: &[Value],
-    around: &mut Around,
+    cursor: &mut Cursor,
 ) -> Result<(), AllocError>
     ensures { (d : model_expression.Decision) (cs : model_code.Codes) →
         LocatedProc table.now part.entry (tested_view tested.now d cs) →
-        OnOk result (around.new ≡ finds channel values.now (tested_view tested.now d cs) around.old) }
+        OnOk result (cursor.new ≡ finds channel values.now (tested_view tested.now d cs) cursor.old) }
 {
     match tested {
         Tested::Untested | Tested::Skipped => Ok(()),
         Tested::Took(arm, body) => {
             let part = part_at(part, *arm as usize);
-            child_on(alloc, body, part, 1, table, channel, values, around)
+            child_on(alloc, body, part, 1, table, channel, values, cursor)
         }
     }
 }
@@ -188,22 +188,22 @@ fn gate_on(
     table: &UseTable,
     channel: u32,
     values: &[Value],
-    around: &mut Around,
+    cursor: &mut Cursor,
 ) -> Result<(), AllocError>
     ensures { LocatedProc table.now part.entry
         (gate_view gate.now (await_view waiting.now).0 (await_view waiting.now).1) →
         OnOk result
-        (around.new
+        (cursor.new
         ≡ finds channel values.now
-        (gate_view gate.now (await_view waiting.now).0 (await_view waiting.now).1) around.old) }
+        (gate_view gate.now (await_view waiting.now).0 (await_view waiting.now).1) cursor.old) }
 {
     let channels = waiting.channels.as_slice();
     match gate {
-        Gate::Unopened => arms_on(alloc, channels, channel, around),
+        Gate::Unopened => arms_on(alloc, channels, channel, cursor),
         Gate::Opened(opened, value, over, body) => {
             let part = part_of_only(part, only_arm(channels, *opened));
             opened_on(
-                alloc, body, *opened, *value, *over, part, table, channel, values, around,
+                alloc, body, *opened, *value, *over, part, table, channel, values, cursor,
             )
         }
     }
@@ -221,19 +221,19 @@ fn opened_on(
     table: &UseTable,
     channel: u32,
     values: &[Value],
-    around: &mut Around,
+    cursor: &mut Cursor,
 ) -> Result<(), AllocError>
     ensures { (ds : List ℕ) (cs : model_code.Codes) → LocatedProc table.now part.entry (proc_view body.now) →
         OnOk result
-        (around.new ≡ finds channel values.now (opened_of over ds cs opened value (proc_view body.now)) around.old) }
+        (cursor.new ≡ finds channel values.now (opened_of over ds cs opened value (proc_view body.now)) cursor.old) }
 {
     if over {
         return Ok(());
     }
     body_on(
-        alloc, body, opened, value, part, table, channel, values, around,
+        alloc, body, opened, value, part, table, channel, values, cursor,
     )?;
-    close_on(alloc, body, opened, channel, around)
+    close_on(alloc, body, opened, channel, cursor)
 }
 
 /// Lists what the body of an arm offers on the channel, which opened on another and received this, if anything.
@@ -247,20 +247,20 @@ fn body_on(
     table: &UseTable,
     channel: u32,
     values: &[Value],
-    around: &mut Around,
+    cursor: &mut Cursor,
 ) -> Result<(), AllocError>
     ensures { LocatedProc table.now part.entry (proc_view body.now) →
         OnOk result
-        (around.new
+        (cursor.new
         ≡ added
         (behind (IsOrdered 1)
-        (on channel (listed values.now (with_value opened value around.old.received) (proc_view body.now)).sides))
-        around.old) }
+        (on channel (listed values.now (with_value opened value cursor.old.received) (proc_view body.now)).actions))
+        cursor.old) }
 {
-    around.receive(opened, value)?;
-    child_on(alloc, body, part, 1, table, channel, values, around)?;
+    cursor.receive(opened, value)?;
+    child_on(alloc, body, part, 1, table, channel, values, cursor)?;
     if value.is_some() {
-        around.forget();
+        cursor.forget();
     }
     Ok(())
 }
@@ -271,15 +271,15 @@ fn close_on(
     body: &Proc,
     opened: u32,
     channel: u32,
-    around: &mut Around,
+    cursor: &mut Cursor,
 ) -> Result<(), AllocError>
-    ensures { OnOk result (ClosesOn channel opened (proc_view body.now) around.old around.new) }
+    ensures { OnOk result (ClosesOn channel opened (proc_view body.now) cursor.old cursor.new) }
 {
     if opened != channel {
         return Ok(());
     }
     if is_over(body) {
-        return list_close(alloc, opened, around);
+        return list_close(alloc, opened, cursor);
     }
     Ok(())
 }
@@ -295,17 +295,17 @@ fn sequence_on(
     table: &UseTable,
     channel: u32,
     values: &[Value],
-    around: &mut Around,
+    cursor: &mut Cursor,
 ) -> Result<(), AllocError>
     ensures { LocatedProcs table.now part.entry (begun_of (map proc_view begun.now) (row_view row.now)) →
         OnOk result
-        (around.new
+        (cursor.new
         ≡ finds channel values.now
-        (model.sequence (begun_of (map proc_view begun.now) (row_view row.now))) around.old) }
+        (model.sequence (begun_of (map proc_view begun.now) (row_view row.now))) cursor.old) }
 {
     let count = row.codes.len();
     let end = begun.len().min(count);
-    let found = around.count();
+    let found = cursor.count();
     let mut number = first_at_work(begun, row);
     'children: while number < end {
         let child = &begun[number];
@@ -318,9 +318,9 @@ fn sequence_on(
             table,
             channel,
             values,
-            around,
+            cursor,
         )?;
-        if around.count() > found {
+        if cursor.count() > found {
             return Ok(());
         }
         if none_later(table, channel, part, number + 1, count) {
@@ -332,7 +332,7 @@ fn sequence_on(
         number += 1;
     }
     let codes = row.codes.as_slice();
-    fresh_in_turn_on(alloc, codes, number, part, table, channel, values, around)
+    fresh_in_turn_on(alloc, codes, number, part, table, channel, values, cursor)
 }
 
 /// Lists what the child of this number in a sequence offers on the channel.
@@ -345,14 +345,14 @@ fn child_on(
     table: &UseTable,
     channel: u32,
     values: &[Value],
-    around: &mut Around,
+    cursor: &mut Cursor,
 ) -> Result<(), AllocError>
     ensures { LocatedProc table.now part.entry (proc_view child.now) →
-        OnOk result (around.new ≡ finds_at (IsOrdered number) channel values.now (proc_view child.now) around.old) }
+        OnOk result (cursor.new ≡ finds_at (IsOrdered number) channel values.now (proc_view child.now) cursor.old) }
 {
-    around.enter_child(number)?;
-    list_on(alloc, child, part, table, channel, values, around)?;
-    around.leave();
+    cursor.enter_child(number)?;
+    list_on(alloc, child, part, table, channel, values, cursor)?;
+    cursor.leave();
     Ok(())
 }
 
@@ -365,11 +365,11 @@ fn parallel_on(
     table: &UseTable,
     channel: u32,
     values: &[Value],
-    around: &mut Around,
+    cursor: &mut Cursor,
 ) -> Result<(), AllocError>
     ensures { LocatedProcs table.now part.entry (procs_of (map proc_view procs.now)) →
         OnOk result
-        (around.new ≡ finds channel values.now (model.parallel (procs_of (map proc_view procs.now))) around.old) }
+        (cursor.new ≡ finds channel values.now (model.parallel (procs_of (map proc_view procs.now))) cursor.old) }
 {
     let mut number = 0;
     'branches: while let Some(next) = next_user(table, channel, part, number, procs.len()) {
@@ -382,7 +382,7 @@ fn parallel_on(
             table,
             channel,
             values,
-            around,
+            cursor,
         )?;
         number = next + 1;
     }
@@ -399,13 +399,13 @@ fn branch_on(
     table: &UseTable,
     channel: u32,
     values: &[Value],
-    around: &mut Around,
+    cursor: &mut Cursor,
 ) -> Result<(), AllocError>
     ensures { LocatedProc table.now part.entry (proc_view child.now) →
-        OnOk result (around.new ≡ finds_at (IsBranch number) channel values.now (proc_view child.now) around.old) }
+        OnOk result (cursor.new ≡ finds_at (IsBranch number) channel values.now (proc_view child.now) cursor.old) }
 {
-    around.enter_branch(number)?;
-    list_on(alloc, child, part, table, channel, values, around)?;
-    around.leave();
+    cursor.enter_branch(number)?;
+    list_on(alloc, child, part, table, channel, values, cursor)?;
+    cursor.leave();
     Ok(())
 }

@@ -5,16 +5,16 @@ ghost use Rattle.process_tree.specs.Code.{Codes};
 ghost use Rattle.process_tree.specs.Proc.{started, all_started};
 ghost use Rattle.process_tree.specs.Translation.{row_of};
 ghost use Rattle.process_tree.specs.View.{code_view};
-ghost use Rattle.offered_sides.specs.walking.Listed.{listed_sequence, listed_parallel};
-ghost use Rattle.offered_sides.specs.walking.Walk.{added};
+ghost use Rattle.local_actions.specs.internal.Listed.{listed_sequence, listed_parallel};
+ghost use Rattle.local_actions.specs.internal.Walk.{added};
 ghost use Rattle.channel_uses.specs.OnChannel.{on};
-ghost use Rattle.channel_uses.specs.walking.Located.{AgreeFrom, LocatedCode, LocatedRow, finds, finds_at};
+ghost use Rattle.channel_uses.specs.internal.Located.{AgreeFrom, LocatedCode, LocatedRow, finds, finds_at};
 
 use crate::leaves::{arms_on, drain_on, once_on, waiting_on};
 use crate::located::{next_user, part_at};
 use crate::part::Part;
 use last_events::UseTable;
-use offered_sides::{Around, starts_over};
+use local_actions::{Cursor, starts_over};
 use process_tree::Code;
 use std::alloc::{AllocError, Global};
 use value::Value;
@@ -29,25 +29,25 @@ pub(crate) fn fresh_on(
     table: &UseTable,
     channel: u32,
     values: &[Value],
-    around: &mut Around,
+    cursor: &mut Cursor,
 ) -> Result<(), AllocError>
     ensures { LocatedCode table.now part.entry (code_view code.now) →
-        OnOk result (around.new ≡ finds channel values.now (started (code_view code.now)) around.old) }
+        OnOk result (cursor.new ≡ finds channel values.now (started (code_view code.now)) cursor.old) }
 {
     match code {
         Code::Continue | Code::Halt | Code::Repeat(_) | Code::Decide(_) => Ok(()),
-        Code::Once(once) => once_on(alloc, once.get(), channel, values, around),
-        Code::Sender(sender) => waiting_on(alloc, sender.get(), channel, values, around),
-        Code::Await(waiting) => arms_on(alloc, waiting.get().channels.as_slice(), channel, around),
+        Code::Once(once) => once_on(alloc, once.get(), channel, values, cursor),
+        Code::Sender(sender) => waiting_on(alloc, sender.get(), channel, values, cursor),
+        Code::Await(waiting) => arms_on(alloc, waiting.get().channels.as_slice(), channel, cursor),
         Code::InTurn(row) => {
             let codes = row.get().codes.as_slice();
-            fresh_in_turn_on(alloc, codes, 0, part, table, channel, values, around)
+            fresh_in_turn_on(alloc, codes, 0, part, table, channel, values, cursor)
         }
         Code::SideBySide(row) => {
             let codes = row.get().codes.as_slice();
-            fresh_side_by_side_on(alloc, codes, part, table, channel, values, around)
+            fresh_side_by_side_on(alloc, codes, part, table, channel, values, cursor)
         }
-        Code::Drain(port) => drain_on(alloc, *port, 0, channel, around),
+        Code::Drain(port) => drain_on(alloc, *port, 0, channel, cursor),
     }
 }
 
@@ -60,15 +60,15 @@ fn fresh_side_by_side_on(
     table: &UseTable,
     channel: u32,
     values: &[Value],
-    around: &mut Around,
+    cursor: &mut Cursor,
 ) -> Result<(), AllocError>
     ensures { LocatedRow table.now part.entry (row_of (map code_view codes.now)) →
         OnOk result
-        (around.new
+        (cursor.new
         ≡ added
         (on channel
-        (listed_parallel values.now around.old.received 0 (all_started (row_of (map code_view codes.now)))).sides)
-        around.old) }
+        (listed_parallel values.now cursor.old.received 0 (all_started (row_of (map code_view codes.now)))).actions)
+        cursor.old) }
 {
     let mut number = 0;
     'branches: while let Some(next) = next_user(table, channel, part, number, codes.len()) {
@@ -81,7 +81,7 @@ fn fresh_side_by_side_on(
             table,
             channel,
             values,
-            around,
+            cursor,
         )?;
         number = next + 1;
     }
@@ -98,15 +98,15 @@ fn fresh_branch_on(
     table: &UseTable,
     channel: u32,
     values: &[Value],
-    around: &mut Around,
+    cursor: &mut Cursor,
 ) -> Result<(), AllocError>
     ensures { LocatedCode table.now part.entry (code_view code.now) →
         OnOk result
-        (around.new ≡ finds_at (IsBranch number) channel values.now (started (code_view code.now)) around.old) }
+        (cursor.new ≡ finds_at (IsBranch number) channel values.now (started (code_view code.now)) cursor.old) }
 {
-    around.enter_branch(number)?;
-    fresh_on(alloc, code, part, table, channel, values, around)?;
-    around.leave();
+    cursor.enter_branch(number)?;
+    fresh_on(alloc, code, part, table, channel, values, cursor)?;
+    cursor.leave();
     Ok(())
 }
 
@@ -121,15 +121,16 @@ pub(crate) fn fresh_in_turn_on(
     table: &UseTable,
     channel: u32,
     values: &[Value],
-    around: &mut Around,
+    cursor: &mut Cursor,
 ) -> Result<(), AllocError>
     ensures { (cs : Codes) → LocatedRow table.now part.entry cs → AgreeFrom from cs (row_of (map code_view codes.now)) →
         OnOk result
-        (around.new
+        (cursor.new
         ≡ added
         (on channel
-        (listed_sequence values.now around.old.received from 0 (all_started (row_of (map code_view codes.now)))).sides)
-        around.old) }
+        (listed_sequence values.now cursor.old.received from 0
+        (all_started (row_of (map code_view codes.now)))).actions)
+        cursor.old) }
 {
     let mut number = from;
     'children: while number < codes.len() {
@@ -144,7 +145,7 @@ pub(crate) fn fresh_in_turn_on(
                 table,
                 channel,
                 values,
-                around,
+                cursor,
             );
         }
         number += 1;
@@ -162,14 +163,14 @@ fn fresh_child_on(
     table: &UseTable,
     channel: u32,
     values: &[Value],
-    around: &mut Around,
+    cursor: &mut Cursor,
 ) -> Result<(), AllocError>
     ensures { LocatedCode table.now part.entry (code_view code.now) →
         OnOk result
-        (around.new ≡ finds_at (IsOrdered number) channel values.now (started (code_view code.now)) around.old) }
+        (cursor.new ≡ finds_at (IsOrdered number) channel values.now (started (code_view code.now)) cursor.old) }
 {
-    around.enter_child(number)?;
-    fresh_on(alloc, code, part, table, channel, values, around)?;
-    around.leave();
+    cursor.enter_child(number)?;
+    fresh_on(alloc, code, part, table, channel, values, cursor)?;
+    cursor.leave();
     Ok(())
 }

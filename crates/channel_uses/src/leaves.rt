@@ -3,16 +3,16 @@ ghost use Rattle.std.specs.Prelude.{◌≡◌, ◌≤◌, ◌^◌, [], ◌∷◌
 ghost use Rattle.address.specs.declared.Entry.TheVariants.{Ordered};
 ghost use Rattle.system.specs.Expression as model;
 ghost use Rattle.system.specs.Residual.{drain};
-ghost use Rattle.process_tree.specs.Left.{residual_once, residual_sender, channel_of};
+ghost use Rattle.process_tree.specs.Remaining.{residual_once, residual_sender, channel_of};
 ghost use Rattle.process_tree.specs.View.{once_view, sender_view};
-ghost use Rattle.process_tree.specs.walking.Received.{puts_once, puts_sender};
-ghost use Rattle.offered_sides.specs.walking.Listed.{side_at, sides_of_residual, open_sides};
-ghost use Rattle.offered_sides.specs.walking.Walk.{added};
-ghost use Rattle.offered_sides.specs.declared.side.Side.TheVariants.{Releases};
+ghost use Rattle.process_tree.specs.internal.Received.{puts_once, puts_sender};
+ghost use Rattle.local_actions.specs.internal.Listed.{action_at, actions_of_residual, open_actions};
+ghost use Rattle.local_actions.specs.internal.Walk.{added};
+ghost use Rattle.local_actions.specs.declared.action.ActionKind.TheVariants.{Releases};
 ghost use Rattle.channel_uses.specs.OnChannel.{on};
 
 use crate::part::channel_of;
-use offered_sides::{Around, Side, list_drain, list_held, list_once, list_sender};
+use local_actions::{ActionKind, Cursor, list_drain, list_held, list_once, list_sender};
 use process_tree::{Once, Sender};
 use std::alloc::{AllocError, Global};
 use value::Value;
@@ -23,17 +23,18 @@ pub(crate) fn once_on(
     once: &Once,
     channel: u32,
     values: &[Value],
-    around: &mut Around,
+    cursor: &mut Cursor,
 ) -> Result<(), AllocError>
-    ensures { OnOk result (around.new
+    ensures { OnOk result (cursor.new
         ≡ added
-        (on channel (sides_of_residual values.now (residual_once (puts_once around.old.received (once_view once.now)))))
-        around.old) }
+        (on channel
+        (actions_of_residual values.now (residual_once (puts_once cursor.old.received (once_view once.now)))))
+        cursor.old) }
 {
     match once {
         Once::Receive(on, _) => {
             if *on == channel {
-                return list_once(alloc, once, values, around);
+                return list_once(alloc, once, values, cursor);
             }
             Ok(())
         }
@@ -47,16 +48,16 @@ pub(crate) fn waiting_on(
     sender: &Sender,
     channel: u32,
     values: &[Value],
-    around: &mut Around,
+    cursor: &mut Cursor,
 ) -> Result<(), AllocError>
-    ensures { OnOk result (around.new
+    ensures { OnOk result (cursor.new
         ≡ added
         (on channel
-        (sides_of_residual values.now (residual_sender (puts_sender around.old.received (sender_view sender.now)))))
-        around.old) }
+        (actions_of_residual values.now (residual_sender (puts_sender cursor.old.received (sender_view sender.now)))))
+        cursor.old) }
 {
     if channel_of(sender) == channel {
-        return list_sender(alloc, sender, values, around);
+        return list_sender(alloc, sender, values, cursor);
     }
     Ok(())
 }
@@ -66,14 +67,14 @@ pub(crate) fn held_on(
     alloc: Global,
     sender: &Sender,
     channel: u32,
-    around: &mut Around,
+    cursor: &mut Cursor,
 ) -> Result<(), AllocError>
-    ensures { OnOk result (around.new
+    ensures { OnOk result (cursor.new
         ≡ added
-        (on channel (side_at (Ordered 1 ∷ []) (Releases (channel_of (sender_view sender.now))) ∷ [])) around.old) }
+        (on channel (action_at (Ordered 1 ∷ []) (Releases (channel_of (sender_view sender.now))) ∷ [])) cursor.old) }
 {
     if channel_of(sender) == channel {
-        return list_held(alloc, sender, around);
+        return list_held(alloc, sender, cursor);
     }
     Ok(())
 }
@@ -84,13 +85,13 @@ pub(crate) fn drain_on(
     port: u32,
     count: u64,
     channel: u32,
-    around: &mut Around,
+    cursor: &mut Cursor,
 ) -> Result<(), AllocError>
     ensures { (s : model.Store) →
-        OnOk result (around.new ≡ added (on channel (sides_of_residual s (drain port count))) around.old) }
+        OnOk result (cursor.new ≡ added (on channel (actions_of_residual s (drain port count))) cursor.old) }
 {
     if port == channel {
-        return list_drain(alloc, port, count, around);
+        return list_drain(alloc, port, count, cursor);
     }
     Ok(())
 }
@@ -100,12 +101,12 @@ pub(crate) fn arms_on(
     alloc: Global,
     channels: &[u32],
     channel: u32,
-    around: &mut Around,
+    cursor: &mut Cursor,
 ) -> Result<(), AllocError>
-    ensures { OnOk result (around.new ≡ added (on channel (open_sides 0 channels.now)) around.old) }
+    ensures { OnOk result (cursor.new ≡ added (on channel (open_actions 0 channels.now)) cursor.old) }
 {
     for (arm, waits) in channels.iter().enumerate() {
-        arm_on(alloc, arm, *waits, channel, around)?;
+        arm_on(alloc, arm, *waits, channel, cursor)?;
     }
     Ok(())
 }
@@ -116,14 +117,14 @@ fn arm_on(
     arm: usize,
     waits: u32,
     channel: u32,
-    around: &mut Around,
+    cursor: &mut Cursor,
 ) -> Result<(), AllocError>
-    ensures { OnOk result (around.new ≡ added (on channel (open_sides arm (waits ∷ []))) around.old) }
+    ensures { OnOk result (cursor.new ≡ added (on channel (open_actions arm (waits ∷ []))) cursor.old) }
 {
     if waits != channel {
         return Ok(());
     }
-    around.add_act(alloc, 0, Side::Opens(waits, number_of(arm)?))
+    cursor.add_act(alloc, 0, ActionKind::Opens(waits, number_of(arm)?))
 }
 
 /// The number of an arm. It is an error from arm 2^32 on: there is not memory enough for so many.

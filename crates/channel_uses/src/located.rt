@@ -2,8 +2,8 @@
 ghost use Rattle.std.specs.Prelude.{◌≡◌, ℕ, ◌≤◌, ◌<◌, true, Some, length, slice_get, MatchOption, IfSome};
 ghost use Rattle.process_tree.specs.Code.{Codes, code_at};
 ghost use Rattle.last_events.specs.declared.uses.UseTable.{UseTable};
-ghost use Rattle.channel_uses.specs.walking.Located.{LocatedCode, LocatedRow, NoneBetween};
-ghost use Rattle.channel_uses.specs.walking.Parts.{UnusedBetween};
+ghost use Rattle.channel_uses.specs.internal.Located.{LocatedCode, LocatedRow, NoneBetween};
+ghost use Rattle.channel_uses.specs.internal.Parts.{UnusedBetween};
 
 use crate::part::Part;
 use crate::search::next_child;

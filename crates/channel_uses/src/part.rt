@@ -2,9 +2,9 @@
 ghost use Rattle.std.specs.Prelude.{◌≡◌, [], ◌∷◌, map, IfOk};
 ghost use Rattle.process_tree.specs.Translation.{row_of};
 ghost use Rattle.process_tree.specs.View.{code_view, once_view, sender_view};
-ghost use Rattle.process_tree.specs.Left as model;
+ghost use Rattle.process_tree.specs.Remaining as model;
 ghost use Rattle.channel_uses.specs.Uses.{used_once};
-ghost use Rattle.channel_uses.specs.walking.Parts.{first as first_of, end as end_of, parts as parts_of, AddedUses, Numbered, NumberedRow};
+ghost use Rattle.channel_uses.specs.internal.Parts.{first as first_of, end as end_of, parts as parts_of, AddedUses, Numbered, NumberedRow};
 
 use process_tree::{Code, Once, Sender};
 use std::alloc::{AllocError, Global};

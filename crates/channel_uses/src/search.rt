@@ -3,7 +3,7 @@ ghost use Rattle.std.specs.Prelude.{◌≡◌, ℕ, ◌≤◌, ◌<◌, ◌+◌,
 ghost use Rattle.process_tree.specs.Code.{Codes};
 ghost use Rattle.last_events.specs.LastEvents.{Uses, FirstUse};
 ghost use Rattle.channel_uses.specs.Uses.{HoldsExactly, all_used};
-ghost use Rattle.channel_uses.specs.walking.Parts.{parts as parts_of, end as end_of, ends_before, AreParts, EndAt, InTable, UnusedFrom, UnusedBetween, UsedIn};
+ghost use Rattle.channel_uses.specs.internal.Parts.{parts as parts_of, end as end_of, ends_before, AreParts, EndAt, InTable, UnusedFrom, UnusedBetween, UsedIn};
 
 use crate::part::Part;
 use last_events::UseTable;

@@ -5,20 +5,20 @@ ghost use Rattle.process_tree.specs.Code as model;
 ghost use Rattle.process_tree.specs.Proc.{started};
 ghost use Rattle.process_tree.specs.Tidy.{Tidy};
 ghost use Rattle.process_tree.specs.View.{code_view, tree_view};
-ghost use Rattle.offered_sides.specs.Sides.{Offered};
-ghost use Rattle.offered_sides.specs.View.{state_of};
-ghost use Rattle.offered_sides.specs.declared.side.OfferedSide as any;
+ghost use Rattle.local_actions.specs.Actions.{Offered};
+ghost use Rattle.local_actions.specs.View.{state_of};
+ghost use Rattle.local_actions.specs.declared.action.LocalAction as any;
 ghost use Rattle.channel_uses.specs.OnChannel.{is_on};
 ghost use Rattle.channel_uses.specs.StemsFrom.{StemsFrom};
 ghost use Rattle.channel_uses.specs.Table.{IsTableOf};
-ghost use Rattle.channel_uses.specs.walking.Located.{finds};
+ghost use Rattle.channel_uses.specs.internal.Located.{finds};
 
 use crate::at_work::list_on;
 use crate::fresh::fresh_on;
 use crate::part::{Part, part_of};
 use crate::search::table_of;
 use last_events::UseTable;
-use offered_sides::{Around, OfferedSide};
+use local_actions::{Cursor, LocalAction};
 use process_tree::{Code, Tree};
 use std::alloc::{AllocError, Global};
 use store::Store;
@@ -53,31 +53,31 @@ impl ChannelUses {
         code: &Code,
         channel: u32,
         values: &[Value],
-        around: &mut Around,
+        cursor: &mut Cursor,
     ) -> Result<(), AllocError>
         ensures { IsTableOf (code_view code.now) self.now →
-            OnOk result (around.new ≡ finds channel values.now (started (code_view code.now)) around.old) }
+            OnOk result (cursor.new ≡ finds channel values.now (started (code_view code.now)) cursor.old) }
     {
         let part = Some(&self.whole);
-        fresh_on(alloc, code, part, &self.table, channel, values, around)
+        fresh_on(alloc, code, part, &self.table, channel, values, cursor)
     }
 
-    /// Exactly the sides that the tree offers on the channel over the values of the store, where the tree stems from
+    /// Exactly the actions that the tree offers on the channel over the values of the store, where the tree stems from
     /// the command whose table this is, and is tidy, as each is that stands for a run. Of a parallel only the branches
     /// are looked at that use the channel. It is an error if there is no memory.
-    pub fn sides_on(
+    pub fn actions_on(
         &self,
         alloc: Global,
         tree: &Tree,
         store: &Store,
         channel: u32,
-    ) -> Result<Items<OfferedSide>, AllocError>
+    ) -> Result<Items<LocalAction>, AllocError>
         ensures { (code : model.Code) → IsTableOf code self.now → StemsFrom (tree_view tree.now) code →
             Tidy (tree_view tree.now) →
-            IfOk result (λ sides. (x : any.OfferedSide) →
-            In x sides ↔ (Offered (state_of tree.now store.now) x × (is_on channel x.side ≡ true))) }
+            IfOk result (λ actions. (x : any.LocalAction) →
+            In x actions ↔ (Offered (state_of tree.now store.now) x × (is_on channel x.action ≡ true))) }
     {
-        let mut around = Around::new(alloc);
+        let mut cursor = Cursor::new(alloc);
         let part = Some(&self.whole);
         let values = store.as_slice();
         list_on(
@@ -87,8 +87,8 @@ impl ChannelUses {
             &self.table,
             channel,
             values,
-            &mut around,
+            &mut cursor,
         )?;
-        Ok(around.into_found())
+        Ok(cursor.into_found())
     }
 }

@@ -11,7 +11,7 @@ use Rattle.sharing_check.specs.Refusal.{Clash}
 use Rattle.sharing_check.specs.Uses.{VariableUse, uses_of}
 use Rattle.clash_places.specs.Others.{TellsOther}
 use Rattle.clash_places.specs.declared.pairs.OtherUse.{OtherUse}
-use Rattle.clash_places.specs.walking.Pairs.{are_apart, is_clash, told, first_of_two, against, asked, or_else, first_clash}
+use Rattle.clash_places.specs.internal.Pairs.{are_apart, is_clash, other_use_of, first_of_two, against, asked, or_else, first_clash}
 
 both-are : (b c : Bool) → b ≡ true → c ≡ true → (b && c) ≡ true
 both-are true c h e = e
@@ -90,7 +90,7 @@ module _ (system : System) where
           → (against system u vs ≡ Some o → (w : VariableUse) × In w vs × Clash system u w × (o.offset ≡ w.offset) × (o.writes ≡ w.writes))
           → (w : VariableUse) × In w (v ∷ vs) × Clash system u w × (o.offset ≡ w.offset) × (o.writes ≡ w.writes)
       pick true e k later =
-          let is : told v ≡ o = cc in
+          let is : other_use_of v ≡ o = cc in
           (v, inl refl, clash-true u v e, ap (λ (z : OtherUse). z.offset) (sym is), ap (λ (z : OtherUse). z.writes) (sym is))
       pick false e k later = let rest = later k in (rest.0, inr rest.1, rest.2, rest.3, rest.4)
 

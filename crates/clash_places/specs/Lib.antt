@@ -1,3 +1,3 @@
 pub mod Others
 pub mod Parts
-pub mod walking
+pub mod internal

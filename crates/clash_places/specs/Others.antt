@@ -6,7 +6,8 @@ use Rattle.sharing_check.specs.Refusal.{Clash, ClashesAt}
 use Rattle.sharing_check.specs.Uses.{VariableUse, uses_of}
 use Rattle.clash_places.specs.declared.pairs.OtherUse.{OtherUse}
 
--- a use at the offset clashes with another one, by the rule on sharing, and this is that; or no use there clashes, and none is told
+-- a use at the offset clashes with another one, by the rule on sharing, and this is that; or no use there clashes, and
+-- none is told
 abbrev pub TellsOther : System → ℕ → Option OtherUse → Type 0
 TellsOther system offset None = ClashesAt system offset → ⊥
 TellsOther system offset (Some other) =

@@ -2,7 +2,7 @@
 ghost use Rattle.std.specs.Prelude.{◌≡◌, ◌==◌, IfOk};
 ghost use Rattle.sharing_check.specs.Rule.{is_shared};
 ghost use Rattle.clash_places.specs.Others.{TellsOther};
-ghost use Rattle.clash_places.specs.walking.Pairs as model;
+ghost use Rattle.clash_places.specs.internal.Pairs as model;
 
 use crate::uses::{PlacedUse, add_uses};
 use address::Entry;
@@ -17,8 +17,9 @@ pub struct OtherUse {
     pub writes: bool,
 }
 
-/// The first use that clashes with one whose name stands at the offset: of one variable that branches may not share, in two branches of a
-/// parallel, and one of them writes. None: no use there clashes. It is an error if there is no memory.
+/// The first use that clashes with one whose name stands at the offset: of one variable that branches may not share, in
+/// two branches of a parallel, and one of them writes. None: no use there clashes. It is an error if there is no
+/// memory.
 pub fn other_use(
     alloc: Global,
     system: &System,

@@ -72,7 +72,8 @@ fn add_behind(
     Ok(())
 }
 
-/// The entry of this child of a sequence, or of this arm. It is an error if the number has more than 32 bits, which no text reaches.
+/// The entry of this child of a sequence, or of this arm. It is an error if the number has more than 32 bits, which no
+/// text reaches.
 fn ordered(number: usize) -> Result<Entry, AllocError>
     ensures { IfOk result (λ made. made ≡ entry.Ordered number) }
 {

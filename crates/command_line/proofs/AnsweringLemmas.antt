@@ -12,7 +12,7 @@ use Rattle.picture_drawing.specs.Asked.{IsMissing, IsThere}
 use Rattle.picture.specs.Pictures.{IsPictured, asked_event}
 use Rattle.picture.specs.declared.Drawing.{Drawing as Form}
 use Rattle.picture.specs.declared.Pictured.{Pictured}
-use Rattle.command_words.specs.declared.drawing.Drawing.{Drawing}
+use Rattle.command_words.specs.declared.form.Drawing.{Drawing}
 use Rattle.debug_session.specs.Replaying.{RefusesTrace}
 use Rattle.debug_session.specs.Wrapping.{of_trace}
 use Rattle.debug_session.specs.Accepting.{AcceptedAs, IsRefused}
@@ -23,8 +23,8 @@ use Rattle.command_line.specs.Drawing.{PictureGives, PictureRefuses, marked_step
 use Rattle.command_line.specs.Serving.{Answers, DebugsFiles}
 use Rattle.command_line.specs.Used.{Outcome, Used, IsUntouched, ReaderBlamed, WriterBlamed, Tells}
 use Rattle.command_line.specs.Used.{bytes_before, bytes_behind}
-use Rattle.command_line.specs.declared.answering.Answer.{Answer}
-use Rattle.command_line.specs.walking.Answers.{AnswersPictureOf, AnswersWhyOf, answer_text}
+use Rattle.command_line.specs.declared.answer.Answer.{Answer}
+use Rattle.command_line.specs.internal.Answers.{AnswersPictureOf, AnswersWhyOf, answer_text}
 
 -- both texts were had, and make a system or are refused
 pub texts-accepted : (holds : Holding) (file stimulus source values slice text : List ℕ) (r : Result System Fault)

@@ -1,5 +1,5 @@
-pub mod AnsweringLemmas
-pub mod Handing
-pub mod RunningLemmas
-pub mod ShellLemmas
-pub mod TellingLemmas
+mod AnsweringLemmas
+mod Handing
+mod RunningLemmas
+mod ShellLemmas
+mod TellingLemmas

@@ -6,7 +6,7 @@ use Rattle.command_line.specs.FaultLine.{fault_line}
 use Rattle.command_line.specs.Running.{Explains, TellsHelp}
 use Rattle.command_line.specs.Serving.{status_of, told_text, told_with}
 use Rattle.command_line.specs.Used.{Outcome, Used, IsUntouched, Tells}
-use Rattle.command_line.specs.walking.Unasked.{HasText, TellsUnasked}
+use Rattle.command_line.specs.internal.Unasked.{HasText, TellsUnasked}
 use Rattle.command_words.specs.Words.{AreMistaken, AskForHelp, AskForSome, AskNothing}
 use Rattle.command_words.specs.declared.unasked.Unasked.{Unasked}
 

@@ -3,7 +3,7 @@ use Rattle.std.proofs.Common.{◌≡◌, ℕ, List, ◌++◌, Option, Result, Ok
 use Rattle.std.specs.Io.KnownBytes.{Appends}
 use Rattle.debug_session.specs.Counting.{WritingStops}
 use Rattle.debug_session.specs.declared.fault.Fault.{Fault}
-use Rattle.devices.proofs.KnownLemmas.{Appends-then}
+use Rattle.devices.proofs.public.KnownLemmas.{Appends-then}
 use Rattle.devices.specs.Counting.{failures}
 use Rattle.devices.specs.declared.counted.Counted.{Counted}
 use Rattle.debug_session.specs.Counting.{after_writing}

@@ -8,7 +8,7 @@ use Rattle.trace_file.specs.TraceText.{StandsFor}
 use Rattle.debug_session.specs.declared.fault.Fault.{Fault}
 use Rattle.debug_session.specs.declared.fault.Fault.TheVariants.{Refused}
 use Rattle.picture_drawing.specs.Asked.{IsMissing, IsThere}
-use Rattle.command_words.specs.declared.drawing.Drawing.{Drawing}
+use Rattle.command_words.specs.declared.form.Drawing.{Drawing}
 use Rattle.command_line.specs.Answering.{Holding, FilesGive, ReplayRefuses}
 
 -- the step whose causes and consequences a picture marks, if one is asked for
@@ -16,7 +16,8 @@ abbrev pub marked_step : Drawing → Option ℕ
 marked_step (Drawing.Sheet event quiet) = event
 marked_step other = None
 
--- `picture` on the files of these names gives an answer: where `replay` does, and the trace has the step that is to be marked
+-- `picture` on the files of these names gives an answer: where `replay` does, and the trace has the step that is to be
+-- marked
 abbrev pub PictureGives : Holding → List ℕ → List ℕ → List ℕ → Drawing → Type 0
 PictureGives holds file stimulus trace drawing =
     (system : System) × (text : List ℕ) × (h : List Event) × FilesGive holds file stimulus system

@@ -7,4 +7,4 @@ pub mod Serving
 pub mod Shells
 pub mod Used
 pub mod Working
-pub mod walking
+pub mod internal

@@ -31,8 +31,8 @@ Explains unasked mistaken helped status out err =
     ((status ≡ 1) × IsUntouched out × TellsFault Memory err)
     ⊎ (unasked × ((mistaken × (status ≡ 2) × IsUntouched out × TellsSome err) ⊎ (helped × TellsHelp status out err)))
 
--- a request that is asked for is served, and a refusal of it is told on standard error: in a line, and behind it in words only
--- where these are asked for too
+-- a request that is asked for is served, and a refusal of it is told on standard error: in a line, and behind it in
+-- words only where these are asked for too
 abbrev pub ServesAsked : {I O E : Type 0} → (Request → Type 0) → Holding → ℕ → Used I → Used O → Used E → Type 0
 ServesAsked asked holds status reader out err =
     (request : Request) × asked request × (done : Outcome) × (ended : Outcome) × (words : List ℕ)

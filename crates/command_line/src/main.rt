@@ -2,23 +2,23 @@
 #![tactic(auto)]
 
 mod adapter;
-mod answering;
-mod asking;
-mod drawing;
-mod explaining;
+mod answer;
+mod draw;
+mod explain;
 mod files;
-mod running;
+mod output;
+mod program;
+mod question;
 mod shells;
-mod telling;
 mod texts;
 
 use debug_session::{Counted, Fault};
 use files::Disk;
-use running::run;
+use output::write_fault;
+use program::run;
 use std::io::{BufReader, ErrorKind, Stdin, Write};
 use std::process::ExitCode;
 use std::{env, io};
-use telling::write_fault;
 
 /// What the system gives to a run: its words and its standard input.
 struct Given {

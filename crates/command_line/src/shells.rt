@@ -8,7 +8,7 @@ ghost use Rattle.command_line.specs.Answering.{NotHad};
 ghost use Rattle.command_line.specs.Shells.{ShellsFiles, StartHad, StartRefused, TraceHad, TraceNotHad, text_of};
 ghost use Rattle.command_line.specs.Used.{used};
 
-use crate::answering::read_texts;
+use crate::answer::read_texts;
 use crate::files::Files;
 use crate::texts::{Part, Texts};
 use debug_session::{Counted, Fault, accept};

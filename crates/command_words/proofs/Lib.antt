@@ -1,3 +1,3 @@
-pub mod Handing
-pub mod WordExamples
-pub mod WordLemmas
+mod Handing
+mod WordExamples
+mod WordLemmas

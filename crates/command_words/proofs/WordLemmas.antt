@@ -26,15 +26,15 @@ use Rattle.clap.specs.declared.error.Error.{Error}
 use Rattle.clap.specs.declared.error.kind.ErrorKind.TheVariants.{MissingSubcommand, OutOfMemory}
 use Rattle.clap.proofs.OnLiterals.{clap_on_literals}
 use Rattle.refusal_pages.specs.Numbers.{among, is_refusal, of_editors, of_files, of_lines, of_sources}
-use Rattle.refusal_pages.specs.declared.writing.Page.{Page}
-use Rattle.command_words.specs.declared.drawing.Drawing.{Drawing}
+use Rattle.refusal_pages.specs.declared.page.Page.{Page}
+use Rattle.command_words.specs.declared.form.Drawing.{Drawing}
 use Rattle.command_words.specs.declared.request.Request.{Request}
 use Rattle.command_words.specs.declared.unasked.Unasked.{Unasked}
 use Rattle.command_words.specs.Words.{AskFor, AskForSome, AskForNone, AskNothing, IsFaultOf, IsFlag, IsNumber, IsRequest, Named, TellsPage, program}
 use Rattle.command_words.specs.Words.{AskDrawing, TellsStep, drawing_of, is_on}
 use Rattle.command_words.specs.declared.crew_size.CrewSize.{CrewSize}
-use Rattle.command_words.specs.walking.Building.{AsksNoDrawing, Chooses, ChoosesNone, IsArgument, IsCommand, IsNoRequest}
-use Rattle.command_words.specs.walking.Building.{Finds, NamesNoFiles, NamesNoTrace, Refuses, TellsCrew, TellsError, TellsNoCrew, TellsNoPage}
+use Rattle.command_words.specs.internal.Building.{AsksNoDrawing, Chooses, ChoosesNone, IsArgument, IsCommand, IsNoRequest}
+use Rattle.command_words.specs.internal.Building.{Finds, NamesNoFiles, NamesNoTrace, Refuses, TellsCrew, TellsError, TellsNoCrew, TellsNoPage}
 
 -- one more argument
 pub with_argument : (old new : Command) (a : Arg) (app : App) (rule : Rule) → IsCommand app old → IsArgument rule a → AddsArg old a new → IsCommand (with_rule app rule) new

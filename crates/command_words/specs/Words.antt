@@ -14,8 +14,8 @@ use Rattle.clap.specs.declared.builder.value_parser.ValueParser.{ValueParser}
 use Rattle.clap.specs.declared.builder.value_parser.ValueParser.TheVariants.{Signed, Unsigned}
 use Rattle.decimal.specs.Reading.{Reads}
 use Rattle.refusal_pages.specs.Numbers.{is_refusal}
-use Rattle.refusal_pages.specs.declared.writing.Page.{Page}
-use Rattle.command_words.specs.declared.drawing.Drawing.{Drawing}
+use Rattle.refusal_pages.specs.declared.page.Page.{Page}
+use Rattle.command_words.specs.declared.form.Drawing.{Drawing}
 use Rattle.command_words.specs.declared.request.Request.{Request}
 use Rattle.command_words.specs.declared.unasked.Unasked.{Unasked}
 
@@ -89,7 +89,8 @@ event_number = record (new_rule (codes "event")) { long = Some (codes "event"); 
 
 -- `picture` with the forms of a drawing, and with what goes with one of them
 abbrev pub drawn : App
-drawn = with_rule (with_rule (with_rule (over_trace (new_app (codes "picture"))) (flag (codes "svg"))) (flag (codes "vcd")))
+drawn =
+    with_rule (with_rule (with_rule (over_trace (new_app (codes "picture"))) (flag (codes "svg"))) (flag (codes "vcd")))
     (flag (codes "json"))
 
 abbrev pub picture : App
@@ -253,8 +254,8 @@ AskForHelp words = (kind : ErrorKind) × IsFaultOf words kind × IsHelp kind
 abbrev pub AreMistaken : List Text → Type 0
 AreMistaken words = (kind : ErrorKind) × IsFaultOf words kind × (IsHelp kind → ⊥)
 
--- why words ask for nothing: there was no memory to read them; or they ask for no request, and for help or the version, or
--- they are mistaken, of which a text that is not empty tells
+-- why words ask for nothing: there was no memory to read them; or they ask for no request, and for help or the version,
+-- or they are mistaken, of which a text that is not empty tells
 abbrev pub AskNothing : List Text → Unasked → Type 0
 AskNothing words Unasked.Memory = Unit {0}
 AskNothing words (Unasked.Help text) = (AskForSome words → ⊥) × AskForHelp words × (text.bytes.items ≢ [])

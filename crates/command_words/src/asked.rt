@@ -3,10 +3,10 @@
 ghost use Rattle.std.specs.Prelude.{◌≡◌, codes, MatchOption, option_map};
 ghost use Rattle.clap.specs.Words.{first_of, one_of};
 ghost use Rattle.command_words.specs.Words as spec;
-ghost use Rattle.command_words.specs.walking.Building.{Chooses, ChoosesNone, IsNoRequest, NamesNoFiles, NamesNoTrace};
-ghost use Rattle.command_words.specs.walking.Building.{rows_in, AsksNoDrawing, TellsCrew, TellsNoCrew, TellsNoPage, TellsNoStep};
+ghost use Rattle.command_words.specs.internal.Building.{Chooses, ChoosesNone, IsNoRequest, NamesNoFiles, NamesNoTrace};
+ghost use Rattle.command_words.specs.internal.Building.{rows_in, AsksNoDrawing, TellsCrew, TellsNoCrew, TellsNoPage, TellsNoStep};
 
-use crate::drawing::{Forms, drawing_of};
+use crate::form::{Forms, drawing_of};
 use crate::{CrewSize, Drawing, Request};
 use clap::ArgMatches;
 use decimal::read_number;

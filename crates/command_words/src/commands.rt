@@ -4,7 +4,7 @@ ghost use Rattle.std.specs.Prelude.{codes, pos, IfOk};
 ghost use Rattle.clap.specs.Words.{App, Rule, new_app, with_rule, with_subcommand};
 ghost use Rattle.clap.specs.declared.builder.value_parser.ValueParser.TheVariants.{Signed, Unsigned};
 ghost use Rattle.command_words.specs.Words as spec;
-ghost use Rattle.command_words.specs.walking.Building.{IsArgument, IsCommand};
+ghost use Rattle.command_words.specs.internal.Building.{IsArgument, IsCommand};
 
 use crate::crew_size::{MOST_TURNS, MOST_WORKERS};
 use crate::help;

@@ -4,15 +4,15 @@
 mod asked;
 mod commands;
 mod crew_size;
-mod drawing;
+mod form;
 mod help;
-mod hinting;
-mod reading;
+mod hint;
+mod parse;
 mod request;
 mod unasked;
 
 pub use crew_size::CrewSize;
-pub use drawing::Drawing;
-pub use reading::requested;
+pub use form::Drawing;
+pub use parse::requested;
 pub use request::Request;
 pub use unasked::Unasked;

@@ -54,8 +54,8 @@ pub enum Request<'a> {
         stimulus: &'a str,
         trace: &'a str,
     },
-    /// Tell why a variable has its value behind a trace, or why a step of it could be taken: by the steps that carried a
-    /// value, or `all`.
+    /// Tell why a variable has its value behind a trace, or why a step of it could be taken: by the steps that carried
+    /// a value, or `all`.
     Why {
         file: &'a str,
         stimulus: &'a str,
@@ -73,8 +73,8 @@ pub enum Request<'a> {
 }
 
 impl Request<'_> {
-    /// Whether a refusal is told in words too: where that is asked for, and always where people alone ask. An editor is told of faults by
-    /// messages.
+    /// Whether a refusal is told in words too: where that is asked for, and always where people alone ask. An editor is
+    /// told of faults by messages.
     pub fn explains(&self) -> bool
         ensures { result ≡ explains self.now }
     {

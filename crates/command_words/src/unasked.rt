@@ -1,9 +1,9 @@
 ghost use Rattle.std.specs.Prelude.{◌≢◌, [], IfOk};
 ghost use Rattle.clap.specs.Words.{kind_of};
 ghost use Rattle.clap.specs.declared.error.kind.ErrorKind.TheVariants.{OutOfMemory};
-ghost use Rattle.command_words.specs.walking.Building.{TellsError};
+ghost use Rattle.command_words.specs.internal.Building.{TellsError};
 
-use crate::hinting::hint_for;
+use crate::hint::hint_for;
 use clap::Error;
 use clap::error::ErrorKind;
 use std::alloc::{AllocError, Global};

@@ -9,7 +9,7 @@ use Rattle.dap_messages.specs.Arguments.{number_named}
 use Rattle.dap_messages.specs.declared.kind.Kind.{Kind}
 use Rattle.dap_messages.specs.declared.request.Request.{Request}
 use Rattle.dap_moves.specs.Led.{Led}
-use Rattle.dap_moves.proofs.Leading.{led_nowhere}
+use Rattle.dap_moves.proofs.public.Leading.{led_nowhere}
 use Rattle.dap_server.specs.Kinds.{moves}
 use Rattle.dap_threads.specs.Threads.{branch_named}
 use Rattle.dap.specs.Goes.{DeskGoes, Goes, IsSound}

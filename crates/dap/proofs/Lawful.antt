@@ -1,7 +1,7 @@
 -- What holds after the requests of a session.
 use Rattle.std.proofs.Common.{◌≡◌, ◌⊎◌, ◌+◌, ◌++◌, ◌∷◌, [], ℕ, List, length, Option, None, Some, inl, inr, sym, subst}
 use Rattle.dap_messages.specs.declared.request.Request.{Request}
-use Rattle.dap_moves.proofs.Leading.{led_nowhere, led_on}
+use Rattle.dap_moves.proofs.public.Leading.{led_nowhere, led_on}
 use Rattle.dap_server.specs.Session.{Serves, Session}
 use Rattle.dap.specs.Goes.{Comes, Goes}
 use Rattle.dap.specs.Laws.{IsLed, SessionIsLed}

@@ -1,4 +1,4 @@
-pub mod Going
-pub mod Lawful
-pub mod Machines
-pub mod Stopping
+mod Going
+mod Lawful
+mod Machines
+mod Stopping

@@ -15,20 +15,23 @@ use Rattle.dap.specs.Stops.{StopsOnce}
 use Rattle.dap.specs.declared.face.Face.{Face}
 use Rattle.dap.specs.declared.launch.Launched.{Launched}
 
--- the desk is what some commands of sessions leave, and the same where the request only reads, or where the client was told that it
--- is over; else a request to move moves it as it should, where these lines have a breakpoint
+-- the desk is what some commands of sessions leave, and the same where the request only reads, or where the client was
+-- told that it is over; else a request to move moves it as it should, where these lines have a breakpoint
 pub record DeskGoes (over : Bool) (lines : List ℕ) (d : AtDesk) (request : Request) (d' : AtDesk) : Type 0 where
   pub led : Led d d'
   pub reads : changes request.kind ≡ false → d' ≡ d
   pub stays : over ≡ true → d' ≡ d
   pub steps : over ≡ false → Steps lines d request.kind request d'
 
--- nothing is launched but by a launch; and what is launched stays so: its desk goes on as the request says, or a restart has begun anew
+-- nothing is launched but by a launch; and what is launched stays so: its desk goes on as the request says, or a
+-- restart has begun anew
 abbrev pub Goes : Option Launched → Request → Option Launched → Type 0
 Goes None request None = Unit {0}
 Goes None request (Some m) = (request.kind ≡ Kind.Launch) × IsBegun m.desk
 Goes (Some l) request None = ⊥
-Goes (Some l) request (Some m) = ((request.kind ≡ Kind.Restart) × Stands m.desk) ⊎ DeskGoes l.program.ended l.program.stops.items l.desk request m.desk
+Goes (Some l) request (Some m) =
+    ((request.kind ≡ Kind.Restart) × Stands m.desk)
+    ⊎ DeskGoes l.program.ended l.program.stops.items l.desk request m.desk
 
 -- what holds of an execution at every moment holds of the one that is launched
 abbrev pub IsSound : Option Launched → Type 0

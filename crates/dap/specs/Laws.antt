@@ -7,7 +7,8 @@ use Rattle.dap.specs.Launching.{Stands}
 use Rattle.dap.specs.declared.face.Face.{Face}
 use Rattle.dap.specs.declared.launch.Launched.{Launched}
 
--- the desk of what is launched, if something is, is what commands of sessions leave of one with which a program is launched
+-- the desk of what is launched, if something is, is what commands of sessions leave of one with which a program is
+-- launched
 abbrev pub IsLed : Option Launched → Type 0
 IsLed None = Unit {0}
 IsLed (Some l) = Stands l.desk

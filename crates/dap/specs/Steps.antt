@@ -13,7 +13,8 @@ use Rattle.dap_threads.specs.Threads.{branch_named}
 
 -- the branch of the thread that the request names, if there is one
 abbrev pub thread_of : AtDesk → Request → Option ℕ
-thread_of d request = branch_named (branch_count d.machine.checked) (number_named (codes "threadId") (view request.arguments))
+thread_of d request =
+    branch_named (branch_count d.machine.checked) (number_named (codes "threadId") (view request.arguments))
 
 -- the newest live step in which a branch took part, if there is one, is asked to be undone
 abbrev pub Backward : AtDesk → Option ℕ → AtDesk → Type 0
@@ -30,7 +31,8 @@ abbrev pub GoesOn : List ℕ → AtDesk → Option ℕ → AtDesk → Type 0
 GoesOn lines d None d' = d' ≡ d
 GoesOn lines d (Some k) d' = RunsBy lines d d'
 
--- a request acts on the branch of its thread; `lines` have a breakpoint. Of `reverseContinue` it is only said that commands led there
+-- a request acts on the branch of its thread; `lines` have a breakpoint. Of `reverseContinue` it is only said that
+-- commands led there
 abbrev pub Steps : List ℕ → AtDesk → Kind → Request → AtDesk → Type 0
 Steps lines d Kind.StepBack request d' = Backward d (thread_of d request) d'
 Steps lines d Kind.Next request d' = Forward d Kind.Next (thread_of d request) d'

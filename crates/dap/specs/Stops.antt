@@ -10,8 +10,8 @@ use Rattle.dap_requests.specs.Said.{AreOutputs}
 abbrev pub EndsInStop : List Told → Type 0
 EndsInStop told = (outputs : List Told) × AreOutputs outputs × (told ≡ outputs ++ Told.Stopped ∷ [])
 
--- it is a refusal and tells nothing, or it is done, and a `stopped` comes whatever memory there is; where there is memory for the
--- whole answer, that is the last that it tells, and no other is told
+-- it is a refusal and tells nothing, or it is done, and a `stopped` comes whatever memory there is; where there is
+-- memory for the whole answer, that is the last that it tells, and no other is told
 abbrev pub StopsOnce : Answer → Type 0
 StopsOnce a =
     (IsRefusal a.outcome × (told_by a.notes.items ≡ []))

@@ -7,7 +7,7 @@ ghost use Rattle.dap_server.specs.Kinds.{moves};
 ghost use Rattle.dap.specs.Goes.{DeskGoes};
 ghost use Rattle.dap.specs.Kinds.{asks};
 
-use crate::beginning::begin_once;
+use crate::begin::begin_once;
 use crate::face::{attach, unknown};
 use crate::moves::make_move;
 use dap_messages::{Answer, Kind, Members, Request, Told};
@@ -73,7 +73,7 @@ fn act(
 }
 
 /// Answers a request where the client was told that it is over: what only reads is answered.
-#[tactic(auto, using(dap_requests::proofs::Saying::run_ends))]
+#[tactic(auto, using(dap_requests::proofs::public::Saying::run_ends))]
 fn look_back(
     alloc: Global,
     machine: &Machine,

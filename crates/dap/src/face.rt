@@ -81,7 +81,7 @@ impl Face {
     }
 
     /// Answers a request that asks a thread to move, or to stand.
-    #[tactic(auto, using(crate::proofs::Going::launched_goes, dap_requests::proofs::Saying::run_ends))]
+    #[tactic(auto, using(crate::proofs::Going::launched_goes, dap_requests::proofs::public::Saying::run_ends))]
     fn make_move(&mut self, request: &Request, answer: &mut Answer)
         ensures goes { Goes self.old.launched request.now self.new.launched }
         ensures stops { moves request.now.kind ≡ true → Runs answer.old answer.new }

@@ -181,7 +181,8 @@ fn machine_of(
     counting: Counting,
     answer: &mut Answer,
 ) -> Result<Machine, Failed>
-    ensures { IfOk result (λ machine. BeginsAt texts.now.source.items texts.now.stimulus.items (text_of texts.now.trace) machine) }
+    ensures { IfOk result (λ machine.
+        BeginsAt texts.now.source.items texts.now.stimulus.items (text_of texts.now.trace) machine) }
 {
     let source = texts.source.as_slice();
     let stimulus = texts.stimulus.as_slice();
@@ -302,8 +303,8 @@ fn is_wanted(value: &Value, wanted: Wanted) -> bool {
     }
 }
 
-/// The path of a file of this name: one that does not begin with `/` counts from the folder. Where no folder is named that is the
-/// one in which the adapter was started.
+/// The path of a file of this name: one that does not begin with `/` counts from the folder. Where no folder is named
+/// that is the one in which the adapter was started.
 fn whole(alloc: Global, folder: &str, name: &str) -> Result<String, AllocError> {
     if name.starts_with('/') || folder.is_empty() {
         return String::from_str(alloc, name);

@@ -33,7 +33,7 @@ pub(crate) fn make_move(
 }
 
 /// Answers `next`, `stepIn` and `stepOut`: one step of the thread.
-#[tactic(auto, using(dap_requests::proofs::Saying::run_ends, crate::proofs::Going::led_still))]
+#[tactic(auto, using(dap_requests::proofs::public::Saying::run_ends, crate::proofs::Going::led_still))]
 fn step(
     alloc: Global,
     desk: &mut Desk,
@@ -52,7 +52,7 @@ fn step(
 }
 
 /// Answers `continue`: on from where the thread stands.
-#[tactic(auto, using(dap_requests::proofs::Saying::run_ends, crate::proofs::Going::led_still))]
+#[tactic(auto, using(dap_requests::proofs::public::Saying::run_ends, crate::proofs::Going::led_still))]
 fn go(alloc: Global, desk: &mut Desk, program: &mut Program, request: &Request, answer: &mut Answer)
     ensures led { Led desk.old desk.new }
     ensures stops { Runs answer.old answer.new }
@@ -68,7 +68,7 @@ fn go(alloc: Global, desk: &mut Desk, program: &mut Program, request: &Request, 
 }
 
 /// Answers `stepBack`: the newest step in which the branch of the thread took part.
-#[tactic(auto, using(dap_requests::proofs::Saying::run_ends, crate::proofs::Going::led_still))]
+#[tactic(auto, using(dap_requests::proofs::public::Saying::run_ends, crate::proofs::Going::led_still))]
 fn back(
     alloc: Global,
     desk: &mut Desk,
@@ -97,7 +97,7 @@ fn pause(alloc: Global, desk: &mut Desk, request: &Request, answer: &mut Answer)
 }
 
 /// Tells that the thread stands.
-#[tactic(auto, using(dap_requests::proofs::Saying::run_ends))]
+#[tactic(auto, using(dap_requests::proofs::public::Saying::run_ends))]
 fn stand(alloc: Global, machine: &Machine, request: &Request, answer: &mut Answer)
     ensures { Runs answer.old answer.new }
 {

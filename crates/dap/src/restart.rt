@@ -3,7 +3,7 @@ ghost use Rattle.std.specs.Prelude.{◌≡◌, ◌⊎◌, IfSome};
 ghost use Rattle.dap_moves.specs.Led.{Led};
 ghost use Rattle.dap.specs.Launching.{IsBegun, Stands};
 
-use crate::beginning::begin;
+use crate::begin::begin;
 use crate::launch::{Launched, start};
 use crate::sources::Sources;
 use dap_messages::{Answer, Members, Request, field};
@@ -12,8 +12,8 @@ use dap_views::{Launch, Program};
 use std::alloc::Global;
 use std::mem;
 
-/// Answers `restart`: the same again, from the files as they are now, or what the arguments name. Breakpoints stay. Where it is
-/// refused, all is as it was.
+/// Answers `restart`: the same again, from the files as they are now, or what the arguments name. Breakpoints stay.
+/// Where it is refused, all is as it was.
 pub(crate) fn restart<F: Sources>(
     alloc: Global,
     files: &F,
@@ -93,8 +93,8 @@ fn start_same<F: Sources>(
     }
 }
 
-/// Keeps what the client has set on the program before; what is watched only where the source is the same. The breakpoints are
-/// placed apart from this.
+/// Keeps what the client has set on the program before; what is watched only where the source is the same. The
+/// breakpoints are placed apart from this.
 fn keep_settings(old: Program, program: &mut Program) {
     let Program {
         launch,

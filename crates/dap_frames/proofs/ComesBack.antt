@@ -11,8 +11,8 @@ use Rattle.dap_frames.specs.Frames.{header_end, header_of, framed}
 use Rattle.dap_frames.specs.Header as model
 use Rattle.dap_frames.specs.Laws.{FramesComeBack}
 use Rattle.dap_frames.specs.Unframing.{Unframes, BodyAt}
-use Rattle.dap_frames.specs.declared.beginning.Unframed.{Unframed}
-use Rattle.dap_frames.specs.declared.beginning.TheConstants.{MOST_BODY, MOST_HEADER}
+use Rattle.dap_frames.specs.declared.body.Unframed.{Unframed}
+use Rattle.dap_frames.specs.declared.body.TheConstants.{MOST_BODY, MOST_HEADER}
 
 -- no byte is the first of an end of a line, or a space
 abbrev pub Plain : List ℕ → Type 0

@@ -1,2 +1,2 @@
-pub mod ComesBack
-pub mod Headers
+mod ComesBack
+mod Headers

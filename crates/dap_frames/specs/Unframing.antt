@@ -1,8 +1,8 @@
 -- What stands at the beginning of some bytes.
 use Rattle.std.specs.Prelude.{ℕ, ◌≡◌, ◌+◌, ◌-◌, ◌<◌, ◌≤◌, ◌⊎◌, List, length, take, true, false, None, Some}
 use Rattle.dap_frames.specs.Header.{ends_bare, header_length, Tells, TellsNone}
-use Rattle.dap_frames.specs.declared.beginning.Unframed.{Unframed}
-use Rattle.dap_frames.specs.declared.beginning.TheConstants.{MOST_BODY, MOST_HEADER}
+use Rattle.dap_frames.specs.declared.body.Unframed.{Unframed}
+use Rattle.dap_frames.specs.declared.body.TheConstants.{MOST_BODY, MOST_HEADER}
 
 -- behind a header of so many bytes
 abbrev pub BodyAt : List ℕ → ℕ → Unframed → Type 0

@@ -40,8 +40,8 @@ pub(crate) fn ends_bare(bytes: &[u8]) -> bool
     false
 }
 
-/// How many bytes the body has, as the header tells: the decimal number behind `Content-Length:` and spaces, up to the end of its
-/// line. `None` where no line begins so, or no number below 2^64 stands there.
+/// How many bytes the body has, as the header tells: the decimal number behind `Content-Length:` and spaces, up to the
+/// end of its line. `None` where no line begins so, or no number below 2^64 stands there.
 pub(crate) fn body_length(header: &[u8]) -> Option<u64>
     ensures { MatchOption result (model.TellsNone header.now) (λ n. model.Tells header.now n) }
 {

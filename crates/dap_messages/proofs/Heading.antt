@@ -9,7 +9,7 @@ use Rattle.serde_json.specs.declared.value.Value.{Value}
 use Rattle.serde_json.proofs.Views.{get_member-put, get_member-put_other}
 use Rattle.dap_messages.specs.Json.{IsJsonOf}
 use Rattle.dap_messages.specs.Written.{Has, Puts, PutsSome}
-use Rattle.dap_messages.specs.walking.Heads.{Keeps, KeepsHead}
+use Rattle.dap_messages.specs.internal.Heads.{Keeps, KeepsHead}
 use Rattle.dap_messages.specs.declared.members.Members.{Members}
 use Rattle.dap_messages.specs.declared.message.Message.{Message}
 

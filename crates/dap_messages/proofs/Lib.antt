@@ -1,2 +1,2 @@
-pub mod Heading
-pub mod Numbered
+mod Heading
+mod Numbered

@@ -3,4 +3,4 @@ pub mod Json
 pub mod Messages
 pub mod Notes
 pub mod Written
-pub mod walking
+pub mod internal

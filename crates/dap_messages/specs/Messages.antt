@@ -47,8 +47,8 @@ AreEvents next _ _ = ⊥
 abbrev pub EventsAdded : List Message → ℕ → List Told → List Message → Type 0
 EventsAdded before next tolds after = (more : List Message) × (after ≡ before ++ more) × AreEvents next tolds more
 
--- the first message is the response to the request, and behind it come the events of the answer and no others; they are numbered
--- on from `next`
+-- the first message is the response to the request, and behind it come the events of the answer and no others; they are
+-- numbered on from `next`
 abbrev pub IsAnswerTo : Request → Answer → ℕ → List Message → Type 0
 IsAnswerTo request answer next [] = ⊥
 IsAnswerTo request answer next (m ∷ ms) =

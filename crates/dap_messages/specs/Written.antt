@@ -12,7 +12,8 @@ Has ms name d = ms.lacks ≡ false → get_member name (members_view ms.made.ent
 -- a member of this name is put, where there was memory for all
 abbrev pub Puts : Members → List ℕ → Data → Members → Type 0
 Puts before name d after =
-    after.lacks ≡ false → (before.lacks ≡ false) × (members_view after.made.entries ≡ put name d (members_view before.made.entries))
+    after.lacks ≡ false →
+    (before.lacks ≡ false) × (members_view after.made.entries ≡ put name d (members_view before.made.entries))
 
 -- the same, whatever it is
 abbrev pub PutsSome : Members → List ℕ → Members → Type 0

@@ -46,8 +46,8 @@ pub struct Note {
     pub body: Option<Value>,
 }
 
-/// The answer to a request that is being made: one response, and events behind it. Where there is no memory for a part this is
-/// kept in mind.
+/// The answer to a request that is being made: one response, and events behind it. Where there is no memory for a part
+/// this is kept in mind.
 #[derive(Drop)]
 pub struct Answer {
     pub alloc: Global,

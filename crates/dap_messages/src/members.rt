@@ -1,5 +1,5 @@
-// Objects and lists of JSON that are being made. Where there is no memory for a part this is kept in mind, and told at the end: so
-// whoever makes a message need not ask after each part.
+// Objects and lists of JSON that are being made. Where there is no memory for a part this is kept in mind, and told at
+// the end: so whoever makes a message need not ask after each part.
 ghost use Rattle.std.specs.Prelude.{◌≡◌, false, IfSome};
 ghost use Rattle.serde_json.specs.Data.{boolean, no_members, object, string, unsigned};
 ghost use Rattle.serde_json.specs.Data as json;
@@ -90,7 +90,8 @@ impl Members {
 
     /// The object; `None` where there was no memory for a part.
     pub fn into_value(self) -> Option<Value>
-        ensures { IfSome result (λ value. (self.lacks ≡ false) × (view value ≡ object (members_view self.made.entries))) }
+        ensures { IfSome result (λ value. (self.lacks ≡ false)
+            × (view value ≡ object (members_view self.made.entries))) }
     {
         let Members {
             alloc: _,

@@ -4,7 +4,7 @@ ghost use Rattle.dap_messages.specs.Json.{IsJsonOf};
 ghost use Rattle.dap_messages.specs.Messages.{IsAnswerTo, EventsAdded, event_name, is_done};
 ghost use Rattle.dap_messages.specs.Notes.{told_by};
 ghost use Rattle.dap_messages.specs.Written.{Has};
-ghost use Rattle.dap_messages.specs.walking.Heads.{Keeps, KeepsHead};
+ghost use Rattle.dap_messages.specs.internal.Heads.{Keeps, KeepsHead};
 
 use crate::answer::{Answer, Note, Outcome};
 use crate::members::Members;
@@ -23,8 +23,8 @@ pub struct Message {
     members: Members,
 }
 
-/// The messages of an answer, the first of which has this number: the response to the request, and then the events. It is an
-/// error if there is no memory, or was none for a part of the answer.
+/// The messages of an answer, the first of which has this number: the response to the request, and then the events. It
+/// is an error if there is no memory, or was none for a part of the answer.
 pub fn messages_of(
     alloc: Global,
     request: &Request,
@@ -142,8 +142,8 @@ fn add_refusal(alloc: Global, members: &mut Members, number: u64, words: &str)
     members.object("body", body);
 }
 
-/// The error, in words that a client may show. In a `format` braces stand around the name of a variable, so words that have some
-/// are a variable themselves.
+/// The error, in words that a client may show. In a `format` braces stand around the name of a variable, so words that
+/// have some are a variable themselves.
 fn error_of(alloc: Global, number: u64, words: &str) -> Members {
     let mut error = Members::new(alloc);
     error.number("id", number);

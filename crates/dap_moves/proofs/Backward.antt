@@ -8,11 +8,11 @@ use Rattle.runs.specs.declared.command.Command as runs_command
 use Rattle.runs.specs.declared.command.Reply as runs_reply
 use Rattle.runs.specs.declared.command.Refusal.{Refusal}
 use Rattle.runs.specs.declared.command.Refusal.TheVariants.{NoSuchEvent, NeededBy}
-use Rattle.dependence.proofs.ListPlaces.{in-at}
+use Rattle.dependence.proofs.public.ListPlaces.{in-at}
 use Rattle.locked_execution.specs.AtDesk.{AtDesk, execution}
 use Rattle.locked_execution.specs.Performs.{OnExecution, session_reply}
 use Rattle.locked_execution.specs.declared.command.Reply.{Reply}
-use Rattle.locked_execution.proofs.Unchanged.{all-same}
+use Rattle.locked_execution.proofs.public.Unchanged.{all-same}
 use Rattle.dap_moves.specs.Laws.{RefusedBack, BackWhereAlone}
 
 -- an undo of a live event is refused where another depends on it

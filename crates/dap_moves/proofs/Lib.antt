@@ -1,5 +1,5 @@
-pub mod Backward
-pub mod Leading
-pub mod Listing
-pub mod Passing
-pub mod Targets
+pub mod public
+mod Backward
+mod Listing
+mod Passing
+mod Targets

@@ -25,7 +25,9 @@ LedOn = (d m d' : AtDesk) → Led d m → Led m d' → Led d d'
 
 -- one command
 abbrev pub LedByOne : Type 0
-LedByOne = (d d' : AtDesk) (session : ℕ) (command : Command) (reply : Reply) → session < 16 → Answers d session command reply d' → Led d d'
+LedByOne =
+    (d d' : AtDesk) (session : ℕ) (command : Command) (reply : Reply) → session < 16 →
+    Answers d session command reply d' → Led d d'
 
 -- what holds after any commands on a sound execution
 abbrev pub KeepsHeadline : Type 0

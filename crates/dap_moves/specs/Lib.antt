@@ -6,4 +6,4 @@ pub mod Moves
 pub mod Parts
 pub mod Passing
 pub mod Stops
-pub mod walking
+pub mod internal

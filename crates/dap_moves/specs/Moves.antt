@@ -39,7 +39,8 @@ targets system k es = filter (acts system k) es ++ filter (joins system k) es
 -- the ticket of the last of these live events in which branch k took part, where there is one
 abbrev pub NewestOf : System → Live → ℕ → Option ℕ → Type 0
 NewestOf system l k None = NoneBelow system k l (length l)
-NewestOf system l k (Some t) = (i : ℕ) × (e : Event) × NewestBelow system k l (length l) i × (slice_get l i ≡ Some (t, e))
+NewestOf system l k (Some t) =
+    (i : ℕ) × (e : Event) × NewestBelow system k l (length l) i × (slice_get l i ≡ Some (t, e))
 
 -- the same of all live events
 abbrev pub NewestTicket : AtDesk → ℕ → Option ℕ → Type 0

@@ -18,11 +18,13 @@ takes_part system k e = is_branch k (branch_at system e.first) || second_in syst
 
 -- of the live events from index `from` on and below index `below` branch k took part in none
 abbrev pub NoneAmong : System → ℕ → Live → ℕ → ℕ → Type 0
-NoneAmong system k l from below = (i : ℕ) (x : ℕ × Event) → from < i → i < below → slice_get l i ≡ Some x → takes_part system k x.1 ≡ false
+NoneAmong system k l from below =
+    (i : ℕ) (x : ℕ × Event) → from < i → i < below → slice_get l i ≡ Some x → takes_part system k x.1 ≡ false
 
 -- branch k took part in none of the live events below this index
 abbrev pub NoneBelow : System → ℕ → Live → ℕ → Type 0
-NoneBelow system k l below = (i : ℕ) (x : ℕ × Event) → i < below → slice_get l i ≡ Some x → takes_part system k x.1 ≡ false
+NoneBelow system k l below =
+    (i : ℕ) (x : ℕ × Event) → i < below → slice_get l i ≡ Some x → takes_part system k x.1 ≡ false
 
 -- the last live event below this index in which branch k took part stands at index i
 pub record NewestBelow (system : System) (k : ℕ) (l : Live) (below i : ℕ) : Type 0 where

@@ -46,8 +46,8 @@ pub record StopsAt (m : AtMachine) (lines : List ℕ) (e : Event) (line : ℕ) :
 abbrev pub IsReady : AtDesk → Event → Type 0
 IsReady d e = (T : State) × Reaches (execution d) T × Allowed T e
 
--- what a run that stops at these lines may ask: the step of a ready event that passes by them, or before which it has stood already; and
--- any step of a branch where there is no line
+-- what a run that stops at these lines may ask: the step of a ready event that passes by them, or before which it has
+-- stood already; and any step of a branch where there is no line
 abbrev pub MayAsk : AtDesk → List ℕ → List Choice → Command → Type 0
 MayAsk d lines seen (Command.Step c) =
     (e : Event) × IsReady d e × (c ≡ choice_of e) × (PassesBy d.machine lines e ⊎ In c seen)

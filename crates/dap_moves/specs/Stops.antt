@@ -6,8 +6,8 @@ use Rattle.system.specs.declared.command.Action.TheOpen.{Action-F, Arm-F, Comman
 use Rattle.system.specs.declared.command.Action.TheFolds.{fold-Command}
 use Rattle.system_places.specs.LinesBegun.{any_onto, last_of}
 
--- whether a command does, or one within it, a line a form; `here` says that it has the line. A command that goes on, one that
--- halts, a sequence and a parallel are no side of an event
+-- whether a command does, or one within it, a line a form; `here` says that it has the line. A command that goes on,
+-- one that halts, a sequence and a parallel are no side of an event
 abbrev pub stop_layer : Action-F (Bool → Bool) Bool Bool Bool Bool → Bool → Bool
 stop_layer Action-F.Continue here = false
 stop_layer Action-F.Halt here = false
@@ -39,7 +39,8 @@ stop_labelled a = a.body
 
 -- whether a command that has the line, or one within it, can be a side of an event
 abbrev pub stops : ℕ → Command → Bool
-stops line = fold-Command (Bool → Bool) Bool Bool Bool Bool stop_layer stop_arm (stop_command line) stop_guarded stop_labelled
+stops line =
+    fold-Command (Bool → Bool) Bool Bool Bool Bool stop_layer stop_arm (stop_command line) stop_guarded stop_labelled
 
 -- no line from `low` on and before `high` stops
 abbrev pub NoneStops : Command → ℕ → ℕ → Type 0

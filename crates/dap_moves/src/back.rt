@@ -20,8 +20,8 @@ pub enum Back {
     Asked(u64, Reply),
 }
 
-/// Takes the newest live step back in which the branch took part. It takes no memory. Where a live step depends on it, nothing
-/// changes, and the refusal names the first that does.
+/// Takes the newest live step back in which the branch took part. It takes no memory. Where a live step depends on it,
+/// nothing changes, and the refusal names the first that does.
 pub fn step_back(desk: &mut Desk, branch: u32) -> Back
     ensures back { StepsBack desk.old branch result desk.new }
     ensures led { Led desk.old desk.new }

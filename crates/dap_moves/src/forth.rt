@@ -23,8 +23,8 @@ pub fn step_at(alloc: Global, desk: &mut Desk, event: &Event) -> Reply
     }
 }
 
-/// The step of this number, counted from 0, among those that a step of the branch can be: of these events the ones that act in
-/// it, and behind them the others in which it takes part.
+/// The step of this number, counted from 0, among those that a step of the branch can be: of these events the ones that
+/// act in it, and behind them the others in which it takes part.
 pub fn target_at<'a>(
     system: &System,
     events: &'a [Event],

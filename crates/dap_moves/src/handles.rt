@@ -1,4 +1,5 @@
-// The numbers by which a client names frames and what it unfolds: no table is kept, so one state has one number for each.
+// The numbers by which a client names frames and what it unfolds: no table is kept, so one state has one number for
+// each.
 ghost use Rattle.std.specs.Prelude.{ℕ, ◌≡◌, ◌<◌, ◌^◌, ◌*◌, ◌+◌, Some};
 ghost use Rattle.dap_moves.specs.declared.handles.Handle.{Handle as Unfolded};
 ghost use Rattle.dap_moves.specs.Handles as model;
@@ -34,7 +35,8 @@ pub fn frame_of(id: u64) -> (u64, u64)
     (id / MOST_FRAMES, id % MOST_FRAMES)
 }
 
-/// The number by which something is unfolded. It is never 0. Numbers of 2^32 and more, which no system has, may share one.
+/// The number by which something is unfolded. It is never 0. Numbers of 2^32 and more, which no system has, may share
+/// one.
 pub fn reference(handle: Handle) -> u64
     ensures { model.number_of handle < 2 ^ 32 → result ≡ model.reference handle }
 {

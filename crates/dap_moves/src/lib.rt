@@ -1,5 +1,5 @@
-//! What a debug adapter does to a desk: it steps a branch, goes on until something stops it, and takes steps back. What a
-//! request leaves is what some commands of sessions leave, and none where it only reads.
+//! What a debug adapter does to a desk: it steps a branch, goes on until something stops it, and takes steps back. What
+//! a request leaves is what some commands of sessions leave, and none where it only reads.
 #![tactic(auto)]
 
 mod back;

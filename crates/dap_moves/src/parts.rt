@@ -45,9 +45,11 @@ fn is_branch(branch: u32, found: Option<u32>) -> bool
     }
 }
 
-/// The index, counted from 0 in order of tickets, of the last live event below this index in which the branch took part.
+/// The index, counted from 0 in order of tickets, of the last live event below this index in which the branch took
+/// part.
 pub fn newest_below(system: &System, live: &Live, branch: u32, below: usize) -> Option<usize>
-    ensures { MatchOption result (NoneBelow system.now branch live.now.live below) (λ i. NewestBelow system.now branch live.now.live below i) }
+    ensures { MatchOption result (NoneBelow system.now branch live.now.live below) (λ i.
+        NewestBelow system.now branch live.now.live below i) }
 {
     let mut left = below;
     while left > 0 {
@@ -61,8 +63,10 @@ pub fn newest_below(system: &System, live: &Live, branch: u32, below: usize) -> 
 
 /// Whether the branch took part in the live event at this index. There may be none.
 fn took_part_at(system: &System, live: &Live, branch: u32, index: usize) -> bool
-    ensures is { (x : ℕ × AnEvent) → slice_get live.now.live index ≡ Some x → result ≡ takes_part system.now branch x.1 }
-    ensures found { result ≡ true → (x : ℕ × AnEvent) × (slice_get live.now.live index ≡ Some x) × (takes_part system.now branch x.1 ≡ true) }
+    ensures is { (x : ℕ × AnEvent) → slice_get live.now.live index ≡ Some x →
+        result ≡ takes_part system.now branch x.1 }
+    ensures found { result ≡ true →
+        (x : ℕ × AnEvent) × (slice_get live.now.live index ≡ Some x) × (takes_part system.now branch x.1 ≡ true) }
 {
     match live.pair_at(index as u64) {
         Some((_, event)) => takes_part(system, branch, event),

@@ -7,7 +7,7 @@ ghost use Rattle.locked_execution.specs.AtDesk.{AtDesk};
 ghost use Rattle.locked_execution.specs.declared.command.Command as asked;
 ghost use Rattle.dap_moves.specs.Led.{Led};
 ghost use Rattle.dap_moves.specs.Passing.{EndsTruly, IsReady, MayAsk, PassesBy, PassesNone, StopsAt, IsAtLine, stands_on};
-ghost use Rattle.dap_moves.specs.walking.Turning.{TurnsTruly};
+ghost use Rattle.dap_moves.specs.internal.Turning.{TurnsTruly};
 
 use crate::QUIET;
 use crate::forth::step_at;
@@ -61,8 +61,9 @@ enum Turn {
     Ended(Ended),
 }
 
-/// Goes on as planned. Each step is one command, and none passes a line with a breakpoint, but for the first, before which the
-/// run may have stood already. Where it stops before a step, `kept` has the choice of that, if there was memory for it.
+/// Goes on as planned. Each step is one command, and none passes a line with a breakpoint, but for the first, before
+/// which the run may have stood already. Where it stops before a step, `kept` has the choice of that, if there was
+/// memory for it.
 pub fn go_on(alloc: Global, desk: &mut Desk, plan: &Plan<'_>, kept: &mut Vec<Choice>) -> Ended
     ensures led { Led desk.old desk.new }
     ensures system { desk.new.machine.checked ≡ desk.old.machine.checked }
@@ -136,8 +137,8 @@ fn is_stuck(desk: &mut Desk, plan: &Plan<'_>, turn: u32, count: u32) -> bool
     }
 }
 
-/// One step, of this branch or of the next that has one. Where no line has a breakpoint nobody looks at the step before it is
-/// taken.
+/// One step, of this branch or of the next that has one. Where no line has a breakpoint nobody looks at the step before
+/// it is taken.
 fn take_turn(
     alloc: Global,
     desk: &mut Desk,
@@ -369,7 +370,8 @@ fn distance(turn: u32, branch: u32, count: u32) -> u64 {
 
 /// The branch and the line of a side of the event that is on one of these lines, the acting side before the other.
 pub(crate) fn line_among(machine: &Machine, lines: &[u64], event: &Event) -> Option<(u32, u64)>
-    ensures { MatchOption result (PassesBy machine.now lines.now event.now) (λ hit. StopsAt machine.now lines.now event.now hit.1) }
+    ensures { MatchOption result (PassesBy machine.now lines.now event.now) (λ hit.
+        StopsAt machine.now lines.now event.now hit.1) }
 {
     if lines.is_empty() {
         return None;
@@ -382,7 +384,8 @@ pub(crate) fn line_among(machine: &Machine, lines: &[u64], event: &Event) -> Opt
 
 /// The branch and the line of the first side of the event, else of the second, where that is one of these.
 fn line_of_sides(machine: &Machine, lines: &[u64], event: &Event) -> Option<(u32, u64)>
-    ensures { MatchOption result (PassesBy machine.now lines.now event.now) (λ hit. StopsAt machine.now lines.now event.now hit.1) }
+    ensures { MatchOption result (PassesBy machine.now lines.now event.now) (λ hit.
+        StopsAt machine.now lines.now event.now hit.1) }
 {
     if let Some(found) = line_at(machine, lines, &event.first) {
         return Some(found);
@@ -396,7 +399,8 @@ fn line_of_sides(machine: &Machine, lines: &[u64], event: &Event) -> Option<(u32
 /// The branch and the line of the place, where that is one of these.
 #[tactic(auto, using(crate::proofs::Passing::on_lines))]
 fn line_at(machine: &Machine, lines: &[u64], place: &Address) -> Option<(u32, u64)>
-    ensures { MatchOption result (stands_on machine.now lines.now place.now ≡ false) (λ hit. IsAtLine machine.now lines.now place.now hit.1) }
+    ensures { MatchOption result (stands_on machine.now lines.now place.now ≡ false) (λ hit.
+        IsAtLine machine.now lines.now place.now hit.1) }
 {
     let line = line_after(machine.checked(), machine.live_events(), place)?;
     if !is_among(lines, line) {

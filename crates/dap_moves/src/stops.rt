@@ -3,7 +3,7 @@ ghost use Rattle.std.specs.Prelude.{◌≡◌, ◌≤◌, ◌+◌, ℕ, false, m
 ghost use Rattle.std.specs.Option.{option_map};
 ghost use Rattle.system_places.specs.LinesBegun.{any_onto, last_of};
 ghost use Rattle.dap_moves.specs.Stops as model;
-ghost use Rattle.dap_moves.specs.walking.StopParts as parts;
+ghost use Rattle.dap_moves.specs.internal.StopParts as parts;
 
 use std::alloc::{AllocError, Global};
 use system::{Action, Arm, Command, Guarded, Labelled, System};

@@ -33,8 +33,8 @@ pub struct Marks<'a> {
     pub watched: &'a [Watched],
 }
 
-/// Takes the live step of the greatest ticket back, again and again. Where a line stops it, `kept` has the choice of the step
-/// that was taken back last, if there was memory for it.
+/// Takes the live step of the greatest ticket back, again and again. Where a line stops it, `kept` has the choice of
+/// the step that was taken back last, if there was memory for it.
 pub fn rewind(alloc: Global, desk: &mut Desk, marks: Marks<'_>, kept: &mut Vec<Choice>) -> Rewound
     ensures led { Led desk.old desk.new }
     ensures system { desk.new.machine.checked ≡ desk.old.machine.checked }
@@ -74,8 +74,8 @@ fn last_ticket(machine: &Machine) -> Option<u64> {
     Some(ticket)
 }
 
-/// Takes the newest live step back in which the branch took part, with all that depend on it, again and again; otherwise as
-/// `rewind`.
+/// Takes the newest live step back in which the branch took part, with all that depend on it, again and again;
+/// otherwise as `rewind`.
 pub fn rewind_branch(
     alloc: Global,
     desk: &mut Desk,
@@ -135,8 +135,8 @@ fn roll_newest(
     }
 }
 
-/// Takes the live event of this ticket back, with all that depend on it; why not, if it was refused. Where none depends on it,
-/// that is an undo, which is quicker.
+/// Takes the live event of this ticket back, with all that depend on it; why not, if it was refused. Where none depends
+/// on it, that is an undo, which is quicker.
 fn undo_or_roll(desk: &mut Desk, ticket: u64) -> Option<Refusal>
     ensures led { Led desk.old desk.new }
     ensures system { desk.new.machine.checked ≡ desk.old.machine.checked }
@@ -163,8 +163,8 @@ fn refusal_in(reply: &Reply) -> Option<Refusal> {
     }
 }
 
-/// The index and the ticket of the newest live step below this index in which the branch took part, and why a run back ends
-/// there, if it does.
+/// The index and the ticket of the newest live step below this index in which the branch took part, and why a run back
+/// ends there, if it does.
 fn newest_with_stop(
     alloc: Global,
     machine: &Machine,

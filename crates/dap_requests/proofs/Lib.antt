@@ -1,3 +1,3 @@
-pub mod Forward
-pub mod Reading
-pub mod Saying
+pub mod public
+mod Forward
+mod Reading

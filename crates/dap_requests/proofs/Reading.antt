@@ -7,8 +7,8 @@ use Rattle.locked_execution.specs.AtDesk.{AtDesk, execution}
 use Rattle.locked_execution.specs.Performs.{Answers, OnExecution}
 use Rattle.locked_execution.specs.declared.command.Command.{Command}
 use Rattle.locked_execution.specs.declared.command.Reply.{Reply}
-use Rattle.locked_execution.proofs.Unchanged.{all-same}
-use Rattle.dap_moves.proofs.Leading.{led_nowhere, ready_leaves, value_leaves}
+use Rattle.locked_execution.proofs.public.Unchanged.{all-same}
+use Rattle.dap_moves.proofs.public.Leading.{led_nowhere, ready_leaves, value_leaves}
 use Rattle.dap_moves.specs.Led.{Led}
 use Rattle.dap_requests.specs.Reading.{reads}
 

@@ -16,8 +16,8 @@ abbrev pub Takes : AtDesk → Option Event → AtDesk → Type 0
 Takes d None d' = d' ≡ d
 Takes d (Some e) d' = (reply : Reply) × StepsAt d e reply d'
 
--- of the steps that branch k can be, the one of this number is asked for, if there is one; or there was no memory to list them, and nothing
--- changed
+-- of the steps that branch k can be, the one of this number is asked for, if there is one; or there was no memory to
+-- list them, and nothing changed
 abbrev pub StepsForth : AtDesk → ℕ → ℕ → AtDesk → Type 0
 StepsForth d k number d' =
     ((T : State) × (es : List Event) × Reaches (execution d) T × ReadyList T es

@@ -83,8 +83,8 @@ fn unset(alloc: Global, line: u64, reason: &str) -> Members {
     one
 }
 
-/// Answers `setBreakpoints`: those of this file are set anew, or of the one for which they were set before another was launched.
-/// Where it is refused, or there is no memory, they stay as they were.
+/// Answers `setBreakpoints`: those of this file are set anew, or of the one for which they were set before another was
+/// launched. Where it is refused, or there is no memory, they stay as they were.
 pub fn set_lines(
     alloc: Global,
     machine: &Machine,
@@ -194,7 +194,8 @@ pub fn place_again(
     place_all(alloc, machine, program, before.asked.as_slice(), own)
 }
 
-/// Where these breakpoints stand: on lines that stop, if they are of the file that is debugged. `None` where there is no memory.
+/// Where these breakpoints stand: on lines that stop, if they are of the file that is debugged. `None` where there is
+/// no memory.
 fn place_all(
     alloc: Global,
     machine: &Machine,

@@ -31,8 +31,8 @@ enum Line {
     Unknown,
 }
 
-/// Answers `evaluate`: a variable, a channel, or a line of a script. One that changes something is taken only where it was typed
-/// for that: in the console, or behind a `!`.
+/// Answers `evaluate`: a variable, a channel, or a line of a script. One that changes something is taken only where it
+/// was typed for that: in the console, or behind a `!`.
 #[tactic(auto, using(crate::proofs::Reading::led_still))]
 pub fn evaluate(
     alloc: Global,

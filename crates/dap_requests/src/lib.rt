@@ -3,7 +3,7 @@
 
 mod breakpoints;
 mod choices;
-mod completing;
+mod completion;
 mod console;
 mod moves;
 mod said;
@@ -14,7 +14,7 @@ pub use breakpoints::{
     tell_changed,
 };
 pub use choices::targets;
-pub use completing::completions;
+pub use completion::completions;
 pub use console::evaluate;
 pub use moves::{back_in, go_in, reverse, reverse_in, run, run_free, step_in};
 pub use said::{stop, tell};

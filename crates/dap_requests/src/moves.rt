@@ -23,7 +23,7 @@ use syntax::Items;
 use system_places::branch_at;
 
 /// Answers `next`, `stepIn` and `stepOut`: one step of the branch.
-#[tactic(auto, using(crate::proofs::Saying::run_ends, crate::proofs::Reading::led_still))]
+#[tactic(auto, using(crate::proofs::public::Saying::run_ends, crate::proofs::Reading::led_still))]
 pub fn step_in(
     alloc: Global,
     desk: &mut Desk,
@@ -42,8 +42,8 @@ pub fn step_in(
     }
 }
 
-/// The number of the step that is asked for among those that it can be, from 0. `stepIn` may name one, and is refused where it
-/// names none by a number from 1 on.
+/// The number of the step that is asked for among those that it can be, from 0. `stepIn` may name one, and is refused
+/// where it names none by a number from 1 on.
 fn target_in(request: &Request, answer: &mut Answer) -> Option<u64>
     ensures target { IsTarget request.now.kind result }
     ensures outcome { MatchOption result (IsRefusal answer.new.outcome × (answer.new.notes ≡ answer.old.notes))
@@ -158,7 +158,7 @@ fn tell_taken(alloc: Global, machine: &Machine, index: usize, branch: u32, answe
 }
 
 /// Tells the live step at this index, if there is one.
-#[tactic(auto, using(crate::proofs::Saying::says_none))]
+#[tactic(auto, using(crate::proofs::public::Saying::says_none))]
 fn tell_live(alloc: Global, machine: &Machine, index: usize, answer: &mut Answer)
     ensures { TellsOutputs answer.old answer.new }
 {
@@ -187,7 +187,7 @@ fn no_target(
 }
 
 /// Tells the words, and that nothing moves.
-#[tactic(auto, using(crate::proofs::Saying::stops_on))]
+#[tactic(auto, using(crate::proofs::public::Saying::stops_on))]
 fn tell_and_stop(alloc: Global, answer: &mut Answer, reason: &str, branch: u32, words: &Words)
     ensures { TellsStop answer.old answer.new }
 {
@@ -221,7 +221,7 @@ fn waits_words(
     words
 }
 
-/// Adds for whom the side at this index waits.
+/// Adds for whom the action at this index waits.
 fn add_wait(
     alloc: Global,
     machine: &Machine,
@@ -230,7 +230,7 @@ fn add_wait(
     number: usize,
     words: &mut Words,
 ) {
-    if let Some(offered) = sight.sides.as_slice().get(number) {
+    if let Some(offered) = sight.actions.as_slice().get(number) {
         words.add(if words.is_empty() {
             "Waits for "
         } else {
@@ -383,7 +383,7 @@ fn tell_ended(
             let words = nothing_words(alloc, machine, only);
             tell_and_stop(alloc, answer, "pause", branch.unwrap_or(0), &words);
         }
-        Ended::AtLine(side, line) => stop_at_line(alloc, program, answer, side, line),
+        Ended::AtLine(action, line) => stop_at_line(alloc, program, answer, action, line),
         Ended::Watched(branch, ticket) => stop_watched(alloc, machine, answer, branch, ticket),
         Ended::Most(branch) => stop_after_most(alloc, program, answer, branch),
         Ended::Refused(branch, why) => {
@@ -574,7 +574,7 @@ fn add_live(alloc: Global, machine: &Machine, ticket: u64, words: &mut Words) ->
 }
 
 /// Answers `reverseContinue`.
-#[tactic(auto, using(crate::proofs::Saying::run_ends, crate::proofs::Reading::led_still))]
+#[tactic(auto, using(crate::proofs::public::Saying::run_ends, crate::proofs::Reading::led_still))]
 pub fn reverse(
     alloc: Global,
     desk: &mut Desk,
@@ -662,7 +662,7 @@ fn tell_rewound(
 {
     match ended {
         Rewound::AtBeginning => stop(alloc, answer, "entry", branch, beginning_text(single)),
-        Rewound::AtLine(side, line) => stop_at_line(alloc, program, answer, side, line),
+        Rewound::AtLine(action, line) => stop_at_line(alloc, program, answer, action, line),
         Rewound::Watched(branch, ticket) => stop_before(alloc, branch, ticket, answer),
         Rewound::Refused(why) => {
             tell_refused(alloc, program, answer, branch, why, words_of(why));

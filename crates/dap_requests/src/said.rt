@@ -12,7 +12,7 @@ use std::alloc::Global;
 const MOST_OUTPUTS: usize = 1_000;
 
 /// Tells that nothing moves, with the reason and the thread, and what else there is to say.
-#[tactic(auto, using(crate::proofs::Saying::stops_now))]
+#[tactic(auto, using(crate::proofs::public::Saying::stops_now))]
 pub fn stop(alloc: Global, answer: &mut Answer, reason: &str, branch: u32, text: &str)
     ensures { TellsStop answer.old answer.new }
 {
@@ -33,7 +33,7 @@ fn stopped(alloc: Global, reason: &str, branch: u32, text: &str) -> Members {
 }
 
 /// Tells that a run stands before a line with a breakpoint.
-#[tactic(auto, using(crate::proofs::Saying::stops_now))]
+#[tactic(auto, using(crate::proofs::public::Saying::stops_now))]
 pub(crate) fn stop_at_line(
     alloc: Global,
     program: &Program,
@@ -62,7 +62,7 @@ fn add_hits(alloc: Global, program: &Program, line: u64, body: &mut Members) {
 }
 
 /// Tells a line of text.
-#[tactic(auto, using(crate::proofs::Saying::says_one))]
+#[tactic(auto, using(crate::proofs::public::Saying::says_one))]
 pub fn tell(alloc: Global, line: &str, category: &str, answer: &mut Answer)
     ensures { TellsOutputs answer.old answer.new }
 {
@@ -93,7 +93,7 @@ pub(crate) fn tell_step(
 }
 
 /// Tells what came out at output ports in the live steps from this index on, the last values alone where they are many.
-#[tactic(auto, using(crate::proofs::Saying::says_one, crate::proofs::Saying::says_none))]
+#[tactic(auto, using(crate::proofs::public::Saying::says_one, crate::proofs::public::Saying::says_none))]
 pub(crate) fn tell_outputs(alloc: Global, machine: &Machine, before: usize, answer: &mut Answer)
     ensures { TellsOutputs answer.old answer.new }
 {
@@ -160,7 +160,7 @@ fn refusal_line(alloc: Global, why: Refusal) -> Words {
 }
 
 /// Tells that nothing moves since a step was refused.
-#[tactic(auto, using(crate::proofs::Saying::stops_now))]
+#[tactic(auto, using(crate::proofs::public::Saying::stops_now))]
 fn stop_refused(
     alloc: Global,
     answer: &mut Answer,
@@ -177,7 +177,7 @@ fn stop_refused(
 }
 
 /// Keeps the refusal, for whoever asks.
-#[tactic(auto, using(crate::proofs::Saying::says_none, crate::proofs::Saying::says_lacking))]
+#[tactic(auto, using(crate::proofs::public::Saying::says_none, crate::proofs::public::Saying::says_lacking))]
 fn keep_refusal(alloc: Global, program: &mut Program, answer: &mut Answer, line: &str, words: &str)
     ensures { TellsOutputs answer.old answer.new }
 {

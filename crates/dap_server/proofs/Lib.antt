@@ -1,2 +1,2 @@
-pub mod Sending
-pub mod Sessions
+mod Sending
+mod Sessions

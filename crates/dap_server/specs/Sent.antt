@@ -21,15 +21,16 @@ AreJson [] [] = Unit {0}
 AreJson (m ∷ ms) (body ∷ bodies) = IsJsonOf m body × AreJson ms bodies
 AreJson _ _ = ⊥
 
--- these are the messages of the answer to a request, each as JSON, numbered on from `next`: its response, and its events
+-- these are the messages of the answer to a request, each as JSON, numbered on from `next`: its response, and its
+-- events
 pub record IsWhole (request : Request) (answer : Answer) (next : ℕ) (bodies : List (List ℕ)) : Type 0 where
   pub full : answer.lacks ≡ false
   pub messages : List Message
   pub answers : IsAnswerTo request answer next messages
   pub json : AreJson messages bodies
 
--- these messages answer a request, the first of which is the response; or, where there was no memory for them, short ones do,
--- which tell the gist of the answer
+-- these messages answer a request, the first of which is the response; or, where there was no memory for them, short
+-- ones do, which tell the gist of the answer
 abbrev pub AnswerRequest : Request → Answer → ℕ → List (List ℕ) → Type 0
 AnswerRequest request answer next bodies =
     IsWhole request answer next bodies ⊎ (bodies ≡ short_bodies request (gist_of answer.outcome answer.effect) next)

@@ -12,18 +12,21 @@ pub record Exchange {A : Type 0} (answers : A → Request → Answer → A → T
   pub answered : answers a request answer b
   pub told : AnswerRequest request answer next sent
 
--- what comes, one after another, a request or what is none, and what is sent: for each request its response and the events
--- behind it, and for what is no request one line, which changes nothing. All is numbered on from `next`
-abbrev pub Session : {A : Type 0} → (A → Request → Answer → A → Type 0) → A → ℕ → List (Option Request) → List (List ℕ) → A
+-- what comes, one after another, a request or what is none, and what is sent: for each request its response and the
+-- events behind it, and for what is no request one line, which changes nothing. All is numbered on from `next`
+abbrev pub Session : {A : Type 0} → (A → Request → Answer → A → Type 0) → A → ℕ → List (Option Request) →
+    List (List ℕ) → A
     → Type 0
 Session answers a next [] sent b = (sent ≡ []) × (b ≡ a)
 Session {A} answers a next (Some request ∷ heard) sent b =
     (m : A) × (own : List (List ℕ)) × (rest : List (List ℕ)) × Exchange answers a request next own m
     × Session answers m (next + length own) heard rest b × (sent ≡ own ++ rest)
 Session answers a next (None ∷ heard) sent b =
-    (line : List ℕ) × (rest : List (List ℕ)) × Session answers a (next + 1) heard rest b × (sent ≡ short_line line next ∷ rest)
+    (line : List ℕ) × (rest : List (List ℕ)) × Session answers a (next + 1) heard rest b
+    × (sent ≡ short_line line next ∷ rest)
 
--- some messages came, and the adapter became `b`; what was sent is written, and `after` is the number of the next message
+-- some messages came, and the adapter became `b`; what was sent is written, and `after` is the number of the next
+-- message
 pub record Serves {A : Type 0} (answers : A → Request → Answer → A → Type 0) (a : A) (next : ℕ) (b : A) (after : ℕ)
     (old new : Option (List ℕ)) : Type 0 where
   pub heard : List (Option Request)

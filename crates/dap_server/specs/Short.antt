@@ -52,7 +52,8 @@ short_name name = if nat_lt (length name) 64 && is_plain name then name else cod
 abbrev pub refusal_text : ℕ → List ℕ → List ℕ
 refusal_text why words =
     (codes "\",\"success\":false,\"message\":\"refused " ++ decimal why ++ codes ": " ++ words)
-    ++ (codes "\",\"body\":{\"error\":{\"id\":" ++ decimal why ++ codes ",\"format\":\"" ++ words ++ codes "\",\"showUser\":true}}}")
+    ++ (codes "\",\"body\":{\"error\":{\"id\":" ++ decimal why ++ codes ",\"format\":\"" ++ words
+    ++ codes "\",\"showUser\":true}}}")
 
 -- whether the protocol wants more with a response that such a request is done than there is memory for
 abbrev pub needs_more : Kind → Bool
@@ -65,13 +66,15 @@ needs_more _ = false
 abbrev pub success_text : Kind → List ℕ
 success_text Kind.Continue = codes "\",\"success\":true,\"body\":{\"allThreadsContinued\":true}}"
 success_text Kind.Evaluate =
-    codes "\",\"success\":true,\"body\":{\"result\":\"done; there is no memory left to tell more\",\"variablesReference\":0}}"
+    codes
+    "\",\"success\":true,\"body\":{\"result\":\"done; there is no memory left to tell more\",\"variablesReference\":0}}"
 success_text _ = codes "\",\"success\":true}"
 
 -- that a request is done; where more is wanted, this is refused, and the words say that it is done
 abbrev pub done_text : Kind → List ℕ
 done_text kind =
-    if needs_more kind then refusal_text 1 (codes "it is done, and there is no memory left to tell more") else success_text kind
+    if needs_more kind then refusal_text 1 (codes "it is done, and there is no memory left to tell more")
+    else success_text kind
 
 -- what came of a request
 abbrev pub result_text : Kind → Gist → List ℕ
@@ -83,7 +86,8 @@ result_text kind (Gist.Due told) = done_text kind
 -- the response to a request
 abbrev pub short_response : Request → Gist → ℕ → List ℕ
 short_response request gist seq =
-    ((response_head request.seq seq ++ command_key) ++ short_name (string_bytes request.command)) ++ result_text request.kind gist
+    ((response_head request.seq seq ++ command_key) ++ short_name (string_bytes request.command))
+    ++ result_text request.kind gist
 
 -- the thread that a request names, else the first
 abbrev pub thread_named : Request → ℕ

@@ -16,7 +16,8 @@ pub(crate) struct Batch {
     pub(crate) count: u64,
 }
 
-/// The frames of the messages of an answer, the first of which has the number `next`. It is an error if there is no memory.
+/// The frames of the messages of an answer, the first of which has the number `next`. It is an error if there is no
+/// memory.
 pub(crate) fn batch_of(
     alloc: Global,
     request: &Request,

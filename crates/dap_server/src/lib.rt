@@ -9,10 +9,10 @@ mod input;
 mod kinds;
 mod output;
 mod room;
-mod serving;
+mod server;
 mod short;
 
 pub use adapter::Adapter;
 pub use fault::Fault;
 pub use kinds::is_move;
-pub use serving::serve;
+pub use server::serve;

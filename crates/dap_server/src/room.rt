@@ -15,7 +15,8 @@ const BODY_ROOM: usize = 1_024;
 /// The room for the frames of two messages.
 const FRAMES_ROOM: usize = 4_096;
 
-/// Short messages, and their frames. It is an error where they find no room, which does not come: no message is that long.
+/// Short messages, and their frames. It is an error where they find no room, which does not come: no message is that
+/// long.
 #[derive(Drop)]
 pub(crate) struct Room {
     body: Vec<u8>,
@@ -34,7 +35,8 @@ impl Room {
         })
     }
 
-    /// Makes the frames of the messages that answer a request for whose answer there is no memory, numbered from `seq` on.
+    /// Makes the frames of the messages that answer a request for whose answer there is no memory, numbered from `seq`
+    /// on.
     pub(crate) fn answer(
         &mut self,
         request: &Request,

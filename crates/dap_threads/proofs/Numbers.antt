@@ -4,8 +4,8 @@ use Rattle.std.proofs.Math.Nat.{mod-lt, min-le_right}
 use Rattle.std.proofs.Math.Pow.{split}
 use Rattle.std.proofs.lemmas.Bool.Decides.{nat_tests}
 use Rattle.dap_moves.specs.Handles.{frame_id}
-use Rattle.offered_sides.specs.declared.side.OfferedSide.{OfferedSide}
-use Rattle.runs.proofs.Options.{some-injective}
+use Rattle.local_actions.specs.declared.action.LocalAction.{LocalAction}
+use Rattle.runs.proofs.public.Options.{some-injective}
 use Rattle.system.specs.declared.system.System.{System}
 use Rattle.system_places.specs.SystemBranches.{branch_count}
 use Rattle.dap_threads.specs.Frames.{HasNoFrame, IsFrame, frame_count, places_below}
@@ -46,22 +46,22 @@ branch-there count branch small =
     ∙ ap (λ n. Some n) less
 
 -- a frame has few frames above it
-frame-small : (system : System) (sides : List OfferedSide) (branch k : ℕ) → k < frame_count system sides branch → k < 2 ^ 15
-frame-small system sides branch k h =
-    let most : frame_count system sides branch ≤ 1000 = min-le_right (max (places_below system sides branch (length sides)) 1) 1000 in
+frame-small : (system : System) (actions : List LocalAction) (branch k : ℕ) → k < frame_count system actions branch → k < 2 ^ 15
+frame-small system actions branch k h =
+    let most : frame_count system actions branch ≤ 1000 = min-le_right (max (places_below system actions branch (length actions)) 1) 1000 in
     let low : 1000 < 2 ^ 15 = lit< tt in
     omega arith
 
 -- the frame of the parts of a number
 pub is-frame :
-    (system : System) (sides : List OfferedSide) (id count frames branch : ℕ) (r : ℕ × ℕ)
+    (system : System) (actions : List LocalAction) (id count frames branch : ℕ) (r : ℕ × ℕ)
     → TellsParts id r
     → count ≡ branch_count system
     → branch_of count r.0 ≡ Some branch
-    → frames ≡ frame_count system sides branch
+    → frames ≡ frame_count system actions branch
     → r.1 < frames
-    → IsFrame system sides id branch r.1
-is-frame system sides id count frames branch r tells ec e ef small =
+    → IsFrame system actions id branch r.1
+is-frame system actions id count frames branch r tells ec e ef small =
     let found = branch-found count r.0 branch e in
     let P : ℕ → Type 0 = λ t. frame_id t r.1 ≡ id in
     let Q : ℕ → Type 0 = λ n. branch < n in
@@ -69,44 +69,44 @@ is-frame system sides id count frames branch r tells ec e ef small =
     (subst P (sym found.0) (parts-of id r tells), subst Q ec found.1, subst R ef small)
 
 -- a frame of the number is that of its parts
-parts-are : (system : System) (sides : List OfferedSide) (id branch k : ℕ) (r : ℕ × ℕ) → TellsParts id r → IsFrame system sides id branch k → r ≡ (branch + 1, k)
-parts-are system sides id branch k r tells f = tells (branch + 1) k (frame-small system sides branch k f.2) f.0
+parts-are : (system : System) (actions : List LocalAction) (id branch k : ℕ) (r : ℕ × ℕ) → TellsParts id r → IsFrame system actions id branch k → r ≡ (branch + 1, k)
+parts-are system actions id branch k r tells f = tells (branch + 1) k (frame-small system actions branch k f.2) f.0
 
 -- the branch of the thread is found where there is a frame
 frame-branch :
-    (system : System) (sides : List OfferedSide) (id count branch k : ℕ) (r : ℕ × ℕ)
+    (system : System) (actions : List LocalAction) (id count branch k : ℕ) (r : ℕ × ℕ)
     → TellsParts id r
     → count ≡ branch_count system
-    → IsFrame system sides id branch k
+    → IsFrame system actions id branch k
     → branch_of count r.0 ≡ Some branch
-frame-branch system sides id count branch k r tells ec f =
+frame-branch system actions id count branch k r tells ec f =
     let Q : ℕ → Type 0 = λ n. branch < n in
-    ap (λ q. branch_of count q.0) (parts-are system sides id branch k r tells f) ∙ branch-there count branch (subst Q (sym ec) f.1)
+    ap (λ q. branch_of count q.0) (parts-are system actions id branch k r tells f) ∙ branch-there count branch (subst Q (sym ec) f.1)
 
 -- none, where no branch is found
 pub no-branch :
-    (system : System) (sides : List OfferedSide) (id count : ℕ) (r : ℕ × ℕ)
+    (system : System) (actions : List LocalAction) (id count : ℕ) (r : ℕ × ℕ)
     → TellsParts id r
     → count ≡ branch_count system
     → branch_of count r.0 ≡ None
-    → HasNoFrame system sides id
-no-branch system sides id count r tells ec none branch k f =
-    let both : None ≡ Some branch = sym none ∙ frame-branch system sides id count branch k r tells ec f in cc
+    → HasNoFrame system actions id
+no-branch system actions id count r tells ec none branch k f =
+    let both : None ≡ Some branch = sym none ∙ frame-branch system actions id count branch k r tells ec f in cc
 
 -- none, where the index is behind the frames of the branch
 pub none-behind :
-    (system : System) (sides : List OfferedSide) (id count frames found : ℕ) (r : ℕ × ℕ)
+    (system : System) (actions : List LocalAction) (id count frames found : ℕ) (r : ℕ × ℕ)
     → TellsParts id r
     → count ≡ branch_count system
     → branch_of count r.0 ≡ Some found
-    → frames ≡ frame_count system sides found
+    → frames ≡ frame_count system actions found
     → frames ≤ r.1
-    → HasNoFrame system sides id
-none-behind system sides id count frames found r tells ec e ef behind branch k f =
+    → HasNoFrame system actions id
+none-behind system actions id count frames found r tells ec e ef behind branch k f =
     let same : branch ≡ found =
-    some-injective branch found (sym (frame-branch system sides id count branch k r tells ec f) ∙ e) in
-    let index : r.1 ≡ k = ap (λ q. q.1) (parts-are system sides id branch k r tells f) in
-    let P : ℕ → Type 0 = λ b. k < frame_count system sides b in
+    some-injective branch found (sym (frame-branch system actions id count branch k r tells ec f) ∙ e) in
+    let index : r.1 ≡ k = ap (λ q. q.1) (parts-are system actions id branch k r tells f) in
+    let P : ℕ → Type 0 = λ b. k < frame_count system actions b in
     let R : ℕ → Type 0 = λ n. k < n in
     let S : ℕ → Type 0 = λ n. n < frames in
     let before : r.1 < frames = subst S (sym index) (subst R (sym ef) (subst P same f.2)) in

@@ -11,8 +11,8 @@ ghost use Rattle.dap_threads.specs.Threads.{branch_of, branch_named};
 use address::Address;
 use dap_messages::{Answer, Listed, Members, Request};
 use dap_moves::{Machine, frame_id, frame_of};
-use dap_views::{Program, Rank, Sight, Words, add_side, add_waits, line_at};
-use offered_sides::OfferedSide;
+use dap_views::{Program, Rank, Sight, Words, add_action, add_waits, line_at};
+use local_actions::LocalAction;
 use std::alloc::Global;
 use system::{Branch, System};
 use system_places::{branch_at, branch_count};
@@ -88,8 +88,8 @@ fn thread(
     thread
 }
 
-/// The name of a thread: the procedure that begins there, with the number of its call where there are several of it, and the line on
-/// which it stands now; or the port.
+/// The name of a thread: the procedure that begins there, with the number of its call where there are several of it,
+/// and the line on which it stands now; or the port.
 fn thread_name(
     alloc: Global,
     machine: &Machine,
@@ -114,7 +114,7 @@ fn add_line(machine: &Machine, sight: &Sight, branch: u32, words: &mut Words) {
     let Some(number) = first_place(machine, sight, branch) else {
         return;
     };
-    if let Some(offered) = sight.sides.as_slice().get(number) {
+    if let Some(offered) = sight.actions.as_slice().get(number) {
         if let Some(line) = line_at(machine, &offered.place) {
             words.add(", line ");
             words.number(line);
@@ -122,7 +122,7 @@ fn add_line(machine: &Machine, sight: &Sight, branch: u32, words: &mut Words) {
     }
 }
 
-/// The index of the first side at the place of the branch that goes on first.
+/// The index of the first action at the place of the branch that goes on first.
 fn first_place(machine: &Machine, sight: &Sight, branch: u32) -> Option<usize> {
     if let Some(acting) = first_of(machine, sight, branch, Rank::Acts) {
         return Some(acting);
@@ -133,10 +133,10 @@ fn first_place(machine: &Machine, sight: &Sight, branch: u32) -> Option<usize> {
     first_of(machine, sight, branch, Rank::Waits)
 }
 
-/// The index of the first side of the branch at a place of this rank.
+/// The index of the first action of the branch at a place of this rank.
 fn first_of(machine: &Machine, sight: &Sight, branch: u32, rank: Rank) -> Option<usize> {
     let system = machine.checked().system();
-    for (index, offered) in sight.sides.as_slice().iter().enumerate() {
+    for (index, offered) in sight.actions.as_slice().iter().enumerate() {
         if branch_at(system, &offered.place) == Some(branch) && sight.rank(&offered.place) == rank {
             return Some(index);
         }
@@ -207,7 +207,7 @@ fn stack(
     for (index, number) in places.iter().enumerate() {
         let index = index as u64;
         if index >= first && index - first < levels {
-            if let Some(offered) = sight.sides.as_slice().get(*number) {
+            if let Some(offered) = sight.actions.as_slice().get(*number) {
                 list.push(frame(alloc, machine, program, sight, offered, branch, index));
             }
         }
@@ -228,8 +228,8 @@ fn lacking(alloc: Global) -> Members {
     members
 }
 
-/// The indexes of the sides at the places of the branch, one for each place, at most 1,000: those that act first, and then those
-/// whose partner does.
+/// The indexes of the actions at the places of the branch, one for each place, at most 1,000: those that act first, and
+/// then those whose partner does.
 pub fn places_in(
     alloc: Global,
     machine: &Machine,
@@ -252,10 +252,10 @@ fn add_places(
     found: &mut Vec<usize>,
 ) -> Option<()> {
     let system = machine.checked().system();
-    let sides = sight.sides.as_slice();
-    for index in 0..sides.len() {
-        if is_place_in(system, sides, branch, index)
-            && sight.rank(&sides[index].place) == rank
+    let actions = sight.actions.as_slice();
+    for index in 0..actions.len() {
+        if is_place_in(system, actions, branch, index)
+            && sight.rank(&actions[index].place) == rank
             && (found.len() as u64) < MOST_FRAMES
         {
             found.push(index).ok()?;
@@ -270,7 +270,7 @@ fn frame(
     machine: &Machine,
     program: &Program,
     sight: &Sight,
-    offered: &OfferedSide,
+    offered: &LocalAction,
     branch: u32,
     index: u64,
 ) -> Members {
@@ -284,7 +284,7 @@ fn frame(
         }
         None => add_port_place(alloc, machine, program, offered, &mut frame),
     }
-    add_side(alloc, machine, &offered.side, &mut words);
+    add_action(alloc, machine, &offered.action, &mut words);
     if sight.rank(&offered.place) == Rank::Waits {
         words.add(" (waits for ");
         add_waits(alloc, machine, &program.lines, sight, offered, &mut words);
@@ -295,23 +295,23 @@ fn frame(
 }
 
 /// Adds what the call is called to which the place belongs.
-fn add_call(machine: &Machine, program: &Program, offered: &OfferedSide, words: &mut Words) {
+fn add_call(machine: &Machine, program: &Program, offered: &LocalAction, words: &mut Words) {
     if let Some(instance) = program.index.instance_at(machine, &offered.place) {
         program.index.add_title(instance, words);
         words.add(": ");
     }
 }
 
-/// Adds where the port of the environment's side is declared.
+/// Adds where the port of the environment's action is declared.
 fn add_port_place(
     alloc: Global,
     machine: &Machine,
     program: &Program,
-    offered: &OfferedSide,
+    offered: &LocalAction,
     frame: &mut Members,
 ) {
     let system = machine.checked().system();
-    let channel = dap_views::channel_of(&offered.side).unwrap_or(0);
+    let channel = dap_views::channel_of(&offered.action).unwrap_or(0);
     let line = match system.channels.as_slice().get(channel as usize) {
         Some(channel) => program.lines.line_of(channel.declared),
         None => 1,
@@ -335,8 +335,8 @@ fn done_frame(alloc: Global, branch: u32) -> Members {
     frame
 }
 
-/// The branch and the instance of the frame that a request names; where it names none, the branch of the first step that is ready, and
-/// the root. It is refused where there is no such frame.
+/// The branch and the instance of the frame that a request names; where it names none, the branch of the first step
+/// that is ready, and the root. It is refused where there is no such frame.
 pub fn frame_in(
     alloc: Global,
     machine: &Machine,
@@ -364,7 +364,7 @@ fn frame_at(
     answer: &mut Answer,
 ) -> Option<(u32, usize)> {
     let system = machine.checked().system();
-    let Some((branch, index)) = frame_named(system, sight.sides.as_slice(), id) else {
+    let Some((branch, index)) = frame_named(system, sight.actions.as_slice(), id) else {
         answer.refuse(109, "there is no such frame any more");
         return None;
     };
@@ -388,15 +388,15 @@ fn frame_at(
 }
 
 /// The branch and the index of the frame of this number, where there is one.
-fn frame_named(system: &System, sides: &[OfferedSide], id: u64) -> Option<(u32, usize)>
-    ensures { MatchOption result (HasNoFrame system.now sides.now id)
-        (λ frame. IsFrame system.now sides.now id frame.0 frame.1) }
+fn frame_named(system: &System, actions: &[LocalAction], id: u64) -> Option<(u32, usize)>
+    ensures { MatchOption result (HasNoFrame system.now actions.now id)
+        (λ frame. IsFrame system.now actions.now id frame.0 frame.1) }
 {
     let (thread, index) = frame_of(id);
     match branch_of(thread, branch_count(system)) {
         Some(branch) => {
             let index = index as usize;
-            if index < frame_count(system, sides, branch) {
+            if index < frame_count(system, actions, branch) {
                 Some((branch, index))
             } else {
                 None
@@ -407,25 +407,25 @@ fn frame_named(system: &System, sides: &[OfferedSide], id: u64) -> Option<(u32, 
 }
 
 /// How many frames the branch has: one for each place in it, at most 1,000; and one where it has none.
-fn frame_count(system: &System, sides: &[OfferedSide], branch: u32) -> usize
-    ensures { result ≡ frame_count system.now sides.now branch }
+fn frame_count(system: &System, actions: &[LocalAction], branch: u32) -> usize
+    ensures { result ≡ frame_count system.now actions.now branch }
 {
     let mut count = 0;
-    for index in 0..sides.len() {
-        if is_place_in(system, sides, branch, index) {
+    for index in 0..actions.len() {
+        if is_place_in(system, actions, branch, index) {
             count += 1;
         }
     }
     count.max(1).min(MOST_FRAMES as usize)
 }
 
-/// Whether the side at the index stands in the branch, and the one before it at another place.
-fn is_place_in(system: &System, sides: &[OfferedSide], branch: u32, index: usize) -> bool
-    ensures { result ≡ is_place_in system.now sides.now branch index }
+/// Whether the action at the index stands in the branch, and the one before it at another place.
+fn is_place_in(system: &System, actions: &[LocalAction], branch: u32, index: usize) -> bool
+    ensures { result ≡ is_place_in system.now actions.now branch index }
 {
-    match sides.get(index) {
+    match actions.get(index) {
         Some(offered) => {
-            is_branch(branch, branch_at(system, &offered.place)) && !is_again(sides, index)
+            is_branch(branch, branch_at(system, &offered.place)) && !is_again(actions, index)
         }
         None => false,
     }
@@ -441,14 +441,14 @@ fn is_branch(branch: u32, found: Option<u32>) -> bool
     }
 }
 
-/// Whether the side before this has the same place.
-fn is_again(sides: &[OfferedSide], index: usize) -> bool
-    ensures { result ≡ is_again sides.now index }
+/// Whether the action before this has the same place.
+fn is_again(actions: &[LocalAction], index: usize) -> bool
+    ensures { result ≡ is_again actions.now index }
 {
     if index == 0 {
         return false;
     }
-    match (sides.get(index - 1), sides.get(index)) {
+    match (actions.get(index - 1), actions.get(index)) {
         (Some(one), Some(other)) => same_place(&one.place, &other.place),
         _ => false,
     }
@@ -461,8 +461,8 @@ fn same_place(one: &Address, other: &Address) -> bool
     one.equals(other)
 }
 
-/// The instance of a frame of the branch: the call to which the place of the side belongs that has this index. A side of the
-/// environment stands at a port of the root; a branch that is done, where it began.
+/// The instance of a frame of the branch: the call to which the place of the action belongs that has this index. An
+/// action of the environment stands at a port of the root; a branch that is done, where it began.
 fn instance_of(
     machine: &Machine,
     program: &Program,
@@ -475,7 +475,7 @@ fn instance_of(
     }
     match number {
         Some(number) => {
-            let offered = sight.sides.as_slice().get(*number)?;
+            let offered = sight.actions.as_slice().get(*number)?;
             program.index.instance_at(machine, &offered.place)
         }
         None => Some(program.index.instance_of_branch(branch)),

@@ -8,7 +8,9 @@ ghost use Rattle.dap_threads.specs.Unfolded.{HasHandle, IsFound, NamesHandle, is
 use crate::frames::frame_in;
 use dap_messages::{Answer, Listed, Members, Request};
 use dap_moves::{Handle, Machine, handle_of, newest_below, reference};
-use dap_views::{Named, Program, Sight, Thing, Words, add_side, add_who, channel_of, event_words};
+use dap_views::{
+    Named, Program, Sight, Thing, Words, add_action, add_who, channel_of, event_words,
+};
 use std::alloc::Global;
 use system_places::branch_count;
 
@@ -240,12 +242,12 @@ pub fn channel_words(
 ) -> Words {
     let mut words = Words::new(alloc);
     let mut count = 0u64;
-    for offered in sight.sides.as_slice() {
-        if channel_of(&offered.side) == Some(channel) {
+    for offered in sight.actions.as_slice() {
+        if channel_of(&offered.action) == Some(channel) {
             words.add(if count > 0 { "; " } else { "" });
             add_who(machine, &program.lines, &offered.place, &mut words);
             words.add(": ");
-            add_side(alloc, machine, &offered.side, &mut words);
+            add_action(alloc, machine, &offered.action, &mut words);
             count = count.saturating_add(1);
         }
     }

@@ -3,9 +3,9 @@ use Rattle.runs.specs.Object.{Reaches}
 use Rattle.runs.specs.Ready.{ReadyList}
 use Rattle.runs.specs.Steps.{State}
 use Rattle.machine.specs.AtMachine.{AtMachine, object}
-use Rattle.offered_sides.specs.Sides.{OffersExactly}
+use Rattle.local_actions.specs.Actions.{OffersExactly}
 use Rattle.dap_views.specs.declared.sight.Sight.{Sight}
 
--- the sides are exactly those that the state of the machine offers, and the steps exactly those that are ready in it
+-- the actions are exactly those that the state of the machine offers, and the steps exactly those that are ready in it
 abbrev pub SeesState : AtMachine → Sight → Type 0
-SeesState m sight = (S : State) × Reaches (object m) S × OffersExactly S sight.sides × ReadyList S sight.ready
+SeesState m sight = (S : State) × Reaches (object m) S × OffersExactly S sight.actions × ReadyList S sight.ready

@@ -32,8 +32,8 @@ pub struct Named {
     pub stands: bool,
 }
 
-/// All names. An instance is a call: its names begin with the numbers of the calls around it and its own, a `:` behind each. The root
-/// has no such beginning, and stands first.
+/// All names. An instance is a call: its names begin with the numbers of the calls around it and its own, a `:` behind
+/// each. The root has no such beginning, and stands first.
 #[derive(Drop)]
 pub struct Index {
     calls: Calls,
@@ -74,7 +74,8 @@ impl Index {
         }
     }
 
-    /// Adds what the instance at this index is called: its procedure, and the number of its call where there is more than one of it.
+    /// Adds what the instance at this index is called: its procedure, and the number of its call where there is more
+    /// than one of it.
     pub fn add_title(&self, instance: usize, words: &mut Words) {
         let Some(procedure) = self.calls.procedure(instance) else {
             return;
@@ -100,7 +101,8 @@ impl Index {
         false
     }
 
-    /// The index of the instance to which a place of the body belongs as the machine stands; none for a place of the environment.
+    /// The index of the instance to which a place of the body belongs as the machine stands; none for a place of the
+    /// environment.
     pub fn instance_at(&self, machine: &Machine, place: &Address) -> Option<usize> {
         self.calls.at(machine.live_events(), place)
     }
@@ -120,8 +122,9 @@ impl Index {
         None
     }
 
-    /// What a name means that is read in an instance: what that declares; else, where all that declare it mean the same by it, that; or
-    /// a whole name, as `1:x`. None where it is not declared, and where it may mean more than one thing.
+    /// What a name means that is read in an instance: what that declares; else, where all that declare it mean the same
+    /// by it, that; or a whole name, as `1:x`. None where it is not declared, and where it may mean more than one
+    /// thing.
     pub fn find(&self, instance: usize, name: &str) -> Option<Thing> {
         let (prefix, own) = parts_of(name);
         if prefix.is_empty() {

@@ -1,4 +1,4 @@
-//! What a debug adapter shows of a desk, in words: sides, events, lines, names, and what is launched.
+//! What a debug adapter shows of a desk, in words: actions, events, lines, names, and what is launched.
 #![tactic(auto)]
 
 mod index;
@@ -13,6 +13,6 @@ pub use lines::{Heading, Lines};
 pub use program::{Asked, Counting, Launch, Program, Refused, base_of, own_name};
 pub use short::event_words;
 pub use sight::{
-    Rank, Sight, add_side, add_waits, add_who, channel_of, line_at, sight_of, variable_of,
+    Rank, Sight, add_action, add_waits, add_who, channel_of, line_at, sight_of, variable_of,
 };
 pub use words::Words;

@@ -76,8 +76,8 @@ pub struct Program {
 }
 
 impl Program {
-    /// Whether a client means this program by the path. Where it was launched by a name that does not begin with `/`, it does so
-    /// by each path that ends in that.
+    /// Whether a client means this program by the path. Where it was launched by a name that does not begin with `/`,
+    /// it does so by each path that ends in that.
     pub fn is_at(&self, path: &str) -> bool {
         let program = self.launch.program.as_str();
         if program.starts_with('/') {

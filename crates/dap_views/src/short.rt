@@ -80,7 +80,7 @@ fn add_value(value: Option<Value>, words: &mut Words) {
     }
 }
 
-/// Adds the line at which the event acts, or that of its other side.
+/// Adds the line at which the event acts, or that of its other action.
 fn add_line(machine: &Machine, event: &Event, words: &mut Words) {
     let line = match line_at(machine, event.acting_place()) {
         Some(line) => Some(line),

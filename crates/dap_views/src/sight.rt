@@ -1,9 +1,9 @@
-// What a state offers: the steps that are ready, and the sides of events.
+// What a state offers: the steps that are ready, and the actions of events.
 ghost use Rattle.std.specs.Prelude.{IfOk};
 ghost use Rattle.runs.specs.Object.{Reaches};
 ghost use Rattle.runs.specs.Ready.{ReadyList};
 ghost use Rattle.runs.specs.Steps.{State};
-ghost use Rattle.offered_sides.specs.Sides.{OffersExactly};
+ghost use Rattle.local_actions.specs.Actions.{OffersExactly};
 ghost use Rattle.machine.specs.AtMachine.{object};
 ghost use Rattle.dap_views.specs.Seen.{SeesState};
 
@@ -12,19 +12,19 @@ use crate::words::Words;
 use address::Address;
 use dap_moves::{Machine, acts_in, takes_part};
 use event_places::line_after;
-use offered_sides::{OfferedSide, Side};
+use local_actions::{ActionKind, LocalAction};
 use runs::Event;
 use std::alloc::{AllocError, Global};
 use syntax::Items;
 use system_places::branch_at;
 
-/// The steps that are ready, and the sides that are offered.
+/// The steps that are ready, and the actions that are offered.
 #[derive(Drop)]
 pub struct Sight {
     /// in order of acting address, then arm
     pub ready: Items<Event>,
     /// in order of place
-    pub sides: Items<OfferedSide>,
+    pub actions: Items<LocalAction>,
 }
 
 /// How far a place is from going on. A lesser one stands before a greater one.
@@ -43,17 +43,17 @@ pub fn sight_of(machine: &Machine) -> Result<Sight, AllocError>
     ensures { IfOk result (λ sight. SeesState machine.now sight) }
 {
     machine.is_sound();
-    let sides = offered_sides(machine)?;
+    let actions = local_actions(machine)?;
     let ready = ready_events(machine)?;
-    Ok(Sight { ready, sides })
+    Ok(Sight { ready, actions })
 }
 
-/// The sides that are offered now. It is an error if there is no memory.
-fn offered_sides(machine: &Machine) -> Result<Items<OfferedSide>, AllocError>
-    ensures { IfOk result (λ sides. (T : State) × Reaches (object machine.now) T × OffersExactly T sides) }
+/// The actions that are offered now. It is an error if there is no memory.
+fn local_actions(machine: &Machine) -> Result<Items<LocalAction>, AllocError>
+    ensures { IfOk result (λ actions. (T : State) × Reaches (object machine.now) T × OffersExactly T actions) }
 {
-    match machine.sides() {
-        Ok(sides) => Ok(sides),
+    match machine.actions() {
+        Ok(actions) => Ok(actions),
         // No other refusal is told.
         Err(_) => Err(AllocError),
     }
@@ -101,7 +101,7 @@ impl Sight {
                 return "";
             }
         }
-        for offered in self.sides.as_slice() {
+        for offered in self.actions.as_slice() {
             if branch_at(system, &offered.place) == Some(branch) {
                 return " (waits)";
             }
@@ -121,54 +121,68 @@ fn is_at(event: &Event, place: &Address) -> bool {
     }
 }
 
-/// The channel that the side uses.
-pub fn channel_of(side: &Side) -> Option<u32> {
-    match side {
-        Side::Sends(channel, _, _)
-        | Side::Receives(channel, _)
-        | Side::Syncs(channel)
-        | Side::Opens(channel, _)
-        | Side::Releases(channel)
-        | Side::Closes(channel) => Some(*channel),
-        Side::Assigns(_, _, _) | Side::Tests(_, _) | Side::Turns => None,
+/// The channel that the action uses.
+pub fn channel_of(action: &ActionKind) -> Option<u32> {
+    match action {
+        ActionKind::Sends(channel, _, _)
+        | ActionKind::Receives(channel, _)
+        | ActionKind::Syncs(channel)
+        | ActionKind::Opens(channel, _)
+        | ActionKind::Releases(channel)
+        | ActionKind::Closes(channel) => Some(*channel),
+        ActionKind::Assigns(_, _, _) | ActionKind::Tests(_, _) | ActionKind::Turns => None,
     }
 }
 
 /// A variable of the command, if it is known to use one.
-pub fn variable_of(side: &Side) -> Option<u32> {
-    match side {
-        Side::Assigns(variable, _, _) | Side::Receives(_, Some(variable)) => Some(*variable),
-        Side::Sends(_, _, read) | Side::Tests(_, read) => read.as_slice().first().copied(),
+pub fn variable_of(action: &ActionKind) -> Option<u32> {
+    match action {
+        ActionKind::Assigns(variable, _, _) | ActionKind::Receives(_, Some(variable)) => Some(
+            *variable,
+        ),
+        ActionKind::Sends(_, _, read) | ActionKind::Tests(_, read) => read
+            .as_slice()
+            .first()
+            .copied(),
         _ => None,
     }
 }
 
-/// Adds the side in a few words.
-pub fn add_side(alloc: Global, machine: &Machine, side: &Side, words: &mut Words) {
+/// Adds the action in a few words.
+pub fn add_action(alloc: Global, machine: &Machine, action: &ActionKind, words: &mut Words) {
     let system = machine.checked().system();
-    match side {
-        Side::Assigns(variable, value, _) => {
+    match action {
+        ActionKind::Assigns(variable, value, _) => {
             words.variable(alloc, system, *variable);
             words.add(" := ");
             words.number(value.bits());
         }
-        Side::Tests(_, _) => words.add("test"),
-        Side::Turns => words.add("loop"),
-        Side::Sends(channel, value, _) => {
+        ActionKind::Tests(_, _) => words.add("test"),
+        ActionKind::Turns => words.add("loop"),
+        ActionKind::Sends(channel, value, _) => {
             words.channel(alloc, system, *channel);
             words.add(" <- ");
             words.number(value.bits());
         }
-        Side::Receives(channel, Some(variable)) => {
+        ActionKind::Receives(channel, Some(variable)) => {
             words.channel(alloc, system, *channel);
             words.add(" -> ");
             words.variable(alloc, system, *variable);
         }
-        Side::Receives(channel, None) => named(alloc, machine, words, "takes from ", *channel, ""),
-        Side::Syncs(channel) => named(alloc, machine, words, "sync ", *channel, ""),
-        Side::Opens(channel, _) => named(alloc, machine, words, "", *channel, " -> then"),
-        Side::Releases(channel) => named(alloc, machine, words, "held on ", *channel, ""),
-        Side::Closes(channel) => named(alloc, machine, words, "end of ", *channel, " -> then"),
+        ActionKind::Receives(channel, None) => named(
+            alloc,
+            machine,
+            words,
+            "takes from ",
+            *channel,
+            "",
+        ),
+        ActionKind::Syncs(channel) => named(alloc, machine, words, "sync ", *channel, ""),
+        ActionKind::Opens(channel, _) => named(alloc, machine, words, "", *channel, " -> then"),
+        ActionKind::Releases(channel) => named(alloc, machine, words, "held on ", *channel, ""),
+        ActionKind::Closes(channel) => named(
+            alloc, machine, words, "end of ", *channel, " -> then",
+        ),
     }
 }
 
@@ -204,41 +218,44 @@ pub fn add_who(machine: &Machine, lines: &Lines, place: &Address, words: &mut Wo
     }
 }
 
-/// Adds for whom the side waits: who stands at its channel, or who is missing there.
+/// Adds for whom the action waits: who stands at its channel, or who is missing there.
 pub fn add_waits(
     alloc: Global,
     machine: &Machine,
     lines: &Lines,
     sight: &Sight,
-    offered: &OfferedSide,
+    offered: &LocalAction,
     words: &mut Words,
 ) {
-    let Some(channel) = channel_of(&offered.side) else {
+    let Some(channel) = channel_of(&offered.action) else {
         return;
     };
     words.channel(alloc, machine.checked().system(), channel);
     words.add(": ");
     let mut found = false;
-    for other in sight.sides.as_slice() {
-        if channel_of(&other.side) == Some(channel) && !other.place.equals(&offered.place) {
+    for other in sight.actions.as_slice() {
+        if channel_of(&other.action) == Some(channel) && !other.place.equals(&offered.place) {
             words.add(if found { " and " } else { "" });
             add_who(machine, lines, &other.place, words);
             found = true;
         }
     }
     if !found {
-        words.add(missing(&offered.side));
+        words.add(missing(&offered.action));
     }
 }
 
-/// Who is missing where the side waits alone.
-fn missing(side: &Side) -> &'static str {
-    match side {
-        Side::Sends(_, _, _) => "nobody receives",
-        Side::Receives(_, _) => "nobody sends",
-        Side::Opens(_, _) => "nobody offers",
-        Side::Syncs(_) => "nobody else syncs",
-        Side::Releases(_) => "its partner has not ended what it does",
-        Side::Assigns(_, _, _) | Side::Tests(_, _) | Side::Turns | Side::Closes(_) => "",
+/// Who is missing where the action waits alone.
+fn missing(action: &ActionKind) -> &'static str {
+    match action {
+        ActionKind::Sends(_, _, _) => "nobody receives",
+        ActionKind::Receives(_, _) => "nobody sends",
+        ActionKind::Opens(_, _) => "nobody offers",
+        ActionKind::Syncs(_) => "nobody else syncs",
+        ActionKind::Releases(_) => "its partner has not ended what it does",
+        ActionKind::Assigns(_, _, _)
+        | ActionKind::Tests(_, _)
+        | ActionKind::Turns
+        | ActionKind::Closes(_) => "",
     }
 }

@@ -6,16 +6,16 @@ use Rattle.line_text.specs.declared.keyword.Keyword.TheVariants as keywords
 use Rattle.line_text.specs.EventText.{field}
 use Rattle.line_text.specs.Fields.{BeginsField, CutAtSpace}
 use Rattle.line_text.specs.Keywords.{spelling}
-use Rattle.line_text.specs.walking.Spelled.{SpellsNothing}
+use Rattle.line_text.specs.internal.Spelled.{SpellsNothing}
 use Rattle.debug_session.specs.declared.line.Line.{Line}
 use Rattle.debug_session.specs.declared.fault.Fault.{Fault}
 use Rattle.line_text.specs.Operands.{IsNumber, MayBeChoice}
-use Rattle.line_text.specs.walking.NoOperand.{IsNoTicket, IsNoVariable, IsNoChoice}
-use Rattle.line_text.proofs.NumberLemmas.{read-number}
+use Rattle.line_text.specs.internal.NoOperand.{IsNoTicket, IsNoVariable, IsNoChoice}
+use Rattle.line_text.proofs.public.NumberLemmas.{read-number}
 use Rattle.debug_session.specs.Lines.{MayBeStep, AsksBy, Asks, AsksNothing, Says, SaysSession}
-use Rattle.debug_session.specs.walking.NotAsked.{IsNoSession, AsksNothingBy}
-use Rattle.line_text.proofs.CutLemmas.{cut-same}
-use Rattle.line_text.proofs.KeywordLemmas.{spelling-no-space, one-keyword}
+use Rattle.debug_session.specs.internal.NotAsked.{IsNoSession, AsksNothingBy}
+use Rattle.line_text.proofs.public.CutLemmas.{cut-same}
+use Rattle.line_text.proofs.public.KeywordLemmas.{spelling-no-space, one-keyword}
 
 -- a field begins with a space
 field-begins : (rest text : List ℕ) → rest ≡ field text → BeginsField rest

@@ -3,7 +3,7 @@ use Rattle.std.proofs.Common.{◌≡◌, ◌⊎◌, inl, inr, ℕ, List, Result,
 use Rattle.system.specs.declared.system.System.{System}
 use Rattle.debug_session.specs.Accepting.{IsRefused}
 use Rattle.debug_session.specs.Counting.{fault_reads, fault_writes, after_reading, after_writing}
-use Rattle.debug_session.specs.walking.OneLine.{LineStops}
+use Rattle.debug_session.specs.internal.OneLine.{LineStops}
 use Rattle.debug_session.specs.declared.fault.Fault.{Fault}
 
 -- a fault of reading is none of writing

@@ -1,42 +1,42 @@
--- Answers that are held.
+-- Answers that are pending.
 use Rattle.std.proofs.Common.{◌≡◌, ℕ, List, [], ◌++◌, Option, Result, Ok, Err, MatchResult, sym, ap, ◌∙◌, subst, append_assoc, append-nil}
 use Rattle.std.specs.Io.KnownBytes.{Appends}
-use Rattle.devices.proofs.KnownLemmas.{Appends-then}
+use Rattle.devices.proofs.public.KnownLemmas.{Appends-then}
 use Rattle.debug_session.specs.Counting.{WritingStops}
 use Rattle.debug_session.specs.declared.fault.Fault.{Fault}
 
--- what was held is out
+-- what was pending is out
 abbrev pub IsPut : List ℕ → List ℕ → List ℕ → Type 0
-IsPut held held' given = (given ≡ held) × (held' ≡ [])
+IsPut pending pending' given = (given ≡ pending) × (pending' ≡ [])
 
 -- what came of an answer
 abbrev pub HoldEnds : Option (List ℕ) → Option (List ℕ) → List ℕ → List ℕ → List ℕ → Result (Unit {0}) Fault → Type 0
-HoldEnds old new held held' answer r =
+HoldEnds old new pending pending' answer r =
     (given : List ℕ) × Appends old new given
-    × MatchResult r (λ _. given ++ held' ≡ held ++ answer) (λ fault. WritingStops (held ++ answer) given fault)
+    × MatchResult r (λ _. given ++ pending' ≡ pending ++ answer) (λ fault. WritingStops (pending ++ answer) given fault)
 
--- what was held could not be written
-pub hold-unput : (old new : Option (List ℕ)) (held held' answer : List ℕ) (fault : Fault) (r : Result (Unit {0}) Fault)
-    → (given : List ℕ) × Appends old new given × WritingStops held given fault → r ≡ Err fault → HoldEnds old new held held' answer r
-hold-unput old new held held' answer fault r (given, gives, (failed, (missing, e))) is =
-    subst (HoldEnds old new held held' answer) (sym is)
+-- what was pending could not be written
+pub hold-unput : (old new : Option (List ℕ)) (pending pending' answer : List ℕ) (fault : Fault) (r : Result (Unit {0}) Fault)
+    → (given : List ℕ) × Appends old new given × WritingStops pending given fault → r ≡ Err fault → HoldEnds old new pending pending' answer r
+hold-unput old new pending pending' answer fault r (given, gives, (failed, (missing, e))) is =
+    subst (HoldEnds old new pending pending' answer) (sym is)
     (given, gives, (failed, (missing ++ answer, ap (λ t. t ++ answer) e ∙ append_assoc given missing answer)))
 
--- what was held is out, and the answer behind it, or a beginning of it
-pub hold-put : (old mid new : Option (List ℕ)) (held held' answer : List ℕ) (r : Result (Unit {0}) Fault)
-    → (given : List ℕ) × Appends old mid given × IsPut held held' given
+-- what was pending is out, and the answer behind it, or a beginning of it
+pub hold-put : (old mid new : Option (List ℕ)) (pending pending' answer : List ℕ) (r : Result (Unit {0}) Fault)
+    → (given : List ℕ) × Appends old mid given × IsPut pending pending' given
     → (given : List ℕ) × Appends mid new given × MatchResult r (λ _. given ≡ answer) (λ fault. WritingStops answer given fault)
-    → HoldEnds old new held held' answer r
-hold-put old mid new held held' answer (Ok x) (one, gives, (all, none)) (two, more, whole) = (
+    → HoldEnds old new pending pending' answer r
+hold-put old mid new pending pending' answer (Ok x) (one, gives, (all, none)) (two, more, whole) = (
   one ++ two,
   Appends-then old mid new one two gives more,
-  ap (λ t. (one ++ two) ++ t) none ∙ (append-nil (one ++ two) ∙ (ap (λ t. t ++ two) all ∙ ap (λ t. held ++ t) whole)),
+  ap (λ t. (one ++ two) ++ t) none ∙ (append-nil (one ++ two) ∙ (ap (λ t. t ++ two) all ∙ ap (λ t. pending ++ t) whole)),
 )
-hold-put old mid new held held' answer (Err fault) (one, gives, (all, none)) (two, more, (failed, (missing, e))) = (
+hold-put old mid new pending pending' answer (Err fault) (one, gives, (all, none)) (two, more, (failed, (missing, e))) = (
   one ++ two,
   Appends-then old mid new one two gives more,
   (
     failed,
-    (missing, ap (λ t. held ++ t) e ∙ (ap (λ t. t ++ (two ++ missing)) (sym all) ∙ sym (append_assoc one two missing))),
+    (missing, ap (λ t. pending ++ t) e ∙ (ap (λ t. t ++ (two ++ missing)) (sym all) ∙ sym (append_assoc one two missing))),
   ),
 )

@@ -1,10 +1,9 @@
-pub mod AcceptLemmas
-pub mod AskLemmas
-pub mod CountLemmas
-pub mod EndLemmas
-pub mod HeldLemmas
-pub mod LineLemmas
-pub mod OneThingLemmas
-pub mod PieceLemmas
-pub mod ReplayLemmas
-pub mod SessionLemmas
+pub mod public
+mod AcceptLemmas
+mod AskLemmas
+mod CountLemmas
+mod EndLemmas
+mod HeldLemmas
+mod OneThingLemmas
+mod PieceLemmas
+mod SessionLemmas

@@ -7,9 +7,9 @@ use Rattle.line_text.specs.declared.keyword.Keyword.{Keyword}
 use Rattle.line_text.specs.declared.keyword.Keyword.TheVariants as keywords
 use Rattle.line_text.specs.Keywords.{spelling}
 use Rattle.debug_session.specs.Lines.{IsSession, AsksBy, Asks, Says}
-use Rattle.line_text.proofs.CutLemmas.{cut-same}
-use Rattle.line_text.proofs.KeywordLemmas.{spelling-no-space, one-keyword}
-use Rattle.line_text.proofs.OneOperand.{one-number, one-branch, one-variable, one-choice}
+use Rattle.line_text.proofs.public.CutLemmas.{cut-same}
+use Rattle.line_text.proofs.public.KeywordLemmas.{spelling-no-space, one-keyword}
+use Rattle.line_text.proofs.public.OneOperand.{one-number, one-branch, one-variable, one-choice}
 use Rattle.debug_session.proofs.AskLemmas.{behind-begins}
 
 -- one session stands in a field

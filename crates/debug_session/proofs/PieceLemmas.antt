@@ -6,7 +6,7 @@ use Rattle.debug_session.specs.declared.fault.Fault.{Fault}
 use Rattle.debug_session.specs.AtLine.{AtLine}
 use Rattle.debug_session.specs.Lines.{Asks, Says}
 use Rattle.debug_session.specs.Transcript.{SaidAnswered, LineAnswered}
-use Rattle.debug_session.specs.walking.OneLine.{LineStops}
+use Rattle.debug_session.specs.internal.OneLine.{LineStops}
 use Rattle.debug_session.proofs.AskLemmas.{Unsaid}
 
 -- why a line says nothing

@@ -10,4 +10,4 @@ pub mod Script
 pub mod Sessions
 pub mod Transcript
 pub mod Wrapping
-pub mod walking
+pub mod internal

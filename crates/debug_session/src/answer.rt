@@ -4,12 +4,12 @@ ghost use Rattle.devices.specs.Counting.{device, failures};
 ghost use Rattle.debug_session.specs.Counting.{after_reading, after_writing};
 ghost use Rattle.debug_session.specs.Lines.{SaysSession};
 ghost use Rattle.debug_session.specs.declared.line.Line.{Line};
-ghost use Rattle.debug_session.specs.walking.OneLine.{LineStops, EndsByDevice, EndsByNoDevice, EndsHolding};
+ghost use Rattle.debug_session.specs.internal.OneLine.{LineStops, EndsByDevice, EndsByNoDevice, EndsHolding};
 ghost use Rattle.debug_session.specs.Transcript.{SaidAnswered, LineAnswered, Ends};
 
-use crate::held::{hold, put_out};
 use crate::input::next_line;
-use crate::sitting::Sitting;
+use crate::pending::{hold, put_out};
+use crate::script_state::ScriptState;
 use crate::{Counted, Fault, Line, read_command, write_answer, write_session};
 use locked_execution::Command;
 use std::alloc::{AllocError, Global};
@@ -17,56 +17,57 @@ use std::io::{BufReader, Read, Write};
 
 /// Answers each line of the reader. It ends where the reader is at its end, or at the first fault: then the answers of
 /// the lines before are out, and where writing failed a beginning of the answers. Before the reader asks its device for
-/// more, all answers are out: they are held back only while its buffer has another line. Each line is taken into `line`.
+/// more, all answers are out: they are pending back only while its buffer has another line. Each line is taken into
+/// `line`.
 pub(crate) fn answer_lines<R: Read, W: Write>(
     alloc: Global,
-    sitting: &mut Sitting<'_>,
+    script_state: &mut ScriptState<'_>,
     reader: &mut Counted<BufReader<R>>,
     writer: &mut Counted<W>,
     line: &mut Vec<u8>,
 ) -> Result<(), Fault>
-    ensures ends { Ends sitting.old.desk.machine.checked sitting.old
+    ensures ends { Ends script_state.old.desk.machine.checked script_state.old
         (reader_remaining R.remaining (device reader.old)) (reader_remaining R.remaining (device reader.new))
         (W.contents (device writer.old)) (W.contents (device writer.new)) result }
     ensures read_failures { failures reader.new ≡ after_reading result (failures reader.old) }
     ensures write_failures { failures writer.new ≡ after_writing result (failures writer.old) }
 {
-    let mut held = Vec::new(alloc);
-    let ended = hold_answers(alloc, sitting, reader, writer, &mut held, line);
+    let mut pending = Vec::new(alloc);
+    let ended = hold_answers(alloc, script_state, reader, writer, &mut pending, line);
     if has_failed(&ended) {
         return ended;
     }
-    put_out(writer, &mut held)?;
+    put_out(writer, &mut pending)?;
     ended
 }
 
-/// Whether the session ended since a device failed. Then nothing that is held is to be written.
+/// Whether the session ended since a device failed. Then nothing that is pending is to be written.
 fn has_failed(ended: &Result<(), Fault>) -> bool
     ensures { MatchBool result (EndsByDevice ended.now) (EndsByNoDevice ended.now) }
 {
     matches!(ended, Err(Fault::ReadFailed | Fault::WriteFailed))
 }
 
-/// Answers the lines; some of the answers may still be held at the end.
+/// Answers the lines; some of the answers may still be pending at the end.
 fn hold_answers<R: Read, W: Write>(
     alloc: Global,
-    sitting: &mut Sitting<'_>,
+    script_state: &mut ScriptState<'_>,
     reader: &mut Counted<BufReader<R>>,
     writer: &mut Counted<W>,
-    held: &mut Vec<u8>,
+    pending: &mut Vec<u8>,
     line: &mut Vec<u8>,
 ) -> Result<(), Fault>
-    requires { held.old.items ≡ [] }
-    ensures ends { EndsHolding sitting.old.desk.machine.checked sitting.old
+    requires { pending.old.items ≡ [] }
+    ensures ends { EndsHolding script_state.old.desk.machine.checked script_state.old
         (reader_remaining R.remaining (device reader.old)) (reader_remaining R.remaining (device reader.new))
-        (W.contents (device writer.old)) (W.contents (device writer.new)) held.new.items result }
+        (W.contents (device writer.old)) (W.contents (device writer.new)) pending.new.items result }
     ensures read_failures { failures reader.new ≡ after_reading result (failures reader.old) }
     ensures write_failures { failures writer.new ≡ after_writing result (failures writer.old) }
 {
     for number in 1..u64::MAX {
-        let is_complete = next_line(reader, writer, held, line)?;
-        let answer = answer_line(alloc, sitting, line.as_slice(), number)?;
-        hold(writer, held, answer.as_slice())?;
+        let is_complete = next_line(reader, writer, pending, line)?;
+        let answer = answer_line(alloc, script_state, line.as_slice(), number)?;
+        hold(writer, pending, answer.as_slice())?;
         if !is_complete {
             return Ok(());
         }
@@ -78,35 +79,40 @@ fn hold_answers<R: Read, W: Write>(
 /// What is answered to one line, without its end.
 fn answer_line(
     alloc: Global,
-    sitting: &mut Sitting<'_>,
+    script_state: &mut ScriptState<'_>,
     line: &[u8],
     number: u64,
 ) -> Result<Vec<u8>, Fault>
-    ensures checked { sitting.new.desk.machine.checked ≡ sitting.old.desk.machine.checked }
+    ensures checked { script_state.new.desk.machine.checked ≡ script_state.old.desk.machine.checked }
     ensures answered { MatchResult result
-        (λ answer. LineAnswered sitting.old.desk.machine.checked sitting.old line.now answer.items sitting.new)
-        (λ fault. LineStops sitting.old.desk.machine.checked line.now number fault) }
+        (λ answer.
+        LineAnswered script_state.old.desk.machine.checked script_state.old line.now answer.items script_state.new)
+        (λ fault. LineStops script_state.old.desk.machine.checked line.now number fault) }
 {
-    let said = read_command(alloc, sitting.checked(), line, number)?;
-    Ok(answer_to(alloc, sitting, &said)?)
+    let said = read_command(alloc, script_state.checked(), line, number)?;
+    Ok(answer_to(alloc, script_state, &said)?)
 }
 
 /// What is answered to a line, once the desk has performed its command.
-fn answer_to(alloc: Global, sitting: &mut Sitting<'_>, said: &Line) -> Result<Vec<u8>, AllocError>
+fn answer_to(
+    alloc: Global,
+    script_state: &mut ScriptState<'_>,
+    said: &Line,
+) -> Result<Vec<u8>, AllocError>
     requires { SaysSession said.now }
-    ensures checked { sitting.new.desk.machine.checked ≡ sitting.old.desk.machine.checked }
+    ensures checked { script_state.new.desk.machine.checked ≡ script_state.old.desk.machine.checked }
     ensures answered { IfOk result (λ answer.
-        SaidAnswered sitting.old.desk.machine.checked sitting.old said.now answer.items sitting.new) }
+        SaidAnswered script_state.old.desk.machine.checked script_state.old said.now answer.items script_state.new) }
     ensures memory { OnErr result (said.now ≢ Line.Empty) }
 {
     match said {
-        Line::Asked(command) => answer_command(alloc, sitting, command),
+        Line::Asked(command) => answer_command(alloc, script_state, command),
         Line::Session(session) => {
-            sitting.turn_to(*session);
+            script_state.turn_to(*session);
             write_session(alloc, *session)
         }
-        Line::View => sitting.view(alloc),
-        Line::Trace => sitting.trace(alloc),
+        Line::View => script_state.view(alloc),
+        Line::Trace => script_state.trace(alloc),
         Line::Empty => Ok(Vec::new(alloc)),
     }
 }
@@ -114,13 +120,14 @@ fn answer_to(alloc: Global, sitting: &mut Sitting<'_>, said: &Line) -> Result<Ve
 /// What is answered to a command, once the desk has performed it.
 fn answer_command(
     alloc: Global,
-    sitting: &mut Sitting<'_>,
+    script_state: &mut ScriptState<'_>,
     command: &Command,
 ) -> Result<Vec<u8>, AllocError>
-    ensures checked { sitting.new.desk.machine.checked ≡ sitting.old.desk.machine.checked }
+    ensures checked { script_state.new.desk.machine.checked ≡ script_state.old.desk.machine.checked }
     ensures answered { IfOk result (λ answer.
-        SaidAnswered sitting.old.desk.machine.checked sitting.old (Line.Asked command.now) answer.items sitting.new) }
+        SaidAnswered script_state.old.desk.machine.checked script_state.old (Line.Asked command.now) answer.items
+        script_state.new) }
 {
-    let reply = sitting.ask(command);
-    write_answer(alloc, sitting.checked(), command, &reply)
+    let reply = script_state.ask(command);
+    write_answer(alloc, script_state.checked(), command, &reply)
 }

@@ -6,31 +6,31 @@ ghost use Rattle.std.specs.Io.BufRead.{ends_with_byte};
 ghost use Rattle.syntax.specs.Texts.{line_end};
 ghost use Rattle.devices.specs.Counting.{device, failures};
 ghost use Rattle.debug_session.specs.Counting.{after_reading, after_writing};
-ghost use Rattle.debug_session.specs.walking.OneLine.{TakesLine, ReadingStops, AskingStops};
+ghost use Rattle.debug_session.specs.internal.OneLine.{TakesLine, ReadingStops, AskingStops};
 ghost use Rattle.debug_session.specs.declared.fault.Fault.TheVariants.{Memory, ReadFailed, WriteFailed};
 
 use crate::Fault;
-use crate::held::put_out;
+use crate::pending::put_out;
 use devices::{Counted, ends_line};
 use std::io::{BufRead, BufReader, Error, ErrorKind, Read, Write};
 
 /// Takes the next line into `line`, in place of what was there, without byte 10 at its end, and tells whether it was
-/// there. Unless the reader has all of it at hand, what is held is written out before its device is asked.
+/// there. Unless the reader has all of it at hand, what is pending is written out before its device is asked.
 pub(crate) fn next_line<R: Read, W: Write>(
     reader: &mut Counted<BufReader<R>>,
     writer: &mut Counted<W>,
-    held: &mut Vec<u8>,
+    pending: &mut Vec<u8>,
     line: &mut Vec<u8>,
 ) -> Result<bool, Fault>
     ensures line { (given : List ℕ) × Appends (W.contents (device writer.old)) (W.contents (device writer.new)) given
         × MatchResult result
-        (λ complete. (given ++ held.new.items ≡ held.old.items)
+        (λ complete. (given ++ pending.new.items ≡ pending.old.items)
         × TakesLine (reader_remaining R.remaining (device reader.old))
         (reader_remaining R.remaining (device reader.new)) line.new.items complete)
         (λ fault. AskingStops (reader_remaining R.remaining (device reader.old))
-        (reader_remaining R.remaining (device reader.new)) held.old.items held.new.items given fault) }
+        (reader_remaining R.remaining (device reader.new)) pending.old.items pending.new.items given fault) }
     ensures asked { MatchResult result
-        (λ _. (reader_inner (device reader.new) ≡ reader_inner (device reader.old)) ⊎ (held.new.items ≡ []))
+        (λ _. (reader_inner (device reader.new) ≡ reader_inner (device reader.old)) ⊎ (pending.new.items ≡ []))
         (λ fault. fault ≡ WriteFailed → reader.new ≡ reader.old) }
     ensures read_failures { failures reader.new ≡ after_reading result (failures reader.old) }
     ensures write_failures { failures writer.new ≡ after_writing result (failures writer.old) }
@@ -38,7 +38,7 @@ pub(crate) fn next_line<R: Read, W: Write>(
     if reader.take_line(line)? {
         return Ok(true);
     }
-    put_out(writer, held)?;
+    put_out(writer, pending)?;
     read_line(reader, line)
 }
 

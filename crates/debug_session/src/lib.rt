@@ -3,16 +3,16 @@
 
 mod answer;
 mod fault;
-mod held;
 mod input;
 mod laws;
 mod line;
 mod output;
+mod pending;
 mod read;
 mod replay_live;
 mod reply;
+mod script_state;
 mod session;
-mod sitting;
 mod whole;
 
 pub use devices::Counted;

@@ -1,7 +1,7 @@
 ghost use Rattle.std.specs.Prelude.{◌≡◌, ◌≢◌, ◌⊎◌, [], Ok, Err, Some, MatchOption, IfOk, IfErr, OnErr};
 ghost use Rattle.line_text.specs.Operands.{MayBeChoice};
 ghost use Rattle.debug_session.specs.Lines.{IsSession, Asks, AsksBy, AsksNothing, MayBeStep, Says, SaysSession};
-ghost use Rattle.debug_session.specs.walking.NotAsked.{IsNoSession, AsksNothingBy};
+ghost use Rattle.debug_session.specs.internal.NotAsked.{IsNoSession, AsksNothingBy};
 ghost use Rattle.line_text.specs.declared.keyword.Keyword.TheVariants as keywords;
 ghost use Rattle.debug_session.specs.declared.fault.Fault.TheVariants.{Memory, BadCommand};
 

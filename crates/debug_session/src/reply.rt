@@ -12,8 +12,9 @@ use sharing_check::Checked;
 use std::alloc::{AllocError, Global};
 use system::System;
 
-/// The bytes with which the line is answered where this is the reply to its command: each line with byte 10 at its end. A line
-/// that asks for no command has no reply, and no bytes. Variables and channels that the description has not are written as `?`.
+/// The bytes with which the line is answered where this is the reply to its command: each line with byte 10 at its end.
+/// A line that asks for no command has no reply, and no bytes. Variables and channels that the description has not are
+/// written as `?`.
 ///
 /// # Errors
 ///

@@ -8,7 +8,7 @@ ghost use Rattle.debug_session.specs.AtLine.{first_line};
 ghost use Rattle.system.specs.declared.system.System.{System};
 
 use crate::answer::answer_lines;
-use crate::sitting::Sitting;
+use crate::script_state::ScriptState;
 use crate::{Counted, Fault};
 use locked_execution::Machine;
 use sharing_check::Checked;
@@ -28,10 +28,10 @@ pub fn accept(alloc: Global, source: &[u8], stimulus: &[u8]) -> Result<Checked, 
 /// Answers the lines of `reader` on `writer`, over the system of source and stimulus.
 ///
 /// Source and stimulus are accepted before anything is read. Before the reader asks its device for more, the answers to
-/// all lines before are out and flushed; while its buffer has another line, answers may be held back, up to 16 KB. The
-/// buffer has to have room for a byte at least, or the script looks empty. At a fault the answers of the lines before
-/// are out, and where writing failed a beginning of the answers. `ReadFailed` and `WriteFailed` come exactly where
-/// reader and writer count a failure.
+/// all lines before are out and flushed; while its buffer has another line, answers may be pending back, up to 16 KB.
+/// The buffer has to have room for a byte at least, or the script looks empty. At a fault the answers of the lines
+/// before are out, and where writing failed a beginning of the answers. `ReadFailed` and `WriteFailed` come exactly
+/// where reader and writer count a failure.
 pub fn debug<R: Read, W: Write>(
     alloc: Global,
     reader: &mut Counted<BufReader<R>>,
@@ -49,8 +49,8 @@ pub fn debug<R: Read, W: Write>(
     debug_keeping(alloc, reader, writer, source, stimulus, &mut line)
 }
 
-/// The same, where `line` has the last line that was taken, without its end, once it ends. So a line that says nothing can
-/// be shown: no reader has it any more. No clause speaks of `line`.
+/// The same, where `line` has the last line that was taken, without its end, once it ends. So a line that says nothing
+/// can be shown: no reader has it any more. No clause speaks of `line`.
 pub fn debug_keeping<R: Read, W: Write>(
     alloc: Global,
     reader: &mut Counted<BufReader<R>>,
@@ -65,18 +65,18 @@ pub fn debug_keeping<R: Read, W: Write>(
     ensures read_failures { failures reader.new ≡ after_reading result (failures reader.old) }
     ensures write_failures { failures writer.new ≡ after_writing result (failures writer.old) }
 {
-    let mut sitting = begin(alloc, source, stimulus)?;
-    answer_lines(alloc, &mut sitting, reader, writer, line)
+    let mut script_state = begin(alloc, source, stimulus)?;
+    answer_lines(alloc, &mut script_state, reader, writer, line)
 }
 
 /// Session 0 before its first line, on the system of source and stimulus.
-fn begin<'a>(alloc: Global, source: &'a [u8], stimulus: &[u8]) -> Result<Sitting<'a>, Fault>
-    ensures sitting { IfOk result (λ sitting.
-        (system : System) × AcceptedAs source.now stimulus.now system × (sitting ≡ first_line system source.now)) }
+fn begin<'a>(alloc: Global, source: &'a [u8], stimulus: &[u8]) -> Result<ScriptState<'a>, Fault>
+    ensures script_state { IfOk result (λ script_state.
+        (system : System) × AcceptedAs source.now stimulus.now system × (script_state ≡ first_line system source.now)) }
     ensures fault { IfErr result (λ fault. IsRefused source.now stimulus.now fault) }
 {
     let checked = accept(alloc, source, stimulus)?;
     let machine = Machine::new(alloc, checked)?;
-    let sitting = Sitting::new(machine, source);
-    Ok(sitting)
+    let script_state = ScriptState::new(machine, source);
+    Ok(script_state)
 }

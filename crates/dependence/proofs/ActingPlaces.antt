@@ -4,16 +4,16 @@ use Rattle.runs.specs.Events.{acting, places}
 use Rattle.runs.specs.Live.{Live, LiveAt, IsLive}
 use Rattle.runs.specs.Moves.{Place}
 use Rattle.runs.specs.declared.event.Event.{Event}
-use Rattle.runs.proofs.Once.{acting-place}
-use Rattle.runs.proofs.Options.{none-some}
-use Rattle.runs.proofs.Tickets.{rising-one}
+use Rattle.runs.proofs.public.Once.{acting-place}
+use Rattle.runs.proofs.public.Options.{none-some}
+use Rattle.runs.proofs.public.Tickets.{rising-one}
 use Rattle.syntax.specs.Lists.{In}
 use Rattle.last_events.specs.LastEvents.{ticket_at, IsAt}
 use Rattle.dependence.specs.Acting.{ActsAlone, NoneActs}
 use Rattle.dependence.specs.declared.tables.Tables.{Tables}
-use Rattle.dependence.specs.walking.Tables.{IsRising}
-use Rattle.dependence.specs.walking.Tabled.{TablesOf}
-use Rattle.dependence.proofs.Tabling.{one-at}
+use Rattle.dependence.specs.internal.Tables.{IsRising}
+use Rattle.dependence.specs.internal.Tabled.{TablesOf}
+use Rattle.dependence.proofs.public.Tabling.{one-at}
 
 -- a live event that acts at a place stands there
 stands : (l : Live) (held : Tables) (p : Place) (u : ℕ) (f : Event) → TablesOf l held → LiveAt l u f → acting f ≡ p → IsAt held.places p u

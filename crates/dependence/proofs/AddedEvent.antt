@@ -5,12 +5,12 @@ use Rattle.syntax.specs.Lists.{In}
 use Rattle.runs.specs.Dependence.{Directly}
 use Rattle.runs.specs.Live.{Live, Rising, LiveAt, DependsOn, same, later}
 use Rattle.runs.specs.declared.event.Event.{Event}
-use Rattle.runs.proofs.Lists.{in-left, in-right, in-parts}
-use Rattle.runs.proofs.Tickets.{rising-in}
-use Rattle.runs.proofs.DependsOnLaw.{depends-up}
+use Rattle.runs.proofs.public.Lists.{in-left, in-right, in-parts}
+use Rattle.runs.proofs.public.Tickets.{rising-in}
+use Rattle.runs.proofs.public.DependsOnLaw.{depends-up}
 use Rattle.dependence.specs.Followers.{Follower}
-use Rattle.dependence.specs.walking.Tables.{Candidates, Topmost}
-use Rattle.dependence.proofs.Following.{follows-on, follows-in, follows-upto}
+use Rattle.dependence.specs.internal.Tables.{Candidates, Topmost}
+use Rattle.dependence.proofs.public.Following.{follows-on, follows-in, follows-upto}
 
 -- l with the event f behind, of ticket n
 abbrev pub added : Live → ℕ → Event → Live

@@ -3,7 +3,7 @@ use Rattle.std.proofs.Common.{◌≡◌, ◌⊎◌, ◌↔◌, inl, inr, ℕ, su
 use Rattle.std.specs.Prelude.{slice_get}
 use Rattle.std.proofs.lemmas.Bool.{cases_lt}
 use Rattle.address.specs.Places.{Before, Apart}
-use Rattle.address.proofs.Places.{before-asymmetric, before-not-apart, apart-symmetric}
+use Rattle.address.proofs.public.Places.{before-asymmetric, before-not-apart, apart-symmetric}
 use Rattle.syntax.specs.Lists.{In}
 use Rattle.last_events.specs.LastEvents.{IsAt, Uses, LastUse, PutAt, LastBefore}
 use Rattle.last_events.specs.declared.places.PlaceTable.{PlaceTable}
@@ -12,19 +12,19 @@ use Rattle.runs.specs.Events.{places}
 use Rattle.runs.specs.Live.{Live, Rising, LiveAt, IsLive, DependsOn, same, later, LastWriter}
 use Rattle.runs.specs.Moves.{Place}
 use Rattle.runs.specs.declared.event.Event.{Event}
-use Rattle.runs.proofs.Decisions.{last-writer?}
-use Rattle.runs.proofs.Lists.{in-left, in-right, in-parts}
-use Rattle.runs.proofs.Options.{none-some, some-injective}
-use Rattle.runs.proofs.Tickets.{rising-in, rising-one}
+use Rattle.runs.proofs.public.Decisions.{last-writer?}
+use Rattle.runs.proofs.public.Lists.{in-left, in-right, in-parts}
+use Rattle.runs.proofs.public.Options.{none-some, some-injective}
+use Rattle.runs.proofs.public.Tickets.{rising-in, rising-one}
 use Rattle.dependence.specs.Behind.{ComesBehind}
-use Rattle.dependence.specs.declared.accesses.Newcomer.{Newcomer}
+use Rattle.dependence.specs.declared.accesses.NewEvent.{NewEvent}
 use Rattle.dependence.specs.declared.tables.Tables.{Tables}
-use Rattle.dependence.specs.walking.Found.{FoundByPlace, AccessesFound, FirstBehind, IsBefore, LeadsBefore, IsReadBefore, IsDirect, ReaderSince, WritesOneRead, UsesWritten, IsNewcomer}
-use Rattle.dependence.specs.walking.Tabled.{IsTabled}
-use Rattle.dependence.specs.walking.Tables.{Candidates}
-use Rattle.dependence.proofs.Following.{follows-on}
-use Rattle.dependence.proofs.ListPlaces.{in-at}
-use Rattle.dependence.proofs.Tabling.{place-is, second-in, one-at, put-kept, put-only, read-next}
+use Rattle.dependence.specs.internal.Found.{FoundByPlace, AccessesFound, FirstBehind, IsBefore, LeadsBefore, IsReadBefore, IsDirect, ReaderSince, WritesOneRead, UsesWritten, IsNewEvent}
+use Rattle.dependence.specs.internal.Tabled.{IsTabled}
+use Rattle.dependence.specs.internal.Tables.{Candidates}
+use Rattle.dependence.proofs.public.Following.{follows-on}
+use Rattle.dependence.proofs.public.ListPlaces.{in-at}
+use Rattle.dependence.proofs.public.Tabling.{place-is, second-in, one-at, put-kept, put-only, read-next}
 
 -- by the one address
 pub places-one : (table : PlaceTable) (f : Event) (old new : List ℕ) → f.second ≡ None → LastBefore table f.first old new → FoundByPlace table (places f) old new
@@ -120,7 +120,7 @@ leads-reader l f x w below last read =
     (read.ticket, (read.event, read.live, read.before), later last.event read.event same last.live read.live read.behind (inr (inr (inl (x, last.writes, inl read.reads)))))
 
 -- whether the live event at an index has a place before one of f
-pub one-before : (new : Newcomer) → IsNewcomer new → (t index : ℕ) (e : Event) (b : Bool) → slice_get new.live.now index ≡ Some (t, e) → IsTrue b ↔ SomeBefore e new.event.now →
+pub one-before : (new : NewEvent) → IsNewEvent new → (t index : ℕ) (e : Event) (b : Bool) → slice_get new.live.now index ≡ Some (t, e) → IsTrue b ↔ SomeBefore e new.event.now →
     IsTrue b ↔ IsBefore new.live.now new.event.now t
 one-before new h t index e b at told =
     let here : LiveAt new.live.now t e = in-at new.live.now index (t, e) at in (
@@ -159,13 +159,13 @@ behind-next ts index old end more low full next near passed =
     ]
 
 -- from the ticket `end` on and below `below` no event that reads x has a place before one of f
-abbrev pub NoneBetween : Newcomer → ℕ → ℕ → ℕ → Type 0
+abbrev pub NoneBetween : NewEvent → ℕ → ℕ → ℕ → Type 0
 NoneBetween new x end below = (u : ℕ) (g : Event) → LiveAt new.live.now u g → In x g.read → end ≤ u → u < below → SomeBefore g new.event.now → ⊥
 
-pub none-yet : (new : Newcomer) (x below : ℕ) → NoneBetween new x below below
+pub none-yet : (new : NewEvent) (x below : ℕ) → NoneBetween new x below below
 none-yet new x below u g i reads high low before = omega arith
 
-module _ (new : Newcomer) (h : IsNewcomer new) (x : ℕ) where
+module _ (new : NewEvent) (h : IsNewEvent new) (x : ℕ) where
   abbrev pub l : Live
   l = new.live.now
 

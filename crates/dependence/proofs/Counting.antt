@@ -7,13 +7,13 @@ use Rattle.syntax.specs.Lists.{In}
 use Rattle.runs.specs.Dependence.{Directly}
 use Rattle.runs.specs.Live.{Live, Rising, LiveAt, NoDependent, FirstDependent}
 use Rattle.runs.specs.declared.event.Event.{Event}
-use Rattle.runs.proofs.DependsOnLaw.{depends-up}
-use Rattle.runs.proofs.Lists.{in-left, in-right, in-parts}
-use Rattle.runs.proofs.Tickets.{rising-in, rising-one, rising-parts}
+use Rattle.runs.proofs.public.DependsOnLaw.{depends-up}
+use Rattle.runs.proofs.public.Lists.{in-left, in-right, in-parts}
+use Rattle.runs.proofs.public.Tickets.{rising-in, rising-one, rising-parts}
 use Rattle.dependence.specs.Followers.{CountsDirect}
-use Rattle.dependence.specs.walking.Tables.{IsRising, CountsAmong}
-use Rattle.dependence.proofs.ListPlaces.{parts-at, in-at, take-next, drop-next, take-all, in-order-more}
-use Rattle.dependence.proofs.FollowerLaws.{direct-follows}
+use Rattle.dependence.specs.internal.Tables.{IsRising, CountsAmong}
+use Rattle.dependence.proofs.public.ListPlaces.{parts-at, in-at, take-next, drop-next, take-all, in-order-more}
+use Rattle.dependence.proofs.public.FollowerLaws.{direct-follows}
 
 pub among-none : (e : Event) → CountsAmong e [] 0
 among-none e = ([], record { exactly = λ u. ((λ i. absurd i), (λ h. absurd h.1)); ascending = tt }, refl)

@@ -5,10 +5,10 @@ use Rattle.std.proofs.lemmas.Bool.{cases_eq}
 use Rattle.std.proofs.lemmas.Option.{slice_get-get_or, slice_get_within}
 use Rattle.syntax.specs.Lists.{In}
 use Rattle.runs.specs.Live.{Live, IsLive, NoDependent, FirstDependent}
-use Rattle.runs.proofs.Lists.{in-left, in-right, in-parts}
-use Rattle.dependence.specs.walking.Sweeping.{IsUnreached}
-use Rattle.dependence.specs.walking.Tables.{Falling, Topmost}
-use Rattle.dependence.proofs.ListPlaces.{index-in, got-here, drop-next, take-next, in-order-more}
+use Rattle.runs.proofs.public.Lists.{in-left, in-right, in-parts}
+use Rattle.dependence.specs.internal.Sweeping.{IsUnreached}
+use Rattle.dependence.specs.internal.Tables.{Falling, Topmost}
+use Rattle.dependence.proofs.public.ListPlaces.{index-in, got-here, drop-next, take-next, in-order-more}
 
 -- an element behind an index stands at one
 at-dropped : (n : ℕ) (xs : List ℕ) (t : ℕ) → In t (drop n xs) → (j : ℕ) × (n ≤ j) × (j < length xs) × (get_or xs j 0 ≡ t)

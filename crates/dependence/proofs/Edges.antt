@@ -9,16 +9,16 @@ use Rattle.syntax.specs.Lists.{In}
 use Rattle.runs.specs.Dependence.{ended, stays, leaves}
 use Rattle.runs.specs.Live.{Live, Rising, LiveAt, NoneAt, NoDependent, WithoutTickets, IsLive}
 use Rattle.runs.specs.declared.event.Event.{Event}
-use Rattle.runs.proofs.Lists.{in-parts}
-use Rattle.runs.proofs.Tickets.{rising-in, rising-lower}
-use Rattle.runs.proofs.UndoLaws.{without-live}
+use Rattle.runs.proofs.public.Lists.{in-parts}
+use Rattle.runs.proofs.public.Tickets.{rising-in, rising-lower}
+use Rattle.runs.proofs.public.UndoLaws.{without-live}
 use Rattle.dependence.specs.Followers.{Follower, ListsFollowers}
 use Rattle.dependence.specs.declared.links.Links.{Links}
-use Rattle.dependence.specs.walking.Tables.{IsRising, StandsAt, Linked, Falling, PartLinked, ListsWith, Candidates, Topmost}
-use Rattle.dependence.proofs.ListPlaces.{in-at, at-one, take-all, drop-all, removed-below, removed-above}
-use Rattle.dependence.proofs.Linking.{one-index}
+use Rattle.dependence.specs.internal.Tables.{IsRising, StandsAt, Linked, Falling, PartLinked, ListsWith, Candidates, Topmost}
+use Rattle.dependence.proofs.public.ListPlaces.{in-at, at-one, take-all, drop-all, removed-below, removed-above}
+use Rattle.dependence.proofs.public.Linking.{one-index}
 use Rattle.dependence.proofs.AddedEvent.{added, others-stay, new-follows}
-use Rattle.dependence.proofs.FollowerLaws.{no-new-follower}
+use Rattle.dependence.proofs.public.FollowerLaws.{no-new-follower}
 
 -- the last of a list, or one before
 at-end : {X : Type 0} (xs : List X) (x y : X) (i : ℕ) → slice_get (xs ++ x ∷ []) i ≡ Some y → ((i < length xs) × (slice_get xs i ≡ Some y)) ⊎ (y ≡ x)

@@ -4,11 +4,11 @@ use Rattle.std.specs.Prelude.{slice_get}
 use Rattle.syntax.specs.Lists.{In}
 use Rattle.runs.specs.Live.{Live, IsLive}
 use Rattle.runs.specs.declared.event.Event.{Event}
-use Rattle.runs.proofs.Tickets.{rising-lower}
+use Rattle.runs.proofs.public.Tickets.{rising-lower}
 use Rattle.dependence.specs.Followers.{ListsFollowers}
-use Rattle.dependence.specs.walking.Tables.{IsRising}
-use Rattle.dependence.proofs.ListPlaces.{in-at, index-in}
-use Rattle.dependence.proofs.Standing.{lesser-stands}
+use Rattle.dependence.specs.internal.Tables.{IsRising}
+use Rattle.dependence.proofs.public.ListPlaces.{in-at, index-in}
+use Rattle.dependence.proofs.public.Standing.{lesser-stands}
 
 pub get-drop : {X : Type 0} (l : List X) (n i : ℕ) → slice_get (drop n l) i ≡ slice_get l (n + i)
 get-drop l zero i = let e : i ≡ 0 + i = omega arith in ap (λ (k : ℕ). slice_get l k) e

@@ -5,10 +5,10 @@ use Rattle.std.specs.Prelude.{slice_get, slice_set}
 use Rattle.std.proofs.lemmas.Bool.{cases_lt}
 use Rattle.std.proofs.lemmas.Option.{slice_get-get_or, get_or_from_slice_get}
 use Rattle.std.proofs.lemmas.List.{take-set, take-set-le, take_more_set, drop-set-lt, drop_more}
-use Rattle.runs.proofs.Options.{none-some, some-injective}
-use Rattle.dependence.specs.walking.Marking.{UnmarkedTo}
-use Rattle.dependence.specs.walking.Unmarked.{unmarked}
-use Rattle.dependence.proofs.ListPlaces.{at-within, take-all}
+use Rattle.runs.proofs.public.Options.{none-some, some-injective}
+use Rattle.dependence.specs.internal.Marking.{UnmarkedTo}
+use Rattle.dependence.specs.internal.Unmarked.{unmarked}
+use Rattle.dependence.proofs.public.ListPlaces.{at-within, take-all}
 use Rattle.dependence.proofs.Unmarking.{unmarked-passed}
 
 -- the first i items were gone through: those without a mark stand in the first k places of ys, and from i on ys is as it was

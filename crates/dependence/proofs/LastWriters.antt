@@ -6,12 +6,12 @@ use Rattle.std.proofs.lemmas.Option.{slice_get_within}
 use Rattle.last_events.specs.LastEvents.{Uses, LastUse}
 use Rattle.runs.specs.Live.{Live, LiveAt, LastWriter, NoWriter}
 use Rattle.runs.specs.declared.event.Event.{Event}
-use Rattle.runs.proofs.Tickets.{rising-one}
+use Rattle.runs.proofs.public.Tickets.{rising-one}
 use Rattle.dependence.specs.declared.tables.Tables.{Tables}
-use Rattle.dependence.specs.walking.Tables.{IsRising}
-use Rattle.dependence.specs.walking.Tabled.{TablesOf}
-use Rattle.dependence.proofs.ListPlaces.{in-at, index-in, at-one}
-use Rattle.dependence.proofs.Standing.{index-rises}
+use Rattle.dependence.specs.internal.Tables.{IsRising}
+use Rattle.dependence.specs.internal.Tabled.{TablesOf}
+use Rattle.dependence.proofs.public.ListPlaces.{in-at, index-in, at-one}
+use Rattle.dependence.proofs.public.Standing.{index-rises}
 
 -- the entry at the last index has the greatest ticket
 last-is-greatest : (l : Live) (t : ℕ) (e : Event) → IsRising l → slice_get l (length l - 1) ≡ Some (t, e) → (u : ℕ) (f : Event) → LiveAt l u f → u ≤ t

@@ -1,23 +1,16 @@
-pub mod ActingPlaces
-pub mod AddedEvent
-pub mod Candidacy
-pub mod Counting
-pub mod Distinct
-pub mod Edges
-pub mod FollowerLaws
-pub mod Following
-pub mod FromIndex
-pub mod Keeping
-pub mod LastWriters
-pub mod Linking
-pub mod ListPlaces
-pub mod Markings
-pub mod RunOrder
-pub mod Standing
-pub mod ShownStates
-pub mod Sweeps
-pub mod Tabling
-pub mod TakenMarked
-pub mod Thinning
-pub mod Unmarking
-pub mod Wholes
+pub mod public
+mod ActingPlaces
+mod AddedEvent
+mod Candidacy
+mod Counting
+mod Distinct
+mod Edges
+mod FromIndex
+mod Keeping
+mod LastWriters
+mod ShownStates
+mod Sweeps
+mod TakenMarked
+mod Thinning
+mod Unmarking
+mod Wholes

@@ -5,7 +5,7 @@ use Rattle.syntax.specs.Lists.{In}
 use Rattle.runs.specs.Live.{Live}
 use Rattle.runs.specs.declared.event.Event.{Event}
 use Rattle.dependence.specs.Shown.{Shown, with_newest, tickets_marked}
-use Rattle.dependence.specs.walking.Marking.{NoneLess}
+use Rattle.dependence.specs.internal.Marking.{NoneLess}
 
 abbrev pub shown : Live → List ℕ → Shown
 shown l ts = record { live = l; marked = ts }

@@ -10,17 +10,17 @@ use Rattle.system.specs.Expression.{is_in}
 use Rattle.runs.specs.InOrder.{InOrder}
 use Rattle.runs.specs.Live.{Live, Rising, DependsOn, same, IsLive}
 use Rattle.runs.specs.declared.event.Event.{Event}
-use Rattle.runs.proofs.Lists.{in-left, in-right, in-parts, every-in}
-use Rattle.runs.proofs.DependsOnLaw.{depends-up}
+use Rattle.runs.proofs.public.Lists.{in-left, in-right, in-parts, every-in}
+use Rattle.runs.proofs.public.DependsOnLaw.{depends-up}
 use Rattle.dependence.specs.Followers.{Follower, ListsFollowers, Reached, here, along}
-use Rattle.dependence.specs.walking.Tables.{StandsAt, Falling, Topmost, LeadsBack}
-use Rattle.dependence.specs.walking.Sweeping.{StandWithin, FlagAt, Swept}
-use Rattle.dependence.proofs.ListPlaces.{at-one, index-in, parts-at, in-at, in-read, in-order-more, in-order-right, got-here}
-use Rattle.runs.proofs.ReadTests.{is-in, in-is}
-use Rattle.dependence.proofs.Linking.{one-index}
-use Rattle.dependence.proofs.Standing.{index-rises, lesser-stands}
-use Rattle.dependence.proofs.Following.{follows-on}
-use Rattle.dependence.proofs.FollowerLaws.{direct-follows, reached-through-followers}
+use Rattle.dependence.specs.internal.Tables.{StandsAt, Falling, Topmost, LeadsBack}
+use Rattle.dependence.specs.internal.Sweeping.{StandWithin, FlagAt, Swept}
+use Rattle.dependence.proofs.public.ListPlaces.{at-one, index-in, parts-at, in-at, in-read, in-order-more, in-order-right, got-here}
+use Rattle.runs.proofs.public.ReadTests.{is-in, in-is}
+use Rattle.dependence.proofs.public.Linking.{one-index}
+use Rattle.dependence.proofs.public.Standing.{index-rises, lesser-stands}
+use Rattle.dependence.proofs.public.Following.{follows-on}
+use Rattle.dependence.proofs.public.FollowerLaws.{direct-follows, reached-through-followers}
 
 -- a follower of t, on which u depends or which it is
 record FirstStep (l : Live) (t u : ℕ) : Type 0 where

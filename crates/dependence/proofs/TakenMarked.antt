@@ -5,18 +5,18 @@ use Rattle.std.proofs.lemmas.Option.{slice_get_within}
 use Rattle.syntax.specs.Lists.{In}
 use Rattle.runs.specs.Live.{Live, Rising, LiveAt, DependsOn, same, later, WithoutTickets}
 use Rattle.runs.specs.declared.event.Event.{Event}
-use Rattle.runs.proofs.UndoLaws.{without-live}
+use Rattle.runs.proofs.public.UndoLaws.{without-live}
 use Rattle.dependence.specs.Followers.{Follower}
 use Rattle.dependence.specs.Shown.{tickets_marked}
 use Rattle.dependence.specs.Taking.{HasDependents}
 use Rattle.dependence.specs.declared.links.Links.{Links}
-use Rattle.dependence.specs.walking.Tables.{IsRising, Linked, Falling}
-use Rattle.dependence.specs.walking.Unmarked.{unmarked, AllThinned, IsLoose}
-use Rattle.dependence.specs.walking.Whole.{IsWhole}
-use Rattle.dependence.proofs.Following.{follows-in}
-use Rattle.dependence.proofs.FollowerLaws.{direct-follows}
-use Rattle.dependence.proofs.ListPlaces.{at-within}
-use Rattle.dependence.proofs.Markings.{is-marked}
+use Rattle.dependence.specs.internal.Tables.{IsRising, Linked, Falling}
+use Rattle.dependence.specs.internal.Unmarked.{unmarked, AllThinned, IsLoose}
+use Rattle.dependence.specs.internal.Whole.{IsWhole}
+use Rattle.dependence.proofs.public.Following.{follows-in}
+use Rattle.dependence.proofs.public.FollowerLaws.{direct-follows}
+use Rattle.dependence.proofs.public.ListPlaces.{at-within}
+use Rattle.dependence.proofs.public.Markings.{is-marked}
 use Rattle.dependence.proofs.Thinning.{was-at}
 use Rattle.dependence.proofs.Unmarking.{flags-tell, unmarked-left, unmarked-rises, unmarked-even, stood-at}
 

@@ -10,13 +10,13 @@ use Rattle.system.specs.Expression.{is_in}
 use Rattle.runs.specs.InOrder.{InOrder}
 use Rattle.runs.specs.Live.{Live, Rising, IsLive}
 use Rattle.runs.specs.declared.event.Event.{Event}
-use Rattle.runs.proofs.Lists.{every-in, every-of, in-parts}
-use Rattle.runs.proofs.ReadTests.{is-in, in-is}
+use Rattle.runs.proofs.public.Lists.{every-in, every-of, in-parts}
+use Rattle.runs.proofs.public.ReadTests.{is-in, in-is}
 use Rattle.dependence.specs.declared.links.Links.{Links}
-use Rattle.dependence.specs.walking.Tables.{StandsAt, Linked}
-use Rattle.dependence.specs.walking.Unmarked.{Thinned, AllThinned, NotBehind, IsLoose}
-use Rattle.dependence.proofs.ListPlaces.{at-one, at-within, set-here, set-other, take-next, take-all}
-use Rattle.dependence.proofs.Linking.{one-index, linked-part, lists-ascend}
+use Rattle.dependence.specs.internal.Tables.{StandsAt, Linked}
+use Rattle.dependence.specs.internal.Unmarked.{Thinned, AllThinned, NotBehind, IsLoose}
+use Rattle.dependence.proofs.public.ListPlaces.{at-one, at-within, set-here, set-other, take-next, take-all}
+use Rattle.dependence.proofs.public.Linking.{one-index, linked-part, lists-ascend}
 
 -- what is left where no call changes the closure or an element is what passes the test
 pub filter-kept : {X F : Type 0} (R : F → X → Bool → F → X → Type 0) (test : X → Bool) (f : F) →

@@ -7,17 +7,17 @@ use Rattle.system.specs.Expression.{is_in}
 use Rattle.runs.specs.Dependence.{ended, stays, leaves}
 use Rattle.runs.specs.Live.{Live, Rising, LiveAt, NoneAt, WithoutTickets}
 use Rattle.runs.specs.declared.event.Event.{Event}
-use Rattle.runs.proofs.Options.{none-some, some-injective}
-use Rattle.runs.proofs.ReadTests.{is-in, in-is}
-use Rattle.runs.proofs.Tickets.{rising-in, rising-lower}
+use Rattle.runs.proofs.public.Options.{none-some, some-injective}
+use Rattle.runs.proofs.public.ReadTests.{is-in, in-is}
+use Rattle.runs.proofs.public.Tickets.{rising-in, rising-lower}
 use Rattle.dependence.specs.Shown.{tickets_marked}
 use Rattle.dependence.specs.Taking.{OneMarkedAt, NoneMarkedAt, StaysBeside, done, keeps, drops}
-use Rattle.dependence.specs.walking.Marking.{UnmarkedTo}
-use Rattle.dependence.specs.walking.Tables.{IsRising}
-use Rattle.dependence.specs.walking.Unmarked.{unmarked}
-use Rattle.dependence.proofs.ListPlaces.{in-at, at-one}
-use Rattle.dependence.proofs.Linking.{one-index}
-use Rattle.dependence.proofs.Markings.{is-marked, passed-first}
+use Rattle.dependence.specs.internal.Marking.{UnmarkedTo}
+use Rattle.dependence.specs.internal.Tables.{IsRising}
+use Rattle.dependence.specs.internal.Unmarked.{unmarked}
+use Rattle.dependence.proofs.public.ListPlaces.{in-at, at-one}
+use Rattle.dependence.proofs.public.Linking.{one-index}
+use Rattle.dependence.proofs.public.Markings.{is-marked, passed-first}
 
 -- the first n stay, where none of them is marked
 pub unmarked-passed : {X : Type 0} (marks : List Bool) (n : ℕ) (xs : List X) → UnmarkedTo marks n → unmarked (take n marks) xs ≡ xs

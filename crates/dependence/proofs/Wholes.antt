@@ -7,17 +7,17 @@ use Rattle.syntax.specs.Lists.{In}
 use Rattle.runs.specs.Dependence.{Without, ended, stays, leaves}
 use Rattle.runs.specs.Live.{Live, Rising, LiveAt, FirstDependent, NoDependent}
 use Rattle.runs.specs.declared.event.Event.{Event}
-use Rattle.runs.proofs.Lists.{every-in}
-use Rattle.runs.proofs.Decisions.{first-dependent?}
-use Rattle.runs.proofs.Tickets.{rising-in, rising-more}
+use Rattle.runs.proofs.public.Lists.{every-in}
+use Rattle.runs.proofs.public.Decisions.{first-dependent?}
+use Rattle.runs.proofs.public.Tickets.{rising-in, rising-more}
 use Rattle.dependence.specs.Followers.{ListsFollowers}
 use Rattle.dependence.specs.Shown.{tickets_marked}
 use Rattle.dependence.specs.declared.links.Links.{Links}
-use Rattle.dependence.specs.walking.Tables.{IsRising, StandsAt, Linked, Falling, Candidates, Topmost, LinkedBehind}
-use Rattle.dependence.specs.walking.Whole.{IsWhole}
-use Rattle.dependence.proofs.ListPlaces.{in-at, at-one}
+use Rattle.dependence.specs.internal.Tables.{IsRising, StandsAt, Linked, Falling, Candidates, Topmost, LinkedBehind}
+use Rattle.dependence.specs.internal.Whole.{IsWhole}
+use Rattle.dependence.proofs.public.ListPlaces.{in-at, at-one}
 use Rattle.dependence.proofs.Edges.{added-linked, removed-rises, removed-size}
-use Rattle.dependence.proofs.FollowerLaws.{direct-follows, least-is-follower}
+use Rattle.dependence.proofs.public.FollowerLaws.{direct-follows, least-is-follower}
 
 -- the first of the followers is the least dependent
 pub first-follower : (l : Live) (t : ℕ) (ts : List ℕ) (found : Option ℕ) → IsRising l → ListsFollowers l t ts → found ≡ slice_get ts 0 →

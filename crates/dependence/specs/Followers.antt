@@ -1,4 +1,5 @@
--- Who needs whom among the live events: the direct dependents of an event, and those of them with no live event between.
+-- Who needs whom among the live events: the direct dependents of an event, and those of them with no live event
+-- between.
 use Rattle.std.specs.Prelude.{◌≡◌, ◌⊎◌, ◌↔◌, ℕ, ◌<◌, List, length}
 use Rattle.syntax.specs.Lists.{In}
 use Rattle.runs.specs.Dependence.{Directly}

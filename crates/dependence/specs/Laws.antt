@@ -16,12 +16,15 @@ LeastIsFollower = (l : Live) (t u : ℕ) → FirstDependent l t u → Follower l
 abbrev pub ReachedThroughFollowers : Type 0
 ReachedThroughFollowers = (low next : ℕ) (l : Live) (t u : ℕ) → Rising low l next → DependsOn l t u ↔ Reached l t u
 
--- where the event of ticket t, which no other needs, is taken out, the other followers are followers still, and none is new
+-- where the event of ticket t, which no other needs, is taken out, the other followers are followers still, and none is
+-- new
 abbrev pub NoNewFollower : Type 0
 NoNewFollower =
-    (l k : Live) (t u v : ℕ) → NoDependent l t → WithoutTickets (λ w. w ≡ t) l k → Follower k u v ↔ (Follower l u v × (v ≢ t))
+    (l k : Live) (t u v : ℕ) → NoDependent l t → WithoutTickets (λ w. w ≡ t) l k → Follower k u v ↔
+    (Follower l u v × (v ≢ t))
 
 -- where the live events with a new one behind them run in a system that keeps the rule on sharing, it comes behind them
 abbrev pub LastComesBehind : Type 0
 LastComesBehind =
-    (system : System) (l : Live) (n : ℕ) (f : Event) (T : State) → SharesWell system → Run (opening system) (events (l ++ (n, f) ∷ [])) T → ComesBehind l f
+    (system : System) (l : Live) (n : ℕ) (f : Event) (T : State) → SharesWell system →
+    Run (opening system) (events (l ++ (n, f) ∷ [])) T → ComesBehind l f

@@ -4,4 +4,4 @@ pub mod Followers
 pub mod Laws
 pub mod Shown
 pub mod Taking
-pub mod walking
+pub mod internal

@@ -27,10 +27,14 @@ stride = 1024
 
 -- the end is near the index, or a live event whose ticket is among these is, at the index itself or behind it
 abbrev pub IsNearMarked : Live → List ℕ → ℕ → Type 0
-IsNearMarked l tickets index = (length l < index + stride) ⊎ ((i : ℕ) × (e : Event) × (index ≤ i) × (i < index + stride) × OneMarkedAt l tickets i e)
+IsNearMarked l tickets index =
+    (length l < index + stride)
+    ⊎ ((i : ℕ) × (e : Event) × (index ≤ i) × (i < index + stride) × OneMarkedAt l tickets i e)
 
 -- ys is what stays of xs, which stand beside the entries of l, without those beside an entry of whose ticket D holds
 pub data StaysBeside {X : Type 0} (D : ℕ → Type 0) : Live → List X → List X → Type 0 where
   done : StaysBeside D [] [] []
-  keeps : {e : ℕ × Event} {l : Live} {x : X} {xs ys : List X} → (D e.0 → ⊥) → StaysBeside D l xs ys → StaysBeside D (e ∷ l) (x ∷ xs) (x ∷ ys)
-  drops : {e : ℕ × Event} {l : Live} {x : X} {xs ys : List X} → D e.0 → StaysBeside D l xs ys → StaysBeside D (e ∷ l) (x ∷ xs) ys
+  keeps : {e : ℕ × Event} {l : Live} {x : X} {xs ys : List X} → (D e.0 → ⊥) → StaysBeside D l xs ys →
+      StaysBeside D (e ∷ l) (x ∷ xs) (x ∷ ys)
+  drops : {e : ℕ × Event} {l : Live} {x : X} {xs ys : List X} → D e.0 → StaysBeside D l xs ys →
+      StaysBeside D (e ∷ l) (x ∷ xs) ys

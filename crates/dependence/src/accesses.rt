@@ -1,10 +1,10 @@
-// What a new event finds by the variables that it writes and reads. What has a place before one of its own is left out, and so
-// is a write that such an event has read: both are reached from what the places give, and else each read would sweep back to an
-// old write.
+// What a new event finds by the variables that it writes and reads. What has a place before one of its own is left out,
+// and so is a write that such an event has read: both are reached from what the places give, and else each read would
+// sweep back to an old write.
 ghost use Rattle.std.specs.Prelude.{◌≡◌, ◌≤◌, ◌⊎◌, ◌↔◌, ◌++◌, ◌∷◌, [], ℕ, Some, cond, IsTrue, IfOk};
 ghost use Rattle.syntax.specs.Lists.{In};
 ghost use Rattle.runs.specs.Live.{IsLive, LastWriter};
-ghost use Rattle.dependence.specs.walking.Found.{AccessesFound, FirstBehind, IsBefore, IsDirect, IsReadBefore, ReaderSince, WritesOneRead, UsesWritten, IsNewcomer};
+ghost use Rattle.dependence.specs.internal.Found.{AccessesFound, FirstBehind, IsBefore, IsDirect, IsReadBefore, ReaderSince, WritesOneRead, UsesWritten, IsNewEvent};
 
 use crate::indexes::index_of_live;
 use crate::live::LiveEvent;
@@ -14,22 +14,25 @@ use std::alloc::{AllocError, Global};
 
 /// A new event, of a ticket greater than the live ones, and the live events with their tables.
 #[derive(Clone, Copy)]
-pub(crate) struct Newcomer<'a> {
+pub(crate) struct NewEvent<'a> {
     pub(crate) live: &'a [LiveEvent],
     pub(crate) tables: &'a Tables,
     pub(crate) ticket: u64,
     pub(crate) event: &'a Event,
 }
 
-impl Newcomer<'_> {
+impl NewEvent<'_> {
     /// Adds what is found by the variables that the event reads and writes.
     pub(crate) fn add_by_variables(
         &self,
         alloc: Global,
         found: &mut Vec<u64>,
     ) -> Result<(), AllocError>
-        requires { IsNewcomer self.now }
-        ensures { IfOk result (λ _. AccessesFound self.now.live.now self.now.event.now (λ t. WritesOneRead self.now.live.now self.now.event.now.read t ⊎ UsesWritten self.now.live.now self.now.event.now t) found.old.items found.new.items) }
+        requires { IsNewEvent self.now }
+        ensures { IfOk result (λ _.
+            AccessesFound self.now.live.now self.now.event.now
+            (λ t. WritesOneRead self.now.live.now self.now.event.now.read t
+            ⊎ UsesWritten self.now.live.now self.now.event.now t) found.old.items found.new.items) }
     {
         self.add_by_reads(found)?;
         self.add_by_write(alloc, found)
@@ -37,8 +40,10 @@ impl Newcomer<'_> {
 
     /// Adds the last writers of the variables that the event reads.
     fn add_by_reads(&self, found: &mut Vec<u64>) -> Result<(), AllocError>
-        requires { IsNewcomer self.now }
-        ensures { IfOk result (λ _. AccessesFound self.now.live.now self.now.event.now (WritesOneRead self.now.live.now self.now.event.now.read) found.old.items found.new.items) }
+        requires { IsNewEvent self.now }
+        ensures { IfOk result (λ _.
+            AccessesFound self.now.live.now self.now.event.now (WritesOneRead self.now.live.now self.now.event.now.read)
+            found.old.items found.new.items) }
     {
         for variable in self.event.read.as_slice() {
             self.add_writer(*variable, found)?;
@@ -48,8 +53,10 @@ impl Newcomer<'_> {
 
     /// Adds the last writer of the variable that the event writes, and those that read it since.
     fn add_by_write(&self, alloc: Global, found: &mut Vec<u64>) -> Result<(), AllocError>
-        requires { IsNewcomer self.now }
-        ensures { IfOk result (λ _. AccessesFound self.now.live.now self.now.event.now (UsesWritten self.now.live.now self.now.event.now) found.old.items found.new.items) }
+        requires { IsNewEvent self.now }
+        ensures { IfOk result (λ _.
+            AccessesFound self.now.live.now self.now.event.now (UsesWritten self.now.live.now self.now.event.now)
+            found.old.items found.new.items) }
     {
         match self.event.written {
             Some(variable) => {
@@ -60,12 +67,14 @@ impl Newcomer<'_> {
         }
     }
 
-    /// Adds the last writer of the variable, unless it has a place before one of the event, or a reader of it since has. Such a
-    /// reader stands no later than what the places have given.
+    /// Adds the last writer of the variable, unless it has a place before one of the event, or a reader of it since
+    /// has. Such a reader stands no later than what the places have given.
     fn add_writer(&self, variable: u32, found: &mut Vec<u64>) -> Result<(), AllocError>
-        requires new { IsNewcomer self.now }
+        requires new { IsNewEvent self.now }
         requires uses { In variable self.now.event.now.read ⊎ (self.now.event.now.written ≡ Some variable) }
-        ensures { IfOk result (λ _. AccessesFound self.now.live.now self.now.event.now (LastWriter self.now.live.now variable) found.old.items found.new.items) }
+        ensures { IfOk result (λ _.
+            AccessesFound self.now.live.now self.now.event.now (LastWriter self.now.live.now variable) found.old.items
+            found.new.items) }
     {
         match self.tables.writers.last(variable, self.ticket) {
             Some(writer) => {
@@ -78,10 +87,10 @@ impl Newcomer<'_> {
         }
     }
 
-    /// Whether an event that reads the variable, of a ticket behind `writer` and less than `below`, has a place before one of the
-    /// new event. It looks at the last one first, so in a loop no further back than the loop's own read.
+    /// Whether an event that reads the variable, of a ticket behind `writer` and less than `below`, has a place before
+    /// one of the new event. It looks at the last one first, so in a loop no further back than the loop's own read.
     fn is_read_before(&self, variable: u32, writer: u64, below: u64) -> bool
-        requires { IsNewcomer self.now }
+        requires { IsNewEvent self.now }
         ensures { IsTrue result ↔ IsReadBefore self.now.live.now self.now.event.now variable writer below }
     {
         let mut end = below;
@@ -99,7 +108,7 @@ impl Newcomer<'_> {
 
     /// Whether the live event has a place before one of the new event.
     fn is_before(&self, ticket: u64) -> bool
-        requires new { IsNewcomer self.now }
+        requires new { IsNewEvent self.now }
         requires live { IsLive self.now.live.now ticket }
         ensures { IsTrue result ↔ IsBefore self.now.live.now self.now.event.now ticket }
     {
@@ -114,9 +123,11 @@ impl Newcomer<'_> {
         variable: u32,
         found: &mut Vec<u64>,
     ) -> Result<(), AllocError>
-        requires new { IsNewcomer self.now }
+        requires new { IsNewEvent self.now }
         requires writes { self.now.event.now.written ≡ Some variable }
-        ensures { IfOk result (λ _. AccessesFound self.now.live.now self.now.event.now (ReaderSince self.now.live.now variable) found.old.items found.new.items) }
+        ensures { IfOk result (λ _.
+            AccessesFound self.now.live.now self.now.event.now (ReaderSince self.now.live.now variable) found.old.items
+            found.new.items) }
     {
         let from = self.last_write(variable);
         let mut readers = Vec::new(alloc);
@@ -128,7 +139,7 @@ impl Newcomer<'_> {
 
     /// The ticket of the last writer of the variable, 0 where there is none.
     fn last_write(&self, variable: u32) -> u64
-        requires { IsNewcomer self.now }
+        requires { IsNewEvent self.now }
         ensures below { result ≤ self.now.ticket }
         ensures last { (t : ℕ) → (result ≤ t) ↔ ((w : ℕ) → LastWriter self.now.live.now variable w → w ≤ t) }
     {
@@ -140,9 +151,11 @@ impl Newcomer<'_> {
 
     /// Adds these live events, but for those that have a place before one of the new event.
     fn add_accesses(&self, tickets: &[u64], found: &mut Vec<u64>) -> Result<(), AllocError>
-        requires new { IsNewcomer self.now }
+        requires new { IsNewEvent self.now }
         requires direct { (t : ℕ) → In t tickets.now → IsDirect self.now.live.now self.now.event.now t }
-        ensures { IfOk result (λ _. AccessesFound self.now.live.now self.now.event.now (λ t. In t tickets.now) found.old.items found.new.items) }
+        ensures { IfOk result (λ _.
+            AccessesFound self.now.live.now self.now.event.now
+            (λ t. In t tickets.now) found.old.items found.new.items) }
     {
         for ticket in tickets {
             self.add_access(*ticket, found)?;
@@ -152,9 +165,10 @@ impl Newcomer<'_> {
 
     /// Adds the live event, unless it has a place before one of the new event.
     fn add_access(&self, ticket: u64, found: &mut Vec<u64>) -> Result<(), AllocError>
-        requires new { IsNewcomer self.now }
+        requires new { IsNewEvent self.now }
         requires direct { IsDirect self.now.live.now self.now.event.now ticket }
-        ensures { IfOk result (λ _. AccessesFound self.now.live.now self.now.event.now (λ t. t ≡ ticket) found.old.items found.new.items) }
+        ensures { IfOk result (λ _.
+            AccessesFound self.now.live.now self.now.event.now (λ t. t ≡ ticket) found.old.items found.new.items) }
     {
         let by_place = self.is_before(ticket);
         add_if(!by_place, ticket, found)

@@ -1,20 +1,20 @@
 // What depends on an event, told without a change of the marks: the question has marks of its own, from the event on.
 ghost use Rattle.std.specs.Prelude.{◌≡◌, ◌+◌, ℕ, length, drop, true, Some, slice_get, IfOk};
 ghost use Rattle.runs.specs.Live.{ConsequencesList, IsLive};
-ghost use Rattle.dependence.specs.walking.Tables.{IsRising, Linked};
+ghost use Rattle.dependence.specs.internal.Tables.{IsRising, Linked};
 
-use crate::held::HeldLinks;
+use crate::boxed_links::BoxedLinks;
 use crate::indexes::index_of_live;
 use crate::live::LiveEvent;
 use crate::marks::{copy_each, mark_dependents};
 use std::alloc::{AllocError, Global};
 
-/// The tickets of the live event of this ticket and of all live events that depend on it, ascending. It takes as long as to go
-/// through the live events from that event on.
+/// The tickets of the live event of this ticket and of all live events that depend on it, ascending. It takes as long
+/// as to go through the live events from that event on.
 pub(crate) fn consequences(
     alloc: Global,
     live: &[LiveEvent],
-    links: &[HeldLinks],
+    links: &[BoxedLinks],
     ticket: u64,
 ) -> Result<Vec<u64>, AllocError>
     requires rising { IsRising live.now }
@@ -39,7 +39,7 @@ fn no_marks(alloc: Global, count: usize) -> Result<Vec<bool>, AllocError>
 fn tickets_from(
     alloc: Global,
     live: &[LiveEvent],
-    links: &[HeldLinks],
+    links: &[BoxedLinks],
     base: usize,
     marks: &mut [bool],
     ticket: u64,

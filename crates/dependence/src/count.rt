@@ -1,16 +1,16 @@
 // How many events depend directly on one.
 ghost use Rattle.dependence.specs.Followers.{CountsDirect};
 ghost use Rattle.runs.specs.Live.{FirstDependent, IsLive};
-ghost use Rattle.dependence.specs.walking.Tables.{IsRising, Linked, CountsAmong};
+ghost use Rattle.dependence.specs.internal.Tables.{IsRising, Linked, CountsAmong};
 
-use crate::held::HeldLinks;
+use crate::boxed_links::BoxedLinks;
 use crate::indexes::index_of_live;
 use crate::live::LiveEvent;
 use crate::whole::least_dependent;
 use runs::{Event, depends_directly};
 
 /// How many live events depend directly on the one of this ticket. The first that may is its first follower.
-pub(crate) fn count_direct(live: &[LiveEvent], links: &[HeldLinks], ticket: u64) -> usize
+pub(crate) fn count_direct(live: &[LiveEvent], links: &[BoxedLinks], ticket: u64) -> usize
     requires rising { IsRising live.now }
     requires linked { Linked live.now links.now }
     requires live { IsLive live.now ticket }

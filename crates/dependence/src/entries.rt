@@ -7,11 +7,11 @@ ghost use Rattle.syntax.specs.Lists.{In};
 ghost use Rattle.runs.specs.Live.{Rising, LiveAt, NoDependent, IsLive};
 ghost use Rattle.dependence.specs.declared.links.Links.{Links};
 ghost use Rattle.dependence.specs.Behind.{ComesBehind};
-ghost use Rattle.dependence.specs.walking.Found.{IsNewcomer, PlacesFound};
-ghost use Rattle.dependence.specs.walking.Tables.{IsRising, StandsAt, Falling, Linked, PartLinked, Candidates, Topmost, LinkedBehind};
+ghost use Rattle.dependence.specs.internal.Found.{IsNewEvent, PlacesFound};
+ghost use Rattle.dependence.specs.internal.Tables.{IsRising, StandsAt, Falling, Linked, PartLinked, Candidates, Topmost, LinkedBehind};
 
-use crate::accesses::Newcomer;
-use crate::held::HeldLinks;
+use crate::accesses::NewEvent;
+use crate::boxed_links::BoxedLinks;
 use crate::indexes::index_of_live;
 use crate::links::{link_all, unlink_all};
 use crate::live::LiveEvent;
@@ -24,16 +24,17 @@ use syntax::Boxed;
 /// The tickets of the live events that a new event follows, falling. `found` are those that its places give.
 pub(crate) fn leads_of(
     alloc: Global,
-    links: &[HeldLinks],
-    new: &Newcomer<'_>,
+    links: &[BoxedLinks],
+    new: &NewEvent<'_>,
     mut found: Vec<u64>,
 ) -> Result<Vec<u64>, AllocError>
-    requires new { IsNewcomer new.now }
+    requires new { IsNewEvent new.now }
     requires found { PlacesFound new.now.live.now new.now.event.now found.items }
     requires behind { ComesBehind new.now.live.now new.now.event.now }
     requires linked { Linked new.now.live.now links.now }
     ensures falling { IfOk result (λ leads. Falling leads.items) }
-    ensures topmost { IfOk result (λ leads. (all : List ℕ) × Candidates new.now.live.now new.now.event.now all × ((t : ℕ) → In t leads.items ↔ Topmost new.now.live.now all t)) }
+    ensures topmost { IfOk result (λ leads. (all : List ℕ) × Candidates new.now.live.now new.now.event.now all
+        × ((t : ℕ) → In t leads.items ↔ Topmost new.now.live.now all t)) }
 {
     new.add_by_variables(alloc, &mut found)?;
     if found.len() <= 1 {
@@ -61,25 +62,26 @@ fn ascending(mut tickets: Vec<u64>) -> Vec<u64>
 /// Room for one more event with its links and its mark.
 pub(crate) fn make_room(
     pairs: &mut Vec<LiveEvent>,
-    links: &mut Vec<HeldLinks>,
+    links: &mut Vec<BoxedLinks>,
     marks: &mut Vec<bool>,
 ) -> Result<(), AllocError>
     ensures pairs { pairs.new.items ≡ pairs.old.items }
     ensures links { links.new.items ≡ links.old.items }
     ensures marks { marks.new.items ≡ marks.old.items }
-    ensures room { OnOk result ((vec_len pairs.new < vec_capacity pairs.new) × (vec_len links.new < vec_capacity links.new) × (vec_len marks.new < vec_capacity marks.new)) }
+    ensures room { OnOk result ((vec_len pairs.new < vec_capacity pairs.new)
+        × (vec_len links.new < vec_capacity links.new) × (vec_len marks.new < vec_capacity marks.new)) }
 {
     pairs.reserve(1)?;
     links.reserve(1)?;
     marks.reserve(1)
 }
 
-/// Links a new event to those that it follows, where there is room for its own links. Without memory for the others the tables
-/// are as before.
+/// Links a new event to those that it follows, where there is room for its own links. Without memory for the others the
+/// tables are as before.
 pub(crate) fn link_new(
     alloc: Global,
     live: &[LiveEvent],
-    links: &mut Vec<HeldLinks>,
+    links: &mut Vec<BoxedLinks>,
     leads: Vec<u64>,
     ticket: u64,
 ) -> Result<(), AllocError>
@@ -91,7 +93,7 @@ pub(crate) fn link_new(
     ensures ok { OnOk result (LinkedBehind live.now ticket leads.items links.new.items) }
     ensures err { OnErr result (PartLinked live.now ticket (λ t. In t []) links.new.items) }
 {
-    let entry = HeldLinks::new(alloc, leads)?;
+    let entry = BoxedLinks::new(alloc, leads)?;
     link_all(
         live,
         links.as_mut_slice(),
@@ -121,7 +123,7 @@ pub(crate) fn push_pair(
 /// Takes the event at this index, on which no other depends, out of the tables.
 pub(crate) fn take_out(
     pairs: &mut Vec<LiveEvent>,
-    links: &mut Vec<HeldLinks>,
+    links: &mut Vec<BoxedLinks>,
     index: usize,
 ) -> Event
     requires rising { IsRising pairs.old.items }

@@ -3,7 +3,7 @@ ghost use Rattle.std.specs.Prelude.{◌≡◌, ◌<◌, Some, slice_get, MatchOp
 ghost use Rattle.syntax.specs.Lists.{In};
 ghost use Rattle.runs.specs.InOrder.{InOrder};
 ghost use Rattle.runs.specs.Live.{NoneAt, IsLive};
-ghost use Rattle.dependence.specs.walking.Tables.{IsRising, StandsAt};
+ghost use Rattle.dependence.specs.internal.Tables.{IsRising, StandsAt};
 
 use crate::live::LiveEvent;
 

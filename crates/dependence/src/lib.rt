@@ -2,11 +2,11 @@
 #![tactic(auto)]
 
 mod accesses;
-mod acting;
+mod acting_event;
+mod boxed_links;
 mod consequences;
 mod count;
 mod entries;
-mod held;
 mod indexes;
 mod laws;
 mod links;
@@ -14,7 +14,7 @@ mod live;
 mod marks;
 mod puts;
 mod tables;
-mod taking;
+mod take;
 mod topmost;
 mod unreached;
 mod whole;

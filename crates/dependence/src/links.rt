@@ -4,9 +4,9 @@ ghost use Rattle.syntax.specs.Lists.{In};
 ghost use Rattle.runs.specs.InOrder.{InOrder};
 ghost use Rattle.runs.specs.Live.{Rising, NoneAt, IsLive};
 ghost use Rattle.dependence.specs.declared.links.Links.{Links};
-ghost use Rattle.dependence.specs.walking.Tables.{IsRising, Falling, PartLinked, FollowersChanged, Removed};
+ghost use Rattle.dependence.specs.internal.Tables.{IsRising, Falling, PartLinked, FollowersChanged, Removed};
 
-use crate::held::HeldLinks;
+use crate::boxed_links::BoxedLinks;
 use crate::indexes::{index_in, index_of_live};
 use crate::live::LiveEvent;
 use smallvec::SmallVec;
@@ -25,7 +25,7 @@ pub(crate) struct Links {
 /// Puts the new ticket behind the followers of each of these events. Without memory for it all lists are as before.
 pub(crate) fn link_all(
     live: &[LiveEvent],
-    links: &mut [HeldLinks],
+    links: &mut [BoxedLinks],
     leads: &[u64],
     ticket: u64,
 ) -> Result<(), AllocError>
@@ -33,7 +33,8 @@ pub(crate) fn link_all(
     requires live { (t : ℕ) → In t leads.now → IsLive live.now t }
     requires falling { Falling leads.now }
     requires linked { PartLinked live.now ticket (λ t. In t []) links.old }
-    ensures { MatchResult result (λ _. PartLinked live.now ticket (λ t. In t leads.now) links.new) (λ _. PartLinked live.now ticket (λ t. In t []) links.new) }
+    ensures { MatchResult result (λ _. PartLinked live.now ticket (λ t. In t leads.now) links.new)
+        (λ _. PartLinked live.now ticket (λ t. In t []) links.new) }
 {
     for (done, lead) in leads.iter().enumerate() {
         if let Err(refused) = link_one(live, links, *lead, ticket) {
@@ -47,14 +48,16 @@ pub(crate) fn link_all(
 /// Puts the ticket behind the followers of the live event `lead`.
 fn link_one(
     live: &[LiveEvent],
-    links: &mut [HeldLinks],
+    links: &mut [BoxedLinks],
     lead: u64,
     ticket: u64,
 ) -> Result<(), AllocError>
     requires rising { IsRising live.now }
     requires live { IsLive live.now lead }
     requires size { length links.old ≡ length live.now }
-    ensures { MatchResult result (λ _. FollowersChanged live.now lead (λ before after. after ≡ before ++ ticket ∷ []) links.old links.new) (λ _. FollowersChanged live.now lead (λ before after. after ≡ before) links.old links.new) }
+    ensures { MatchResult result
+        (λ _. FollowersChanged live.now lead (λ before after. after ≡ before ++ ticket ∷ []) links.old links.new)
+        (λ _. FollowersChanged live.now lead (λ before after. after ≡ before) links.old links.new) }
 {
     let index = index_of_live(live, lead);
     links[index].add_follower(ticket)?;
@@ -62,7 +65,7 @@ fn link_one(
 }
 
 /// Takes the ticket, which is not live, out of the followers of each of these events.
-pub(crate) fn unlink_all(live: &[LiveEvent], links: &mut [HeldLinks], leads: &[u64], ticket: u64)
+pub(crate) fn unlink_all(live: &[LiveEvent], links: &mut [BoxedLinks], leads: &[u64], ticket: u64)
     requires rising { IsRising live.now }
     requires absent { NoneAt live.now ticket }
     requires live { (t : ℕ) → In t leads.now → IsLive live.now t }
@@ -76,7 +79,7 @@ pub(crate) fn unlink_all(live: &[LiveEvent], links: &mut [HeldLinks], leads: &[u
 }
 
 /// Takes the ticket out of the followers of the live event `lead`.
-fn unlink_one(live: &[LiveEvent], links: &mut [HeldLinks], lead: u64, ticket: u64)
+fn unlink_one(live: &[LiveEvent], links: &mut [BoxedLinks], lead: u64, ticket: u64)
     requires rising { IsRising live.now }
     requires live { IsLive live.now lead }
     requires size { length links.old ≡ length live.now }

@@ -9,14 +9,14 @@ ghost use Rattle.dependence.specs.Shown.{with_newest, Greatest, IsSound};
 ghost use Rattle.dependence.specs.Taking.{MarksAllDependents, OneMarkedAt, NoneMarkedAt, IsNearMarked, StaysBeside};
 ghost use Rattle.syntax.specs.Lists.{In};
 
-use crate::acting::acting_at_first_child;
+use crate::acting_event::acting_at_first_child;
+use crate::boxed_links::BoxedLinks;
 use crate::consequences::consequences;
 use crate::count::count_direct;
-use crate::held::HeldLinks;
 use crate::indexes::index_of;
 use crate::marks::{copy_marked, last_marked, mark_and_count, marked_at, unmarked_below};
 use crate::tables::Tables;
-use crate::taking::{keep_unmarked, take_marked};
+use crate::take::{keep_unmarked, take_marked};
 use crate::whole::{add_event, followers_of, last_writer, leads_at, least_dependent, take_event};
 use address::Entry;
 use runs::Event;
@@ -24,7 +24,8 @@ use std::alloc::{AllocError, Global};
 use std::marker::Model;
 use syntax::Boxed;
 
-/// A live event with its ticket. The event stands on the heap, so that little moves where one is taken out from the middle.
+/// A live event with its ticket. The event stands on the heap, so that little moves where one is taken out from the
+/// middle.
 pub type LiveEvent = (u64, Boxed<Event>);
 
 /// The live events of an execution with their tickets, in order of tickets, the followers of each, and marks.
@@ -32,7 +33,7 @@ pub type LiveEvent = (u64, Boxed<Event>);
 pub struct Live {
     alloc: Global,
     pairs: Vec<LiveEvent>,
-    links: Vec<HeldLinks>,
+    links: Vec<BoxedLinks>,
     marks: Vec<bool>,
     /// no event of a lesser ticket is marked
     first_marked: u64,
@@ -44,13 +45,15 @@ impl Model for Live {
 
     ghost Value = { Shown };
 
-    ghost use Rattle.dependence.specs.walking.Marking.{NoneLess};
-    ghost use Rattle.dependence.specs.walking.Tabled.{IsTabled};
-    ghost use Rattle.dependence.specs.walking.Whole.{IsWhole};
+    ghost use Rattle.dependence.specs.internal.Marking.{NoneLess};
+    ghost use Rattle.dependence.specs.internal.Tabled.{IsTabled};
+    ghost use Rattle.dependence.specs.internal.Whole.{IsWhole};
 
-    ghost view = { λ live. record { live = live.pairs.items; marked = tickets_marked live.pairs.items live.marks.items } };
+    ghost view = { λ live.
+        record { live = live.pairs.items; marked = tickets_marked live.pairs.items live.marks.items } };
 
-    ghost invariant = { λ live. IsWhole live.pairs.items live.links.items live.marks.items × IsTabled live.pairs.items live.tables × NoneLess live.pairs.items live.marks.items live.first_marked };
+    ghost invariant = { λ live. IsWhole live.pairs.items live.links.items live.marks.items
+        × IsTabled live.pairs.items live.tables × NoneLess live.pairs.items live.marks.items live.first_marked };
 }
 
 impl Live {
@@ -91,14 +94,16 @@ impl Live {
 
     /// The index, counted from 0 in order of tickets, of the live event of this ticket.
     pub fn index_of(&self, ticket: u64) -> Option<usize>
-        ensures { MatchOption result (NoneAt self.now.live ticket) (λ i. (e : Event) × (slice_get self.now.live i ≡ Some (ticket, e))) }
+        ensures { MatchOption result (NoneAt self.now.live ticket) (λ i. (e : Event)
+            × (slice_get self.now.live i ≡ Some (ticket, e))) }
     {
         index_of(self.pairs.as_slice(), ticket)
     }
 
     /// The ticket and the event at an index, counted from 0 in order of tickets; `None` past the last.
     pub fn pair_at(&self, index: u64) -> Option<(u64, &Event)>
-        ensures { MatchOption result (slice_get self.now.live index ≡ None) (λ entry. slice_get self.now.live index ≡ Some (entry.0, entry.1.now)) }
+        ensures { MatchOption result (slice_get self.now.live index ≡ None) (λ entry.
+            slice_get self.now.live index ≡ Some (entry.0, entry.1.now)) }
     {
         match self.pairs.get(index as usize) {
             Some(entry) => Some((entry.0, entry.1.get())),
@@ -106,8 +111,8 @@ impl Live {
         }
     }
 
-    /// The tickets of the followers of the live event of this ticket: of those that depend directly on it with no live event
-    /// between, ascending.
+    /// The tickets of the followers of the live event of this ticket: of those that depend directly on it with no live
+    /// event between, ascending.
     pub fn followers(&self, ticket: u64) -> &[u64]
         requires { IsLive self.now.live ticket }
         ensures { ListsFollowers self.now.live ticket result.now }
@@ -115,8 +120,8 @@ impl Live {
         followers_of(self.pairs.as_slice(), self.links.as_slice(), ticket)
     }
 
-    /// The tickets of the live events that the live event of this ticket follows: of those on which it depends directly with no
-    /// live event between, falling.
+    /// The tickets of the live events that the live event of this ticket follows: of those on which it depends directly
+    /// with no live event between, falling.
     pub fn leads(&self, ticket: u64) -> &[u64]
         requires { IsLive self.now.live ticket }
         ensures { ListsLeads self.now.live ticket result.now }
@@ -139,16 +144,17 @@ impl Live {
         last_writer(self.pairs.as_slice(), &self.tables, variable)
     }
 
-    /// The live event that acts at the first child of the place. It takes no memory, and as long as to look for the place by
-    /// halves.
+    /// The live event that acts at the first child of the place. It takes no memory, and as long as to look for the
+    /// place by halves.
     pub fn acting_at_first_child(&self, place: &[Entry]) -> Option<&Event>
-        ensures { MatchOption result (NoneActs self.now.live (first_child place.now)) (λ e. ActsAlone self.now.live (first_child place.now) e.now) }
+        ensures { MatchOption result (NoneActs self.now.live (first_child place.now)) (λ e.
+            ActsAlone self.now.live (first_child place.now) e.now) }
     {
         acting_at_first_child(self.pairs.as_slice(), &self.tables, place)
     }
 
-    /// How many live events depend directly on the live event of this ticket. It takes as long as to go through the live events
-    /// from the first that depends on it on.
+    /// How many live events depend directly on the live event of this ticket. It takes as long as to go through the
+    /// live events from the first that depends on it on.
     pub fn count(&self, ticket: u64) -> u64
         requires { IsLive self.now.live ticket }
         ensures { CountsDirect self.now.live ticket result }
@@ -156,8 +162,8 @@ impl Live {
         count_direct(self.pairs.as_slice(), self.links.as_slice(), ticket) as u64
     }
 
-    /// The tickets of the live event of this ticket and of all live events that depend on it, ascending. It marks nothing. It takes
-    /// as long as to go through the live events from that event on.
+    /// The tickets of the live event of this ticket and of all live events that depend on it, ascending. It marks
+    /// nothing. It takes as long as to go through the live events from that event on.
     ///
     /// # Errors
     ///
@@ -174,8 +180,8 @@ impl Live {
         )
     }
 
-    /// Marks the live event of this ticket and all live events that depend on it, and no others; how many they are. The marks
-    /// stay until the next marking.
+    /// Marks the live event of this ticket and all live events that depend on it, and no others; how many they are. The
+    /// marks stay until the next marking.
     pub fn mark_consequences(&mut self, ticket: u64) -> u64
         requires { IsLive self.old.live ticket }
         ensures live { self.new.live ≡ self.old.live }
@@ -202,13 +208,14 @@ impl Live {
 
     /// The live event at an index, counted from 0 in order of tickets, where it is marked.
     pub fn marked_at(&self, index: usize) -> Option<&Event>
-        ensures { MatchOption result (NoneMarkedAt self.now.live self.now.marked index) (λ found. OneMarkedAt self.now.live self.now.marked index found.now) }
+        ensures { MatchOption result (NoneMarkedAt self.now.live self.now.marked index) (λ found.
+            OneMarkedAt self.now.live self.now.marked index found.now) }
     {
         marked_at(self.pairs.as_slice(), self.marks.as_slice(), index)
     }
 
-    /// An index, counted from 0 in order of tickets, below which no live event is marked. It is less than 1,024 before the first
-    /// that is, or before the end.
+    /// An index, counted from 0 in order of tickets, below which no live event is marked. It is less than 1,024 before
+    /// the first that is, or before the end.
     pub fn unmarked_below(&self) -> usize
         ensures within { result ≤ length self.now.live }
         ensures none { (i : ℕ) → i < result → NoneMarkedAt self.now.live self.now.marked i }
@@ -229,9 +236,9 @@ impl Live {
         )
     }
 
-    /// Adds an event under a ticket that is greater than every live one; it has no mark. It comes behind the live events, as it
-    /// does where they run with it in a system that keeps the rule on sharing (`last_comes_behind`). Without memory for it
-    /// nothing has changed, and the event is handed back.
+    /// Adds an event under a ticket that is greater than every live one; it has no mark. It comes behind the live
+    /// events, as it does where they run with it in a system that keeps the rule on sharing (`last_comes_behind`).
+    /// Without memory for it nothing has changed, and the event is handed back.
     pub fn add(&mut self, ticket: u64, event: Boxed<Event>) -> Result<(), Boxed<Event>>
         requires above { (t : ℕ) (e : Event) → LiveAt self.old.live t e → t < ticket }
         requires behind { ComesBehind self.old.live event }
@@ -274,8 +281,8 @@ impl Live {
         keep_unmarked(items, self.marks.as_slice());
     }
 
-    /// Takes out the marked live events with their marks, where what depends on a marked one is marked. It takes as long as to go
-    /// once through the marks, and through the live events from about the first marked one on.
+    /// Takes out the marked live events with their marks, where what depends on a marked one is marked. It takes as
+    /// long as to go once through the marks, and through the live events from about the first marked one on.
     pub fn take_marked(&mut self)
         requires { MarksAllDependents self.old }
         ensures live { WithoutTickets (λ t. In t self.old.marked) self.old.live self.new.live }

@@ -5,10 +5,10 @@ ghost use Rattle.system.specs.Expression.{is_in};
 ghost use Rattle.runs.specs.Live.{ConsequencesList, IsLive};
 ghost use Rattle.dependence.specs.Shown.{tickets_marked, Greatest};
 ghost use Rattle.dependence.specs.Taking.{OneMarkedAt, NoneMarkedAt};
-ghost use Rattle.dependence.specs.walking.Tables.{IsRising, Linked};
-ghost use Rattle.dependence.specs.walking.Marking.{MarkedAt, UnmarkedTo, SomeMarked, MarkedNear, NoneLess};
+ghost use Rattle.dependence.specs.internal.Tables.{IsRising, Linked};
+ghost use Rattle.dependence.specs.internal.Marking.{MarkedAt, UnmarkedTo, SomeMarked, MarkedNear, NoneLess};
 
-use crate::held::HeldLinks;
+use crate::boxed_links::BoxedLinks;
 use crate::indexes::{index_of, index_of_live};
 use crate::live::LiveEvent;
 use runs::Event;
@@ -17,11 +17,11 @@ use std::alloc::{AllocError, Global};
 /// How many marks are looked at together.
 const STRIDE: usize = 1_024;
 
-/// Marks the event of this ticket and all that depend on it, and no others; how many they are. No event of a ticket less than
-/// `first` was marked.
+/// Marks the event of this ticket and all that depend on it, and no others; how many they are. No event of a ticket
+/// less than `first` was marked.
 pub(crate) fn mark_and_count(
     live: &[LiveEvent],
-    links: &[HeldLinks],
+    links: &[BoxedLinks],
     marks: &mut [bool],
     first: u64,
     ticket: u64,
@@ -41,11 +41,11 @@ pub(crate) fn mark_and_count(
     count_marked(live, marks, ticket)
 }
 
-/// Marks the event of this ticket and all that depend on it, where nothing is marked. The marks are those of the live events from
-/// the index `base` on, and the event is one of these.
+/// Marks the event of this ticket and all that depend on it, where nothing is marked. The marks are those of the live
+/// events from the index `base` on, and the event is one of these.
 pub(crate) fn mark_dependents(
     live: &[LiveEvent],
-    links: &[HeldLinks],
+    links: &[BoxedLinks],
     base: usize,
     marks: &mut [bool],
     ticket: u64,
@@ -79,8 +79,8 @@ pub(crate) fn clear(marks: &mut [bool], from: usize)
     }
 }
 
-/// An index below which none is marked: where no event of a ticket less than `first` is, that of the event of this ticket, and
-/// where there is no such event one that is looked for.
+/// An index below which none is marked: where no event of a ticket less than `first` is, that of the event of this
+/// ticket, and where there is no such event one that is looked for.
 fn first_index(live: &[LiveEvent], marks: &[bool], first: u64) -> usize
     requires rising { IsRising live.now }
     requires size { length marks.now ≡ length live.now }
@@ -151,7 +151,8 @@ pub(crate) fn marked_at<'a>(
 ) -> Option<&'a Event>
     requires rising { IsRising live.now }
     requires size { length marks.now ≡ length live.now }
-    ensures { MatchOption result (NoneMarkedAt live.now (tickets_marked live.now marks.now) index) (λ found. OneMarkedAt live.now (tickets_marked live.now marks.now) index found.now) }
+    ensures { MatchOption result (NoneMarkedAt live.now (tickets_marked live.now marks.now) index) (λ found.
+        OneMarkedAt live.now (tickets_marked live.now marks.now) index found.now) }
 {
     if index < marks.len() && marks[index] {
         return Some(live[index].1.get());
@@ -208,7 +209,8 @@ pub(crate) fn copy_each(
 pub(crate) fn last_marked(live: &[LiveEvent], marks: &[bool]) -> Option<u64>
     requires rising { IsRising live.now }
     requires size { length marks.now ≡ length live.now }
-    ensures { MatchOption result (tickets_marked live.now marks.now ≡ []) (λ t. Greatest (tickets_marked live.now marks.now) t) }
+    ensures { MatchOption result (tickets_marked live.now marks.now ≡ []) (λ t.
+        Greatest (tickets_marked live.now marks.now) t) }
 {
     let mut index = live.len();
     while index > 0 {

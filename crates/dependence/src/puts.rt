@@ -5,14 +5,15 @@ ghost use Rattle.syntax.specs.Lists.{In};
 ghost use Rattle.last_events.specs.LastEvents.{IsAt, Uses, Orderly};
 ghost use Rattle.runs.specs.Events.{places};
 ghost use Rattle.runs.specs.Moves.{Place};
-ghost use Rattle.dependence.specs.walking.Found.{FoundByPlace};
-ghost use Rattle.dependence.specs.walking.Tabled.{MorePlaces, MoreUses, FewerPlaces, FewerUses, written_of};
+ghost use Rattle.dependence.specs.internal.Found.{FoundByPlace};
+ghost use Rattle.dependence.specs.internal.Tabled.{MorePlaces, MoreUses, FewerPlaces, FewerUses, written_of};
 
 use last_events::{PlaceTable, UseTable};
 use runs::Event;
 use std::alloc::AllocError;
 
-/// Puts the event at its places, where none stands, or at those that there is memory for, and adds the last events before each.
+/// Puts the event at its places, where none stands, or at those that there is memory for, and adds the last events
+/// before each.
 pub(crate) fn put_places(
     table: &mut PlaceTable,
     ticket: u64,

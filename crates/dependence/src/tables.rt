@@ -2,7 +2,7 @@
 ghost use Rattle.std.specs.Prelude.{◌≡◌, ℕ, [], OnOk};
 ghost use Rattle.syntax.specs.Lists.{In};
 ghost use Rattle.last_events.specs.LastEvents.{Uses};
-ghost use Rattle.dependence.specs.walking.Tabled.{TablesOf, MoreUses, FewerTables, written_of};
+ghost use Rattle.dependence.specs.internal.Tabled.{TablesOf, MoreUses, FewerTables, written_of};
 
 use crate::puts::{put_reads, put_written, remove_places, remove_reads, remove_written};
 use last_events::{PlaceTable, UseTable};

@@ -5,21 +5,22 @@ ghost use Rattle.system.specs.Expression.{is_in};
 ghost use Rattle.std.specs.List.Sorted.{IsNonDecreasing};
 ghost use Rattle.runs.specs.InOrder.{InOrder};
 ghost use Rattle.runs.specs.Live.{IsLive};
-ghost use Rattle.dependence.specs.walking.Tables.{IsRising, StandsAt, Falling, Linked, Topmost};
-ghost use Rattle.dependence.specs.walking.Sweeping.{StandWithin, FlagAt};
+ghost use Rattle.dependence.specs.internal.Tables.{IsRising, StandsAt, Falling, Linked, Topmost};
+ghost use Rattle.dependence.specs.internal.Sweeping.{StandWithin, FlagAt};
 
 use crate::accesses::add_if;
-use crate::held::HeldLinks;
+use crate::boxed_links::BoxedLinks;
 use crate::indexes::index_of_live;
 use crate::live::LiveEvent;
 use std::alloc::{AllocError, Global};
 
-/// Of these events, whose tickets ascend and which stand from the index `low` on and below `high`, those on which no other of them depends, the last
-/// first. One sweep goes down from the last index and notes where one of them is reached.
+/// Of these events, whose tickets ascend and which stand from the index `low` on and below `high`, those on which no
+/// other of them depends, the last first. One sweep goes down from the last index and notes where one of them is
+/// reached.
 pub(crate) fn topmost(
     alloc: Global,
     live: &[LiveEvent],
-    links: &[HeldLinks],
+    links: &[BoxedLinks],
     candidates: &[u64],
     low: usize,
     high: usize,
@@ -66,8 +67,8 @@ pub(crate) fn span(live: &[LiveEvent], tickets: &[u64]) -> (usize, usize)
     (low, last + 1)
 }
 
-/// Whether one of these live events, whose tickets ascend, stands below `high` at an index that is flagged. The flags begin at the
-/// last index. None behind the first that stands above is looked at.
+/// Whether one of these live events, whose tickets ascend, stands below `high` at an index that is flagged. The flags
+/// begin at the last index. None behind the first that stands above is looked at.
 fn is_flagged(live: &[LiveEvent], high: usize, flags: &[bool], tickets: &[u64]) -> bool
     requires rising { IsRising live.now }
     requires live { (t : ℕ) → In t tickets.now → IsLive live.now t }

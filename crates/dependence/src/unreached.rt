@@ -1,20 +1,21 @@
-// Whether of some live events none depends on another: as a rule so it is, and what lies between them need not be swept.
+// Whether of some live events none depends on another: as a rule so it is, and what lies between them need not be
+// swept.
 ghost use Rattle.std.specs.Prelude.{◌≡◌, ◌<◌, ◌↔◌, ℕ, suc, length, true, false, drop, slice_index, IfOk};
 ghost use Rattle.std.specs.List.Sorted.{IsNonDecreasing};
 ghost use Rattle.syntax.specs.Lists.{In};
 ghost use Rattle.runs.specs.Live.{IsLive};
-ghost use Rattle.dependence.specs.walking.Tables.{IsRising, Falling, Linked, Topmost};
-ghost use Rattle.dependence.specs.walking.Sweeping.{IsUnreached};
+ghost use Rattle.dependence.specs.internal.Tables.{IsRising, Falling, Linked, Topmost};
+ghost use Rattle.dependence.specs.internal.Sweeping.{IsUnreached};
 
 use crate::accesses::add_if;
-use crate::held::HeldLinks;
+use crate::boxed_links::BoxedLinks;
 use crate::live::LiveEvent;
 use crate::whole::least_dependent;
 use std::alloc::{AllocError, Global};
 
-/// Whether the first dependent of each of these events, if it has one, stands behind all of them. Then none of them depends on
-/// another.
-pub(crate) fn are_unreached(live: &[LiveEvent], links: &[HeldLinks], tickets: &[u64]) -> bool
+/// Whether the first dependent of each of these events, if it has one, stands behind all of them. Then none of them
+/// depends on another.
+pub(crate) fn are_unreached(live: &[LiveEvent], links: &[BoxedLinks], tickets: &[u64]) -> bool
     requires rising { IsRising live.now }
     requires linked { Linked live.now links.now }
     requires live { (t : ℕ) → In t tickets.now → IsLive live.now t }
@@ -32,7 +33,7 @@ pub(crate) fn are_unreached(live: &[LiveEvent], links: &[HeldLinks], tickets: &[
 }
 
 /// Whether the first dependent of the live event, if it has one, has a greater ticket than `last`.
-fn is_unreached(live: &[LiveEvent], links: &[HeldLinks], ticket: u64, last: u64) -> bool
+fn is_unreached(live: &[LiveEvent], links: &[BoxedLinks], ticket: u64, last: u64) -> bool
     requires rising { IsRising live.now }
     requires linked { Linked live.now links.now }
     requires live { IsLive live.now ticket }

@@ -6,13 +6,13 @@ ghost use Rattle.runs.specs.Live.{Rising, LiveAt, NoDependent, FirstDependent, W
 ghost use Rattle.dependence.specs.Behind.{ComesBehind};
 ghost use Rattle.dependence.specs.Followers.{ListsFollowers, ListsLeads};
 ghost use Rattle.dependence.specs.Shown.{tickets_marked};
-ghost use Rattle.dependence.specs.walking.Tables.{IsRising, Linked};
-ghost use Rattle.dependence.specs.walking.Tabled.{IsTabled, TablesOf, MoreTables};
-ghost use Rattle.dependence.specs.walking.Whole.{IsWhole, IsEntered};
+ghost use Rattle.dependence.specs.internal.Tables.{IsRising, Linked};
+ghost use Rattle.dependence.specs.internal.Tabled.{IsTabled, TablesOf, MoreTables};
+ghost use Rattle.dependence.specs.internal.Whole.{IsWhole, IsEntered};
 
-use crate::accesses::Newcomer;
+use crate::accesses::NewEvent;
+use crate::boxed_links::BoxedLinks;
 use crate::entries::{leads_of, link_new, make_room, push_pair, take_out};
-use crate::held::HeldLinks;
 use crate::indexes::index_of_live;
 use crate::live::LiveEvent;
 use crate::puts::put_places;
@@ -22,7 +22,11 @@ use std::alloc::{AllocError, Global};
 use syntax::Boxed;
 
 /// The tickets of the followers of the live event of this ticket.
-pub(crate) fn followers_of<'a>(live: &[LiveEvent], links: &'a [HeldLinks], ticket: u64) -> &'a [u64]
+pub(crate) fn followers_of<'a>(
+    live: &[LiveEvent],
+    links: &'a [BoxedLinks],
+    ticket: u64,
+) -> &'a [u64]
     requires rising { IsRising live.now }
     requires linked { Linked live.now links.now }
     requires live { IsLive live.now ticket }
@@ -33,7 +37,7 @@ pub(crate) fn followers_of<'a>(live: &[LiveEvent], links: &'a [HeldLinks], ticke
 }
 
 /// The tickets of the live events that the one of this ticket follows.
-pub(crate) fn leads_at<'a>(live: &[LiveEvent], links: &'a [HeldLinks], ticket: u64) -> &'a [u64]
+pub(crate) fn leads_at<'a>(live: &[LiveEvent], links: &'a [BoxedLinks], ticket: u64) -> &'a [u64]
     requires rising { IsRising live.now }
     requires linked { Linked live.now links.now }
     requires live { IsLive live.now ticket }
@@ -44,7 +48,7 @@ pub(crate) fn leads_at<'a>(live: &[LiveEvent], links: &'a [HeldLinks], ticket: u
 }
 
 /// The least ticket of another live event that depends on the one of this ticket.
-pub(crate) fn least_dependent(live: &[LiveEvent], links: &[HeldLinks], ticket: u64) -> Option<u64>
+pub(crate) fn least_dependent(live: &[LiveEvent], links: &[BoxedLinks], ticket: u64) -> Option<u64>
     requires rising { IsRising live.now }
     requires linked { Linked live.now links.now }
     requires live { IsLive live.now ticket }
@@ -53,8 +57,8 @@ pub(crate) fn least_dependent(live: &[LiveEvent], links: &[HeldLinks], ticket: u
     followers_of(live, links, ticket).first().copied()
 }
 
-/// The ticket of the last live event that writes the variable. The last of all is looked at itself, since the table is asked
-/// below a ticket, and none may be above the greatest.
+/// The ticket of the last live event that writes the variable. The last of all is looked at itself, since the table is
+/// asked below a ticket, and none may be above the greatest.
 pub(crate) fn last_writer(live: &[LiveEvent], tables: &Tables, variable: u32) -> Option<u64>
     requires rising { IsRising live.now }
     requires tables { TablesOf live.now tables.now }
@@ -73,7 +77,7 @@ pub(crate) fn last_writer(live: &[LiveEvent], tables: &Tables, variable: u32) ->
 pub(crate) fn add_event(
     alloc: Global,
     pairs: &mut Vec<LiveEvent>,
-    links: &mut Vec<HeldLinks>,
+    links: &mut Vec<BoxedLinks>,
     marks: &mut Vec<bool>,
     tables: &mut Tables,
     ticket: u64,
@@ -85,8 +89,10 @@ pub(crate) fn add_event(
     requires behind { ComesBehind pairs.old.items event }
     ensures whole { IsWhole pairs.new.items links.new.items marks.new.items }
     ensures tabled { IsTabled pairs.new.items tables.new }
-    ensures added { OnOk result ((pairs.new.items ≡ pairs.old.items ++ (ticket, event) ∷ []) × (tickets_marked pairs.new.items marks.new.items ≡ tickets_marked pairs.old.items marks.old.items)) }
-    ensures refused { IfErr result (λ back. (back ≡ event) × (pairs.new.items ≡ pairs.old.items) × (marks.new.items ≡ marks.old.items)) }
+    ensures added { OnOk result ((pairs.new.items ≡ pairs.old.items ++ (ticket, event) ∷ [])
+        × (tickets_marked pairs.new.items marks.new.items ≡ tickets_marked pairs.old.items marks.old.items)) }
+    ensures refused { IfErr result (λ back. (back ≡ event) × (pairs.new.items ≡ pairs.old.items)
+        × (marks.new.items ≡ marks.old.items)) }
 {
     let entered = enter(alloc, pairs, links, marks, tables, ticket, event.get());
     if entered.is_err() {
@@ -97,12 +103,12 @@ pub(crate) fn add_event(
     Ok(())
 }
 
-/// Puts an event into the tables and links it to those that it follows, and makes room for it and its mark. Without memory for
-/// all that, what there is memory for is in the tables, and nothing is linked.
+/// Puts an event into the tables and links it to those that it follows, and makes room for it and its mark. Without
+/// memory for all that, what there is memory for is in the tables, and nothing is linked.
 fn enter(
     alloc: Global,
     pairs: &mut Vec<LiveEvent>,
-    links: &mut Vec<HeldLinks>,
+    links: &mut Vec<BoxedLinks>,
     marks: &mut Vec<bool>,
     tables: &mut Tables,
     ticket: u64,
@@ -116,12 +122,13 @@ fn enter(
     ensures marks { marks.new.items ≡ marks.old.items }
     ensures more { MoreTables tables.old ticket event.now tables.new }
     ensures entered { OnOk result (IsEntered pairs.old.items ticket event.now links.new.items tables.new) }
-    ensures room { OnOk result ((vec_len pairs.new < vec_capacity pairs.new) × (vec_len marks.new < vec_capacity marks.new)) }
+    ensures room { OnOk result ((vec_len pairs.new < vec_capacity pairs.new)
+        × (vec_len marks.new < vec_capacity marks.new)) }
     ensures refused { OnErr result (Linked pairs.old.items links.new.items) }
 {
     let mut found = Vec::new(alloc);
     put_places(&mut tables.places, ticket, event, &mut found)?;
-    let new = Newcomer {
+    let new = NewEvent {
         live: pairs.as_slice(),
         tables,
         ticket,
@@ -136,7 +143,7 @@ fn enter(
 /// Takes out the live event of this ticket, on which no other live event depends, with its mark.
 pub(crate) fn take_event(
     pairs: &mut Vec<LiveEvent>,
-    links: &mut Vec<HeldLinks>,
+    links: &mut Vec<BoxedLinks>,
     marks: &mut Vec<bool>,
     tables: &mut Tables,
     ticket: u64,
@@ -149,7 +156,9 @@ pub(crate) fn take_event(
     ensures tabled { IsTabled pairs.new.items tables.new }
     ensures event { LiveAt pairs.old.items ticket result }
     ensures live { WithoutTickets (λ t. t ≡ ticket) pairs.old.items pairs.new.items }
-    ensures marked { Without (λ t. t ≡ ticket) (tickets_marked pairs.old.items marks.old.items) (tickets_marked pairs.new.items marks.new.items) }
+    ensures marked { Without
+        (λ t. t
+        ≡ ticket) (tickets_marked pairs.old.items marks.old.items) (tickets_marked pairs.new.items marks.new.items) }
 {
     let index = index_of_live(pairs.as_slice(), ticket);
     let event = take_out(pairs, links, index);

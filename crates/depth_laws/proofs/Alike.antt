@@ -4,11 +4,11 @@ use Rattle.std.specs.Prelude.{slice_get, slice_index}
 use Rattle.runs.specs.Dependence.{Directly, Respecting}
 use Rattle.runs.specs.Live.{Live, LiveAt, Rising, DependsOn, same, later, events}
 use Rattle.runs.specs.declared.event.Event.{Event}
-use Rattle.runs.proofs.Elements.{Distinct, in-rearranged}
-use Rattle.runs.proofs.DependsOnLaw.{earlier-by-tickets, one-ticket, tickets-of-earlier}
-use Rattle.runs.proofs.Tickets.{rising-one, event-in, in-event}
+use Rattle.runs.proofs.public.Elements.{Distinct, in-rearranged}
+use Rattle.runs.proofs.public.DependsOnLaw.{earlier-by-tickets, one-ticket, tickets-of-earlier}
+use Rattle.runs.proofs.public.Tickets.{rising-one, event-in, in-event}
 use Rattle.dependence.specs.Followers.{Follower}
-use Rattle.dependence.proofs.Following.{follows-live}
+use Rattle.dependence.proofs.public.Following.{follows-live}
 use Rattle.depth_laws.specs.Laws.{Chain}
 
 -- both have the same events, each once, and a directly dependent pair stands in the other as in the one

@@ -3,14 +3,14 @@ use Rattle.std.proofs.Common.{◌≡◌, inl, inr, ℕ, ◌<◌}
 use Rattle.syntax.specs.Lists.{In}
 use Rattle.system.specs.declared.system.System.{System}
 use Rattle.branch_lanes.specs.Lanes.{lane_of}
-use Rattle.branch_lanes.proofs.Trimming.{apart-in-lanes}
+use Rattle.branch_lanes.proofs.public.Trimming.{apart-in-lanes}
 use Rattle.runs.specs.Events.{places}
 use Rattle.runs.specs.Live.{Live, LiveAt, Rising, events}
 use Rattle.runs.specs.Moves.{Place}
 use Rattle.runs.specs.Steps.{State, Run, opening}
 use Rattle.runs.specs.declared.event.Event.{Event}
-use Rattle.runs.proofs.DependsOnLaw.{earlier-by-tickets}
-use Rattle.runs.proofs.FromOpening.{earlier_places}
+use Rattle.runs.proofs.public.DependsOnLaw.{earlier-by-tickets}
+use Rattle.runs.proofs.public.FromOpening.{earlier_places}
 use Rattle.dependence.specs.Followers.{DirectDependent}
 
 pub lanes-are-chains : (system : System) (l : Live) (S : State) (low next t u : ℕ) (e f : Event) (a b : Place) →

@@ -1,6 +1,3 @@
-pub mod Chains
-pub mod Alike
-pub mod EqualRuns
-pub mod InLanes
-pub mod OneState
-pub mod EqualRaces
+pub mod public
+mod Alike
+mod InLanes

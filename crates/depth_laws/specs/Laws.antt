@@ -1,5 +1,5 @@
--- The laws of what is drawn of a run: a depth is the length of the longest chain of causes, a lane is a chain, and equal runs have the
--- same depths, followers, races, lines and ready events.
+-- The laws of what is drawn of a run: a depth is the length of the longest chain of causes, a lane is a chain, and
+-- equal runs have the same depths, followers, races, lines and ready events.
 use Rattle.std.specs.Prelude.{◌≡◌, ℕ, zero, suc, ◌<◌, ◌≤◌, List, Some, slice_get, slice_index}
 use Rattle.syntax.specs.Lists.{In}
 use Rattle.system.specs.declared.system.System.{System}
@@ -32,7 +32,8 @@ abbrev pub DepthIsLongest : Type 0
 DepthIsLongest =
     (l : Live) (depths : List ℕ) (i u : ℕ) → AreDepths l depths → StandsAt l u i → IsLongest l u (slice_index depths i)
 
--- the events of the one run in the system, those of the other are a respecting order of them, and both stand in order of tickets
+-- the events of the one run in the system, those of the other are a respecting order of them, and both stand in order
+-- of tickets
 pub record AreEqualRuns (system : System) (l m : Live) : Type 0 where
   pub state : State
   pub runs : Run (opening system) (events l) state
@@ -61,9 +62,12 @@ DepthsAgree =
 -- in equal runs the same orders are made by a variable alone, and by the same one
 abbrev pub RacesAgree : Type 0
 RacesAgree =
-    (system : System) (l m : Live) (races others : List Race) (r : Race) (i j t u v w : ℕ) (e f : Event) → AreEqualRuns system l m →
-    AreRaces l races → AreRaces m others → In r races → slice_get l r.cause ≡ Some (t, e) → slice_get l r.event ≡ Some (u, f) →
-    slice_get m i ≡ Some (v, e) → slice_get m j ≡ Some (w, f) → In (record { cause = i; event = j; variable = r.variable }) others
+    (system : System) (l m : Live) (races others : List Race) (r : Race) (i j t u v w : ℕ) (e f : Event) →
+    AreEqualRuns system l m →
+    AreRaces l races → AreRaces m others → In r races → slice_get l r.cause ≡ Some (t, e) →
+    slice_get l r.event ≡ Some (u, f) →
+    slice_get m i ≡ Some (v, e) → slice_get m j ≡ Some (w, f) →
+    In (record { cause = i; event = j; variable = r.variable }) others
 
 -- in equal runs the same events can be taken next, in the same order
 abbrev pub ReadyAgree : Type 0

@@ -1,6 +1,6 @@
-//! The laws of what is drawn of a run, by rows and columns: each depth is the length of the longest chain of causes, each lane is a chain,
-//! and runs that differ only in the order of independent steps have the same depths, followers, races, lines and ready events. The
-//! functions do nothing, their contracts say it.
+//! The laws of what is drawn of a run, by rows and columns: each depth is the length of the longest chain of causes,
+//! each lane is a chain, and runs that differ only in the order of independent steps have the same depths, followers,
+//! races, lines and ready events. The functions do nothing, their contracts say it.
 #![tactic(auto)]
 
 ghost use Rattle.depth_laws.specs.Laws.{DepthIsLongest, DepthsAgree, FollowersAgree, LanesAreChains, LinesAgree, RacesAgree, ReadyAgree};

@@ -1,5 +1,5 @@
-//! What only the source tells of a description: which calls make what stands in the system, on which line a variable or a channel
-//! is declared, and which numbers the elements of enumerations are.
+//! What only the source tells of a description: which calls make what stands in the system, on which line a variable or
+//! a channel is declared, and which numbers the elements of enumerations are.
 //!
 //! The answers are tested and not proved.
 #![tactic(auto)]
@@ -7,7 +7,7 @@
 mod call;
 mod enumeration;
 mod lines;
-mod visiting;
+mod visit;
 mod walk;
 
 pub use call::CallEntry;
@@ -48,8 +48,8 @@ impl Described {
     }
 }
 
-/// What is told of the description in the source, whose procedures these are, and which was made the system. It is an error if there
-/// is no memory.
+/// What is told of the description in the source, whose procedures these are, and which was made the system. It is an
+/// error if there is no memory.
 pub fn describe(
     alloc: Global,
     source: &[u8],

@@ -1,7 +1,7 @@
-// The calls of a description and the variables that they make: a walk through the bodies of procedures, that of a called one where
-// its call stands. So the calls come in the order in which their copies are made.
+// The calls of a description and the variables that they make: a walk through the bodies of procedures, that of a
+// called one where its call stands. So the calls come in the order in which their copies are made.
 use crate::call::CallEntry;
-use crate::visiting::take_visit;
+use crate::visit::take_visit;
 use address::Entry;
 use std::alloc::{AllocError, Global};
 use syntax::Items;

@@ -1,2 +1,2 @@
-pub mod BufferLemmas
-pub mod KnownLemmas
+pub mod public
+mod BufferLemmas

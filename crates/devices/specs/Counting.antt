@@ -1,7 +1,7 @@
 -- Devices that count how often they failed.
 use Rattle.std.specs.Prelude.{ℕ, ◌+◌, ◌%◌, ◌^◌, ◌≡◌, ◌≢◌, ◌⊎◌, ◌++◌, List, Result, Ok, Err}
 use Rattle.devices.specs.declared.counted.Counted.{Counted}
-use Rattle.devices.specs.declared.failing.ReadFault.{ReadFault}
+use Rattle.devices.specs.declared.failure.ReadFault.{ReadFault}
 
 -- the device itself
 abbrev pub device : {D : Type 0} → Counted D → D

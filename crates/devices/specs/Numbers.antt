@@ -1,7 +1,7 @@
 -- The numbers by which programs know why bytes were not read.
 use Rattle.std.specs.Prelude.{ℕ}
-use Rattle.devices.specs.declared.failing.ReadFault.{ReadFault}
-use Rattle.devices.specs.declared.failing.ReadFault.TheVariants.{Memory, Failed}
+use Rattle.devices.specs.declared.failure.ReadFault.{ReadFault}
+use Rattle.devices.specs.declared.failure.ReadFault.TheVariants.{Memory, Failed}
 
 -- why not all bytes of a reader were had
 abbrev pub read_number : ReadFault → ℕ

@@ -8,7 +8,7 @@ ghost use Rattle.std.specs.Io.KnownBytes.{Consumes, Keeps, IsAtEnd, WriteAppends
 ghost use Rattle.std.specs.Io.BufRead.{take_through, ends_with_byte, DropsThrough};
 ghost use Rattle.std.specs.Io.Buffered.{reader_buffer, reader_inner, reader_remaining};
 ghost use Rattle.devices.specs.Counting.{device, failures, patience, one_more, CountsIf, IsNoEnd, after_filling};
-ghost use Rattle.devices.specs.declared.failing.ReadFault.TheVariants.{Memory, Failed};
+ghost use Rattle.devices.specs.declared.failure.ReadFault.TheVariants.{Memory, Failed};
 
 use crate::ReadFault;
 use memchr::memchr;
@@ -18,8 +18,9 @@ use std::io::{BufRead, BufReader, Error, ErrorKind, Read, Write};
 
 /// A reader or a writer, and how often it failed.
 ///
-/// Nothing else changes the count, so that who says that it failed can be held to it. An interrupted read or write is no
-/// failure, but for the writes behind 2^64 - 1 such; a flush is made once. A read that finds no memory is none either.
+/// Nothing else changes the count, so that who says that it failed can be held to it. An interrupted read or write is
+/// no failure, but for the writes behind 2^64 - 1 such; a flush is made once. A read that finds no memory is none
+/// either.
 #[derive(Drop)]
 pub struct Counted<D> {
     device: D,
@@ -76,7 +77,9 @@ impl<D> Counted<D> {
 impl<R: Read> Counted<R> {
     /// Reads all that is left behind what is in `bytes`, and counts whether that failed.
     pub(crate) fn fill(&mut self, bytes: &mut Vec<u8>) -> Result<(), ReadFault>
-        ensures bytes { OnOk result (Consumes (R.remaining (device self.old)) (R.remaining (device self.new)) (appended_bytes bytes.old.items bytes.new.items)) }
+        ensures bytes { OnOk result
+            (Consumes (R.remaining (device self.old)) (R.remaining (device self.new))
+            (appended_bytes bytes.old.items bytes.new.items)) }
         ensures end { OnOk result (IsAtEnd (R.remaining (device self.new))) }
         ensures failures { failures self.new ≡ after_filling result (failures self.old) }
         ensures patience { patience self.new ≡ patience self.old }
@@ -95,15 +98,17 @@ impl<R: Read> Counted<R> {
 }
 
 impl<R: BufRead> Counted<R> {
-    /// Reads behind the next byte 10, or to the end, and answers how many bytes it added to the line, which whoever asks empties first.
-    /// It counts whether that failed; a failure behind a line that is there whole is none.
+    /// Reads behind the next byte 10, or to the end, and answers how many bytes it added to the line, which whoever
+    /// asks empties first. It counts whether that failed; a failure behind a line that is there whole is none.
     pub fn read_through(&mut self, line: &mut Vec<u8>) -> io::Result<usize>
         ensures count { IfOk result (λ n. vec_len line.new ≡ vec_len line.old + n) }
         ensures stops { StopsAt (appended_bytes line.old.items line.new.items) 10 }
-        ensures bytes { OnOk result (IfSome (R.remaining (device self.old)) (λ xs. line.new.items ≡ line.old.items ++ take_through 10 xs)) }
+        ensures bytes { OnOk result
+            (IfSome (R.remaining (device self.old)) (λ xs. line.new.items ≡ line.old.items ++ take_through 10 xs)) }
         ensures rest { OnOk result (DropsThrough (R.remaining (device self.old)) (R.remaining (device self.new)) 10) }
         ensures retried { IfErr result (λ error. error_kind error ≢ ErrorKind.Interrupted) }
-        ensures none_lost { Consumes (R.remaining (device self.old)) (R.remaining (device self.new)) (appended_bytes line.old.items line.new.items) }
+        ensures none_lost { Consumes (R.remaining (device self.old)) (R.remaining (device self.new))
+            (appended_bytes line.old.items line.new.items) }
         ensures counted { MatchResult result (λ _. failures self.new ≡ failures self.old)
             (λ error. CountsIf ((error_kind error ≢ ErrorKind.OutOfMemory) × (ends_with_byte 10 line.new.items ≡ false))
             (failures self.old) (failures self.new)) }
@@ -120,12 +125,15 @@ impl<R: BufRead> Counted<R> {
 }
 
 impl<R: Read> Counted<BufReader<R>> {
-    /// Takes the next line into `line`, in place of what was there, without byte 10 at its end, where the buffer has it whole,
-    /// and tells whether it has. The device is asked for nothing.
+    /// Takes the next line into `line`, in place of what was there, without byte 10 at its end, where the buffer has it
+    /// whole, and tells whether it has. The device is asked for nothing.
     pub fn take_line(&mut self, line: &mut Vec<u8>) -> Result<bool, AllocError>
         ensures taken { IfOk result (λ is_whole. MatchBool is_whole
-            (All IsNoEnd line.new.items × Consumes (reader_remaining R.remaining (device self.old)) (reader_remaining R.remaining (device self.new)) (line.new.items ++ 10 ∷ [])
-            × (reader_buffer (device self.old) ≡ line.new.items ++ 10 ∷ reader_buffer (device self.new)) × (reader_inner (device self.new) ≡ reader_inner (device self.old)))
+            (All IsNoEnd line.new.items
+            × Consumes (reader_remaining R.remaining (device self.old))
+            (reader_remaining R.remaining (device self.new)) (line.new.items ++ 10 ∷ [])
+            × (reader_buffer (device self.old) ≡ line.new.items ++ 10 ∷ reader_buffer (device self.new))
+            × (reader_inner (device self.new) ≡ reader_inner (device self.old)))
             (All IsNoEnd (reader_buffer (device self.old)) × (self.new ≡ self.old))) }
         ensures memory { OnErr result (self.new ≡ self.old) }
         ensures failures { failures self.new ≡ failures self.old }
@@ -166,7 +174,8 @@ impl<W: Write> Write for Counted<W> {
 
     fn flush(&mut self) -> io::Result<()>
         ensures bytes { Keeps (W.contents (device self.old)) (W.contents (device self.new)) }
-        ensures counted { MatchResult result (λ _. failures self.new ≡ failures self.old) (λ _. failures self.new ≡ one_more (failures self.old)) }
+        ensures counted { MatchResult result (λ _. failures self.new ≡ failures self.old)
+            (λ _. failures self.new ≡ one_more (failures self.old)) }
     {
         let flushed = self.device.flush();
         if flushed.is_err() {

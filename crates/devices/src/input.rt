@@ -8,7 +8,8 @@ use std::io::Read;
 
 /// All bytes that the reader has left. At a fault some of them were taken.
 pub fn read_all<R: Read>(alloc: Global, reader: &mut Counted<R>) -> Result<Vec<u8>, ReadFault>
-    ensures bytes { IfOk result (λ bytes. Consumes (R.remaining (device reader.old)) (R.remaining (device reader.new)) bytes.items) }
+    ensures bytes { IfOk result (λ bytes.
+        Consumes (R.remaining (device reader.old)) (R.remaining (device reader.new)) bytes.items) }
     ensures end { IfOk result (λ _. IsAtEnd (R.remaining (device reader.new))) }
     ensures failures { failures reader.new ≡ after_filling result (failures reader.old) }
     ensures patience { patience reader.new ≡ patience reader.old }

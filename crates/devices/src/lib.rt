@@ -2,11 +2,11 @@
 #![tactic(auto)]
 
 mod counted;
-mod failing;
+mod failure;
 mod input;
 mod output;
 
 pub use counted::{Counted, ends_line};
-pub use failing::{ReadFault, WriteFailed};
+pub use failure::{ReadFault, WriteFailed};
 pub use input::read_all;
 pub use output::write_out;

@@ -25,10 +25,12 @@ pub fn write_out<W: Write>(writer: &mut Counted<W>, bytes: &[u8]) -> Result<(), 
 fn write_some<W: Write>(writer: &mut Counted<W>, bytes: &[u8]) -> Result<usize, WriteFailed>
     requires { bytes.now ≢ [] }
     ensures bytes { MatchResult result
-        (λ count. (count ≤ length bytes.now) × Appends (W.contents (device writer.old)) (W.contents (device writer.new)) (take count bytes.now))
+        (λ count. (count ≤ length bytes.now)
+        × Appends (W.contents (device writer.old)) (W.contents (device writer.new)) (take count bytes.now))
         (λ _. Keeps (W.contents (device writer.old)) (W.contents (device writer.new))) }
     ensures failures { failures writer.new ≡ after_failing result (failures writer.old) }
-    ensures less { IfOk result (λ count. patience writer.new + (length bytes.now - count) < patience writer.old + length bytes.now) }
+    ensures less { IfOk result (λ count.
+        patience writer.new + (length bytes.now - count) < patience writer.old + length bytes.now) }
 {
     match writer.write(bytes) {
         Ok(count) => taken(count),

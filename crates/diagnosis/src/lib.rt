@@ -1,7 +1,7 @@
 //! What people are told of a fault: where it is, the line with a mark under it, what is wrong and what helps.
 //!
-//! A fault is a number and what stands behind it, as the fault line has them. The texts are tested and not proved; the lines
-//! and columns are those of `source_places`.
+//! A fault is a number and what stands behind it, as the fault line has them. The texts are tested and not proved; the
+//! lines and columns are those of `source_places`.
 #![tactic(auto)]
 
 mod described;
@@ -23,8 +23,8 @@ pub use findings::Input;
 use std::alloc::{AllocError, Global};
 pub use told::{Inputs, Unread, UnreadFile};
 
-/// What is told of a fault behind its line: nothing, or lines that each have their end. `number` and `field` are those of
-/// the fault. Where the text in which it is is not at hand, the page of the refusal alone is named.
+/// What is told of a fault behind its line: nothing, or lines that each have their end. `number` and `field` are those
+/// of the fault. Where the text in which it is is not at hand, the page of the refusal alone is named.
 pub fn explain(
     alloc: Global,
     number: u32,

@@ -1,4 +1,5 @@
-// Names of variables as the lines of a script have them: those of called procedures stand behind the numbers of the calls.
+// Names of variables as the lines of a script have them: those of called procedures stand behind the numbers of the
+// calls.
 use crate::described::described_by;
 use findings::{Finding, Nearest, text_of};
 use name_faults::kind_text;
@@ -107,7 +108,8 @@ fn known_in(
     Ok(Known { names })
 }
 
-/// The names of the variables of a system that end with a name: those of its last procedure, and of those that it calls.
+/// The names of the variables of a system that end with a name: those of its last procedure, and of those that it
+/// calls.
 fn names_with(
     alloc: Global,
     source: &[u8],

@@ -1,5 +1,5 @@
-//! A session of an editor over a reader and a writer: what a program needs of the debug adapter, apart from the contracts of `dap`, so
-//! that who serves other commands too need not load them.
+//! A session of an editor over a reader and a writer: what a program needs of the debug adapter, apart from the
+//! contracts of `dap`, so that who serves other commands too need not load them.
 #![tactic(auto)]
 
 use dap::{Fault, Sources};

@@ -1,8 +1,8 @@
 -- What is made of a call, gone along call by call.
 use Rattle.std.proofs.Common.{◌≡◌, ℕ, zero, suc, ◌+◌, ◌<◌, ◌≤◌, List, [], ◌∷◌, ◌++◌, length, get_or, take, refl, ap, sym, ◌∙◌, arith, rules, length-append}
-use Rattle.elaborate.specs.walking.Instances.{entrance_of}
-use Rattle.elaborate.specs.walking.Making.{locals_onto, instance_of, entered}
-use Rattle.elaborate.specs.walking.Makers.{WithMade, Maker, ProcedureMaker, command, next_call, after_call, missing, called, action_maker, arm_maker, command_maker, guarded_maker, labelled_maker, maker_of, procedure_maker, makers_onto, makers}
+use Rattle.elaborate.specs.internal.Instances.{entrance_of}
+use Rattle.elaborate.specs.internal.Making.{locals_onto, instance_of, entered}
+use Rattle.elaborate.specs.internal.Makers.{WithMade, Maker, ProcedureMaker, command, next_call, after_call, missing, called, action_maker, arm_maker, command_maker, guarded_maker, labelled_maker, maker_of, procedure_maker, makers_onto, makers}
 use Rattle.elaborate.specs.declared.made.Made.{Made}
 use Rattle.elaborate.specs.declared.instance.Instance.{Instance}
 use Rattle.elaborate.specs.declared.instance.Entrance.{Entrance}

@@ -3,8 +3,8 @@ use Rattle.std.proofs.Common.{◌≡◌, ℕ, suc, ◌+◌, ◌≤◌, List, [],
 use Rattle.std.proofs.lemmas.List.{append-nil}
 use Rattle.elaborate.specs.Copies.{copied, all_copied, kind_of_port, channel_of_port, variable_of, channel_of, variables_among, channels_among, number_behind, numbers_behind}
 use Rattle.elaborate.specs.declared.made.Made.{Made}
-use Rattle.elaborate.specs.walking.Making as making
-use Rattle.elaborate.specs.walking.Making.{Numbered, number_for, with_channel, with_local, locals_onto, ports_onto}
+use Rattle.elaborate.specs.internal.Making as making
+use Rattle.elaborate.specs.internal.Making.{Numbered, number_for, with_channel, with_local, locals_onto, ports_onto}
 use Rattle.syntax.specs.Texts.{Text}
 use Rattle.system.specs.declared.system.Channel.{Channel}
 use Rattle.system.specs.declared.system.Variable.{Variable}

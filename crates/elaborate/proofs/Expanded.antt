@@ -14,14 +14,14 @@ use Rattle.elaborate.specs.declared.count.Size.{Size}
 use Rattle.elaborate.specs.declared.made.Made.{Made}
 use Rattle.elaborate.specs.declared.instance.Instance.{Instance}
 use Rattle.elaborate.specs.declared.instance.Entrance.{Entrance}
-use Rattle.elaborate.specs.walking.Counting as counting
-use Rattle.elaborate.specs.walking.Counting.{whole, procedure_size, sizes_onto}
-use Rattle.elaborate.specs.walking.Instances.{names_of, entrance_of}
-use Rattle.elaborate.specs.walking.Makers as makers
-use Rattle.elaborate.specs.walking.Makers.{WithMade, ProcedureMaker, next_call, after_call, maker_of, procedure_maker, makers_onto}
-use Rattle.elaborate.specs.walking.Making as making
-use Rattle.elaborate.specs.walking.Making.{Numbered, locals_onto, instance_of}
-use Rattle.elaborate.specs.walking.Walked.{walked_branches, root_channels, root_makes, walked_system}
+use Rattle.elaborate.specs.internal.Counting as counting
+use Rattle.elaborate.specs.internal.Counting.{whole, procedure_size, sizes_onto}
+use Rattle.elaborate.specs.internal.Instances.{names_of, entrance_of}
+use Rattle.elaborate.specs.internal.Makers as makers
+use Rattle.elaborate.specs.internal.Makers.{WithMade, ProcedureMaker, next_call, after_call, maker_of, procedure_maker, makers_onto}
+use Rattle.elaborate.specs.internal.Making as making
+use Rattle.elaborate.specs.internal.Making.{Numbered, locals_onto, instance_of}
+use Rattle.elaborate.specs.internal.Walked.{walked_branches, root_channels, root_makes, walked_system}
 use Rattle.elaborate.proofs.CopyLemmas.{made_of, numbered, locals_are, ports_are}
 use Rattle.elaborate.proofs.Factored.{Bodies, all_made, one_made, in_front, factored}
 use Rattle.elaborate.proofs.Counted.{total_of, nodes_of, own_number, more, none_more, same_sized, Matches, counts}

@@ -6,9 +6,9 @@ use Rattle.elaborate.specs.Body.{Call, Part, plain, both, all, if_any, part_of, 
 use Rattle.elaborate.specs.Naming.{Names, channel_use, expression_in}
 use Rattle.elaborate.specs.declared.made.Made.{Made}
 use Rattle.elaborate.specs.declared.instance.Instance.{Instance}
-use Rattle.elaborate.specs.walking.Instances.{names_of, entrance_of}
-use Rattle.elaborate.specs.walking.Makers.{WithMade, Maker, ProcedureMaker, all_onto, last_of, next_call, after_call, called, arms_and_last, action_maker, arm_maker, command_maker, guarded_maker, labelled_maker, maker_of}
-use Rattle.elaborate.specs.walking.BodyParts.{maker_of_arm, maker_of_guarded, maker_of_labelled}
+use Rattle.elaborate.specs.internal.Instances.{names_of, entrance_of}
+use Rattle.elaborate.specs.internal.Makers.{WithMade, Maker, ProcedureMaker, all_onto, last_of, next_call, after_call, called, arms_and_last, action_maker, arm_maker, command_maker, guarded_maker, labelled_maker, maker_of}
+use Rattle.elaborate.specs.internal.BodyParts.{maker_of_arm, maker_of_guarded, maker_of_labelled}
 use Rattle.elaborate.proofs.PartFolds.{PartOnLine, part_of_action, part_of_arm, part_of_guarded, part_of_labelled, With, moved}
 use Rattle.system.specs.declared.command.Action as tree
 use Rattle.system.specs.declared.command.Action.TheViews as action

@@ -1,18 +1,18 @@
-pub mod Weights
-pub mod Sizes
-pub mod Calls
-pub mod PlaceLemmas
-pub mod LookupLemmas
-pub mod MisfitLemmas
-pub mod PartFolds
-pub mod Factored
-pub mod CopyLemmas
-pub mod TreeSizes
-pub mod Counted
-pub mod Expanded
-pub mod NameLemmas
-pub mod RootLemmas
-pub mod PortBranches
-pub mod DistinctNames
-pub mod SystemNodes
-pub mod CallPlaces
+mod Weights
+mod Sizes
+mod Calls
+mod PlaceLemmas
+mod LookupLemmas
+mod MisfitLemmas
+mod PartFolds
+mod Factored
+mod CopyLemmas
+mod TreeSizes
+mod Counted
+mod Expanded
+mod NameLemmas
+mod RootLemmas
+mod PortBranches
+mod DistinctNames
+mod SystemNodes
+mod CallPlaces

@@ -9,4 +9,4 @@ pub mod Elaboration
 pub mod Places
 pub mod SourcePlaces
 pub mod Laws
-pub mod walking
+pub mod internal

@@ -1,8 +1,8 @@
 // The body of a procedure with its calls replaced and its names by numbers.
 ghost use Rattle.std.specs.Prelude.{◌≡◌, [], map, IfOk, OnOk};
 ghost use Rattle.std.specs.Option.{option_map};
-ghost use Rattle.elaborate.specs.walking.Makers as body;
-ghost use Rattle.elaborate.specs.walking.BodyParts.{maker_of_guarded, maker_of_labelled, maker_of_arm};
+ghost use Rattle.elaborate.specs.internal.Makers as body;
+ghost use Rattle.elaborate.specs.internal.BodyParts.{maker_of_guarded, maker_of_labelled, maker_of_arm};
 
 use crate::forms::{
     arbitrate_command, continue_command, halt_command, if_command, loop_command, parallel_command,
@@ -26,7 +26,8 @@ fn command_of(
 ) -> Result<Command, AllocError>
     ensures tree { IfOk result (λ tree.
         tree ≡ (body.maker_of (body.makers earlier.now) command.now instance.now made.old).0) }
-    ensures made { OnOk result (made.new ≡ (body.maker_of (body.makers earlier.now) command.now instance.now made.old).1) }
+    ensures made { OnOk result (made.new
+        ≡ (body.maker_of (body.makers earlier.now) command.now instance.now made.old).1) }
 {
     let line = command.line;
     match command.action.get() {

@@ -2,9 +2,9 @@
 ghost use Rattle.std.specs.Prelude.{◌≡◌, ◌↔◌, IsTrue, map, IfOk, length, List, [], slice_index_or, ◌-◌};
 ghost use Rattle.std.specs.Option.{option_map};
 ghost use Rattle.elaborate.specs.Size.{nothing, IsSmall};
-ghost use Rattle.elaborate.specs.walking.Counting as model;
-ghost use Rattle.elaborate.specs.walking.Limited.{limited};
-ghost use Rattle.elaborate.specs.walking.SizeParts.{size_of_guarded, size_of_labelled, size_of_arm};
+ghost use Rattle.elaborate.specs.internal.Counting as model;
+ghost use Rattle.elaborate.specs.internal.Limited.{limited};
+ghost use Rattle.elaborate.specs.internal.SizeParts.{size_of_guarded, size_of_labelled, size_of_arm};
 
 use std::alloc::{AllocError, Global};
 use typed::{Action, Arm, Command, Expression, Guarded, Labelled, Procedure};

@@ -3,8 +3,8 @@ ghost use Rattle.std.specs.Prelude.{◌≡◌, IfOk};
 ghost use Rattle.std.specs.Option.{option_copied};
 ghost use Rattle.elaborate.specs.Environment as environment;
 ghost use Rattle.elaborate.specs.Fit as fit;
-ghost use Rattle.elaborate.specs.walking.Making.{capped_number};
-ghost use Rattle.elaborate.specs.walking.Walked.{walked_branches};
+ghost use Rattle.elaborate.specs.internal.Making.{capped_number};
+ghost use Rattle.elaborate.specs.internal.Walked.{walked_branches};
 
 use crate::lookups::NamedEntries;
 use crate::made::capped_number;
@@ -24,23 +24,25 @@ pub fn branches(
     ensures { IfOk result (λ made. made ≡ walked_branches entries.now 0 ports.now) }
 {
     let mut branches = Items::with_capacity(alloc, ports.len())?;
-    for (place, port) in ports.iter().enumerate() {
-        branches.push(branch_of(alloc, place, port, entries)?)?;
+    for (position, port) in ports.iter().enumerate() {
+        branches.push(branch_of(alloc, position, port, entries)?)?;
     }
     Ok(branches)
 }
 
-/// What the environment does on the port at this place: what its entry gives, else nothing.
+/// What the environment does on the port at this position: what its entry gives, else nothing.
 fn branch_of(
     alloc: Global,
-    place: usize,
+    position: usize,
     port: &Port,
     entries: &NamedEntries<'_>,
 ) -> Result<Branch, AllocError>
     ensures { IfOk result (λ made.
-        made ≡ environment.branch_on (capped_number place) port.now.kind (fit.entry_named entries.now port.now.name)) }
+        made
+        ≡ environment.branch_on (capped_number position) port.now.kind
+        (fit.entry_named entries.now port.now.name)) }
 {
-    let channel = capped_number(place);
+    let channel = capped_number(position);
     let entry = entries.find(port.name.text());
     match port.kind {
         PortKind::Input(width) => {

@@ -87,7 +87,7 @@ pub fn parallel_command(
 }
 
 impl Instance {
-    ghost use Rattle.elaborate.specs.walking.Instances as instances;
+    ghost use Rattle.elaborate.specs.internal.Instances as instances;
 
     /// A `loop` that ends where the guard is 0.
     #[inline(never)]
@@ -180,7 +180,8 @@ impl Instance {
             ≡ record {
               line = line;
               action =
-                  Action.Send (instances.channel_use self.now channel) width (instances.expression_in self.now value.now);
+                  Action.Send (instances.channel_use self.now channel) width
+                  (instances.expression_in self.now value.now);
             }) }
     {
         let value = self.expression(alloc, value)?;

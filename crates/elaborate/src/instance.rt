@@ -28,26 +28,26 @@ pub struct Entrance {
     pub prefix: Prefix,
 }
 
-/// The number at the place, 0 where there are not so many.
-fn number_at(numbers: &[u32], place: u32) -> u32
-    ensures { result ≡ number_at numbers.now place }
+/// The number at the position, 0 where there are not so many.
+fn number_at(numbers: &[u32], position: u32) -> u32
+    ensures { result ≡ number_at numbers.now position }
 {
-    match numbers.get(place as usize) {
+    match numbers.get(position as usize) {
         Some(number) => *number,
         None => 0,
     }
 }
 
 impl Instance {
-    ghost use Rattle.elaborate.specs.walking.Instances as instances;
+    ghost use Rattle.elaborate.specs.internal.Instances as instances;
 
     /// The channel that a port or local is.
     pub fn channel(&self, binding: Binding) -> u32
         ensures { result ≡ instances.channel_at self.now binding }
     {
         match binding {
-            Binding::Port(place) => number_at(self.ports.as_slice(), place),
-            Binding::Local(place) => number_at(self.locals.as_slice(), place),
+            Binding::Port(position) => number_at(self.ports.as_slice(), position),
+            Binding::Local(position) => number_at(self.locals.as_slice(), position),
         }
     }
 

@@ -13,7 +13,7 @@ use typed::{Port, PortKind};
 #[derive(Drop)]
 pub struct NamedPorts<'a> {
     ports: &'a [Port],
-    places: Places,
+    positions: Places,
 }
 
 impl<'a> Model for NamedPorts<'a> {
@@ -22,11 +22,11 @@ impl<'a> Model for NamedPorts<'a> {
 
     ghost Value = { List Port };
 
-    ghost use Rattle.elaborate.specs.walking.NamePlaces.{places_of};
+    ghost use Rattle.elaborate.specs.internal.NamePositions.{positions_of};
 
     ghost view = { λ named. named.ports.now };
 
-    ghost invariant = { λ named. named.places ≡ places_of (map (λ p. p.name) named.ports.now) };
+    ghost invariant = { λ named. named.positions ≡ positions_of (map (λ p. p.name) named.ports.now) };
 }
 
 impl<'a> NamedPorts<'a> {
@@ -34,29 +34,29 @@ impl<'a> NamedPorts<'a> {
     pub fn new(alloc: Global, ports: &'a [Port]) -> Result<NamedPorts<'a>, AllocError>
         ensures { IfOk result (λ named. named ≡ ports.now) }
     {
-        let mut places = Places::new(alloc);
-        for (place, port) in ports.iter().enumerate() {
-            places.note(alloc, &port.name, place)?;
+        let mut positions = Places::new(alloc);
+        for (position, port) in ports.iter().enumerate() {
+            positions.note(alloc, &port.name, position)?;
         }
-        Ok(NamedPorts { ports, places })
+        Ok(NamedPorts { ports, positions })
     }
 
     /// The kind of the first port of this name.
     pub fn kind(&self, name: &[u8]) -> Option<PortKind>
         ensures { result ≡ fit.kind_named self.now name.now }
     {
-        match self.places.find(name) {
-            Some(place) => kind_at(self.ports, place),
+        match self.positions.find(name) {
+            Some(position) => kind_at(self.ports, position),
             None => None,
         }
     }
 }
 
-/// The kind of the port at this place.
-fn kind_at(ports: &[Port], place: usize) -> Option<PortKind>
-    ensures { result ≡ option_map (λ port. port.kind) (slice_get ports.now place) }
+/// The kind of the port at this position.
+fn kind_at(ports: &[Port], position: usize) -> Option<PortKind>
+    ensures { result ≡ option_map (λ port. port.kind) (slice_get ports.now position) }
 {
-    match ports.get(place) {
+    match ports.get(position) {
         Some(port) => Some(port.kind),
         None => None,
     }
@@ -66,7 +66,7 @@ fn kind_at(ports: &[Port], place: usize) -> Option<PortKind>
 #[derive(Drop)]
 pub struct NamedEntries<'a> {
     entries: &'a [Entry],
-    places: Places,
+    positions: Places,
 }
 
 impl<'a> Model for NamedEntries<'a> {
@@ -75,11 +75,11 @@ impl<'a> Model for NamedEntries<'a> {
 
     ghost Value = { List Entry };
 
-    ghost use Rattle.elaborate.specs.walking.NamePlaces.{places_of};
+    ghost use Rattle.elaborate.specs.internal.NamePositions.{positions_of};
 
     ghost view = { λ named. named.entries.now };
 
-    ghost invariant = { λ named. named.places ≡ places_of (map (λ e. e.name) named.entries.now) };
+    ghost invariant = { λ named. named.positions ≡ positions_of (map (λ e. e.name) named.entries.now) };
 }
 
 impl<'a> NamedEntries<'a> {
@@ -87,11 +87,11 @@ impl<'a> NamedEntries<'a> {
     pub fn new(alloc: Global, entries: &'a [Entry]) -> Result<NamedEntries<'a>, AllocError>
         ensures { IfOk result (λ named. named ≡ entries.now) }
     {
-        let mut places = Places::new(alloc);
-        for (place, entry) in entries.iter().enumerate() {
-            places.note(alloc, &entry.name, place)?;
+        let mut positions = Places::new(alloc);
+        for (position, entry) in entries.iter().enumerate() {
+            positions.note(alloc, &entry.name, position)?;
         }
-        Ok(NamedEntries { entries, places })
+        Ok(NamedEntries { entries, positions })
     }
 
     /// The entries in order.
@@ -105,26 +105,26 @@ impl<'a> NamedEntries<'a> {
     pub fn find(&self, name: &[u8]) -> Option<&Entry>
         ensures { option_copied result ≡ fit.entry_named self.now name.now }
     {
-        match self.places.find(name) {
-            Some(place) => entry_at(self.entries, place),
+        match self.positions.find(name) {
+            Some(position) => entry_at(self.entries, position),
             None => None,
         }
     }
 
-    /// Whether an entry before the one at this place is for the port of this name.
-    pub fn is_named_before(&self, place: usize, name: &[u8]) -> bool
-        ensures { result ≡ is_some (fit.entry_named (take place self.now) name.now) }
+    /// Whether an entry before the one at this position is for the port of this name.
+    pub fn is_named_before(&self, position: usize, name: &[u8]) -> bool
+        ensures { result ≡ is_some (fit.entry_named (take position self.now) name.now) }
     {
-        match self.places.find(name) {
-            Some(first) => first < place,
+        match self.positions.find(name) {
+            Some(first) => first < position,
             None => false,
         }
     }
 }
 
-/// The entry at this place.
-fn entry_at(entries: &[Entry], place: usize) -> Option<&Entry>
-    ensures { option_copied result ≡ slice_get entries.entry.now place }
+/// The entry at this position.
+fn entry_at(entries: &[Entry], position: usize) -> Option<&Entry>
+    ensures { option_copied result ≡ slice_get entries.entry.now position }
 {
-    entries.get(place)
+    entries.get(position)
 }

@@ -1,6 +1,6 @@
 // The variables and channels of a system as they are made.
 ghost use Rattle.std.specs.Prelude.{◌≡◌, [], length, IfOk, OnOk};
-ghost use Rattle.elaborate.specs.walking.Making.{capped_number, kind_of_port};
+ghost use Rattle.elaborate.specs.internal.Making.{capped_number, kind_of_port};
 
 use crate::instance::{Entrance, Instance};
 use std::alloc::{AllocError, Global};
@@ -18,11 +18,11 @@ pub struct Made {
     pub calls: u64,
 }
 
-/// The number that a place gives, or the largest one of 32 bits.
-pub fn capped_number(place: usize) -> u32
-    ensures { result ≡ capped_number place }
+/// The number that a position gives, or the largest one of 32 bits.
+pub fn capped_number(position: usize) -> u32
+    ensures { result ≡ capped_number position }
 {
-    u32::try_from(place).unwrap_or(u32::MAX)
+    u32::try_from(position).unwrap_or(u32::MAX)
 }
 
 /// What passes over a port.
@@ -36,8 +36,8 @@ fn kind_of_port(kind: PortKind) -> ChannelKind
 }
 
 impl Made {
-    ghost use Rattle.elaborate.specs.walking.Making as making;
-    ghost use Rattle.elaborate.specs.walking.Making.{instance_of, entered};
+    ghost use Rattle.elaborate.specs.internal.Making as making;
+    ghost use Rattle.elaborate.specs.internal.Making.{instance_of, entered};
 
     /// Nothing.
     pub fn nothing(alloc: Global) -> Made

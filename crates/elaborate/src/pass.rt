@@ -1,7 +1,7 @@
 ghost use Rattle.std.specs.Prelude.{◌≡◌, ◌⊎◌, ◌↔◌, IsTrue, IfOk, IfErr, OnOk};
 ghost use Rattle.elaborate.specs.Elaboration as model;
 ghost use Rattle.elaborate.specs.Size.{IsSmall};
-ghost use Rattle.elaborate.specs.walking.Walked.{walked_system};
+ghost use Rattle.elaborate.specs.internal.Walked.{walked_system};
 ghost use Rattle.refusals.specs.declared.elaborate.Fault.TheVariants.{Memory};
 
 use crate::body::called_body;

@@ -11,24 +11,25 @@ use value::{Value, Width};
 pub fn misfit(ports: &NamedPorts<'_>, entries: &NamedEntries<'_>) -> Option<u64>
     ensures { result ≡ fit.first_misfit ports.now [] entries.now }
 {
-    for (place, entry) in entries.as_slice().iter().enumerate() {
-        if !entry_fits(ports, entries, place, entry) {
+    for (position, entry) in entries.as_slice().iter().enumerate() {
+        if !entry_fits(ports, entries, position, entry) {
             return Some(entry.line);
         }
     }
     None
 }
 
-/// Whether the entry names a port, of its kind, that holds its values, and no entry before its place is for that port.
+/// Whether the entry names a port, of its kind, that holds its values, and no entry before its position is for that
+/// port.
 fn entry_fits(
     ports: &NamedPorts<'_>,
     entries: &NamedEntries<'_>,
-    place: usize,
+    position: usize,
     entry: &Entry,
 ) -> bool
-    ensures { result ≡ fit.entry_fits ports.now (take place entries.now) entry.now }
+    ensures { result ≡ fit.entry_fits ports.now (take position entries.now) entry.now }
 {
-    port_takes(ports, entry) && !entries.is_named_before(place, entry.name.text())
+    port_takes(ports, entry) && !entries.is_named_before(position, entry.name.text())
 }
 
 /// Whether the entry names a port, of its kind, that holds its values.

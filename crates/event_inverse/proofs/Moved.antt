@@ -8,16 +8,16 @@ use Rattle.runs.specs.declared.ask.Ask.{Ask}
 use Rattle.runs.specs.Asking.{asked}
 use Rattle.runs.specs.Events.{store_after}
 use Rattle.runs.specs.declared.event.Event.{Event}
-use Rattle.runs.proofs.Options.{some-injective}
+use Rattle.runs.proofs.public.Options.{some-injective}
 use Rattle.process_tree.specs.Proc.{Proc}
 use Rattle.process_tree.specs.Advanced.{Moved, advanced}
-use Rattle.process_tree.specs.walking.Retreated.{retreated}
-use Rattle.process_tree.proofs.Back.{back}
-use Rattle.process_tree.proofs.Steps.{is-some}
+use Rattle.process_tree.specs.internal.Retreated.{retreated}
+use Rattle.process_tree.proofs.public.Back.{back}
+use Rattle.process_tree.proofs.public.Steps.{is-some}
 use Rattle.event_inverse.specs.Grown.{TreeAndStore, Taken, all_advanced, after_moves, applied}
-use Rattle.event_inverse.specs.walking.Reverted.{all_retreated, written_back, reverted}
-use Rattle.event_inverse.specs.walking.Moved.{moved, moved_back}
-use Rattle.event_inverse.proofs.Moving.{Walked}
+use Rattle.event_inverse.specs.internal.Reverted.{all_retreated, written_back, reverted}
+use Rattle.event_inverse.specs.internal.Moved.{moved, moved_back}
+use Rattle.event_inverse.proofs.public.Moving.{Walked}
 
 -- a chain whose end is mapped
 then-mapped : {X Y Z : Type 0} (f : Y → Z) (g : X → Option Y) (o : Option X)

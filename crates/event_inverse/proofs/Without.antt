@@ -1,12 +1,12 @@
 -- An event taken back by its record leaves the run without it, and where it was the last, what stood before it.
 use Rattle.std.proofs.Common.{◌≡◌, List, [], ◌∷◌, ◌++◌, length, Some, sym, ap, subst, ◌∙◌, arith}
 use Rattle.runs.specs.declared.event.Event.{Event}
-use Rattle.runs.proofs.Options.{some-injective}
+use Rattle.runs.proofs.public.Options.{some-injective}
 use Rattle.event_inverse.specs.Grown.{TreeAndStore, Taken, StandFor}
 use Rattle.event_inverse.specs.Laws.{UndoneBy, LastUndone}
-use Rattle.event_inverse.specs.walking.Reverted.{reverted}
-use Rattle.event_inverse.proofs.FromOpening.{undone-by-records}
-use Rattle.event_inverse.proofs.Neighbours.{reverts}
+use Rattle.event_inverse.specs.internal.Reverted.{reverted}
+use Rattle.event_inverse.proofs.public.FromOpening.{undone-by-records}
+use Rattle.event_inverse.proofs.public.Neighbours.{reverts}
 
 -- the first of a list, or x
 abbrev first_or : {X : Type 0} → X → List X → X

@@ -12,7 +12,7 @@ use Rattle.runs.specs.Asking.{asked}
 use Rattle.runs.specs.Steps.{State, Run, opening}
 use Rattle.runs.specs.declared.event.Event.{Event}
 use Rattle.process_tree.specs.Proc.{Proc, started}
-use Rattle.process_tree.specs.Left.{left}
+use Rattle.process_tree.specs.Remaining.{remaining}
 use Rattle.process_tree.specs.Translation.{system_code}
 use Rattle.process_tree.specs.Advanced.{advanced}
 
@@ -29,7 +29,7 @@ pub record Taken : Type 0 where
 
 -- the state that the tree stands for
 abbrev pub state_of_tree : TreeAndStore → State
-state_of_tree T = record { residual = left [] T.proc; store = T.store }
+state_of_tree T = record { residual = remaining [] T.proc; store = T.store }
 
 -- the tree of a system before its first event
 abbrev pub opening_tree : System → TreeAndStore

@@ -7,7 +7,7 @@ use Rattle.runs.specs.Steps.{State, Step, Allowed, Run, opening}
 use Rattle.runs.specs.declared.event.Event.{Event}
 use Rattle.process_tree.specs.Tidy.{Tidy}
 use Rattle.event_inverse.specs.Grown.{TreeAndStore, Taken, state_of_tree, opening_tree, applied, Records, StandFor}
-use Rattle.event_inverse.specs.walking.Reverted.{reverted}
+use Rattle.event_inverse.specs.internal.Reverted.{reverted}
 
 -- the tree of a system opens in the state in which the system opens
 abbrev pub TreesOpenAlike : Type 0

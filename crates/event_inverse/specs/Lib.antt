@@ -1,4 +1,4 @@
 pub mod Grown
 pub mod Laws
 pub mod View
-pub mod walking
+pub mod internal

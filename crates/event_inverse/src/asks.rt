@@ -2,7 +2,7 @@
 ghost use Rattle.std.specs.Prelude.{◌≡◌};
 ghost use Rattle.std.specs.Option.{option_and_then};
 ghost use Rattle.runs.specs.Asking.{asked};
-ghost use Rattle.event_inverse.specs.walking.Moved.{placed};
+ghost use Rattle.event_inverse.specs.internal.Moved.{placed};
 
 use runs::{Ask, Event, Kind};
 

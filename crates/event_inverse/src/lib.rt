@@ -1,15 +1,15 @@
 //! Events made on the tree and the store with records, and taken back by them.
 #![tactic(auto)]
 
-mod applying;
 mod asks;
-mod inverting;
+mod backward;
+mod forward;
 mod laws;
 mod moves;
 mod record;
 
-pub use applying::apply;
-pub use inverting::{invert, invert_by};
+pub use backward::{invert, invert_by};
+pub use forward::apply;
 pub use laws::{
     neighbours_keep_records, orders_have_one_tree, records_revert, runs_have_trees,
     steps_are_applied, undone_by_records,

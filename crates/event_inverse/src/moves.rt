@@ -2,21 +2,21 @@
 ghost use Rattle.std.specs.Prelude.{◌≡◌, [], ◌∷◌, Some, IsSome, IfOk, OnErr};
 ghost use Rattle.process_tree.specs.View.{out_view, tree_view};
 ghost use Rattle.event_inverse.specs.Grown.{all_advanced};
-ghost use Rattle.event_inverse.specs.View.{outs_view};
-ghost use Rattle.event_inverse.specs.walking.Moved.{moved, moved_back, both_back};
+ghost use Rattle.event_inverse.specs.View.{removed_view};
+ghost use Rattle.event_inverse.specs.internal.Moved.{moved, moved_back, both_back};
 
 use crate::asks::{Asks, asks_of};
-use crate::record::Outs;
+use crate::record::Removed;
 use address::Entry;
 use process_tree::{Proc, Tree};
 use runs::{Ask, Event};
 use std::alloc::{AllocError, Global};
 
 /// Makes the moves that the event asks for. Without memory none is made.
-pub(crate) fn make(alloc: Global, tree: &mut Tree, event: &Event) -> Result<Outs, AllocError>
+pub(crate) fn make(alloc: Global, tree: &mut Tree, event: &Event) -> Result<Removed, AllocError>
     requires { IsSome (moved (tree_view tree.old) event.now) }
-    ensures made { IfOk result (λ outs.
-        moved (tree_view tree.old) event.now ≡ Some (tree_view tree.new, outs_view outs)) }
+    ensures made { IfOk result (λ removed.
+        moved (tree_view tree.old) event.now ≡ Some (tree_view tree.new, removed_view removed)) }
     ensures without_memory { OnErr result (tree_view tree.new ≡ tree_view tree.old) }
 {
     match asks_of(event) {
@@ -37,14 +37,19 @@ pub(crate) fn make(alloc: Global, tree: &mut Tree, event: &Event) -> Result<Outs
 }
 
 /// Makes the move that is asked for at the place.
-fn make_one(alloc: Global, tree: &mut Tree, place: &[Entry], ask: Ask) -> Result<Outs, AllocError>
+fn make_one(
+    alloc: Global,
+    tree: &mut Tree,
+    place: &[Entry],
+    ask: Ask,
+) -> Result<Removed, AllocError>
     requires { IsSome (all_advanced (tree_view tree.old) ((place.now, ask) ∷ [])) }
-    ensures made { IfOk result (λ outs.
-        all_advanced (tree_view tree.old) ((place.now, ask) ∷ []) ≡ Some (tree_view tree.new, outs_view outs)) }
+    ensures made { IfOk result (λ removed.
+        all_advanced (tree_view tree.old) ((place.now, ask) ∷ []) ≡ Some (tree_view tree.new, removed_view removed)) }
     ensures without_memory { OnErr result (tree_view tree.new ≡ tree_view tree.old) }
 {
     match tree.advance(alloc, place, ask) {
-        Ok(out) => Ok(Outs::One(out)),
+        Ok(out) => Ok(Removed::One(out)),
         Err(error) => Err(error),
     }
 }
@@ -57,16 +62,16 @@ fn make_two(
     first_ask: Ask,
     second: &[Entry],
     second_ask: Ask,
-) -> Result<Outs, AllocError>
+) -> Result<Removed, AllocError>
     requires { IsSome (all_advanced (tree_view tree.old) ((first.now, first_ask) ∷ (second.now, second_ask) ∷ [])) }
-    ensures made { IfOk result (λ outs.
+    ensures made { IfOk result (λ removed.
         all_advanced (tree_view tree.old) ((first.now, first_ask) ∷ (second.now, second_ask) ∷ [])
-        ≡ Some (tree_view tree.new, outs_view outs)) }
+        ≡ Some (tree_view tree.new, removed_view removed)) }
     ensures without_memory { OnErr result (tree_view tree.new ≡ tree_view tree.old) }
 {
     match tree.advance(alloc, first, first_ask) {
         Ok(out) => match tree.advance(alloc, second, second_ask) {
-            Ok(other) => Ok(Outs::Two(out, other)),
+            Ok(other) => Ok(Removed::Two(out, other)),
             Err(error) => {
                 tree.retreat(first, out);
                 Err(error)
@@ -77,14 +82,14 @@ fn make_two(
 }
 
 /// Takes the moves of the event back, the last first, and puts what they took out where it was.
-pub(crate) fn take_back(tree: &mut Tree, event: &Event, outs: Outs)
-    requires { IsSome (moved_back (tree_view tree.old) event.now (outs_view outs)) }
-    ensures { moved_back (tree_view tree.old) event.now (outs_view outs) ≡ Some (tree_view tree.new) }
+pub(crate) fn take_back(tree: &mut Tree, event: &Event, removed: Removed)
+    requires { IsSome (moved_back (tree_view tree.old) event.now (removed_view removed)) }
+    ensures { moved_back (tree_view tree.old) event.now (removed_view removed) ≡ Some (tree_view tree.new) }
 {
     let first = event.first.entries();
-    match (asks_of(event), outs) {
-        (Some(Asks::Alone(_)), Outs::One(out)) => tree.retreat(first, out),
-        (Some(Asks::Together(_, _)), Outs::Two(out, other)) => match &event.second {
+    match (asks_of(event), removed) {
+        (Some(Asks::Alone(_)), Removed::One(out)) => tree.retreat(first, out),
+        (Some(Asks::Together(_, _)), Removed::Two(out, other)) => match &event.second {
             Some(second) => take_two_back(tree, first, out, second.entries(), other),
             None => unreachable!(),
         },

@@ -4,7 +4,7 @@ use value::Value;
 
 /// What the moves of an event took out of the tree, in their order.
 #[derive(Drop)]
-pub(crate) enum Outs {
+pub(crate) enum Removed {
     One(Option<Box<Proc>>),
     Two(Option<Box<Proc>>, Option<Box<Proc>>),
 }
@@ -12,7 +12,7 @@ pub(crate) enum Outs {
 /// What the undo of an event needs beside the event. What it stands for is what the event left (`inverse_view`).
 #[derive(Drop)]
 pub struct Inverse {
-    pub(crate) outs: Outs,
+    pub(crate) removed: Removed,
     /// the value that stood in the variable that the event wrote, if it wrote one
     pub(crate) overwritten: Option<Value>,
 }

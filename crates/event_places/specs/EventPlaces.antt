@@ -1,7 +1,7 @@
 -- Where events act in the source: the line of a place after events, and whether a `select` opens there.
 --
--- The arms of a choice all stand at p.1. The one that stands there is the one that the test or the open at p.0 took, and no
--- two events of a run have one acting address.
+-- The arms of a choice all stand at p.1. The one that stands there is the one that the test or the open at p.0 took,
+-- and no two events of a run have one acting address.
 use Rattle.std.specs.Prelude.{ℕ, List, [], ◌∷◌, Bool, Option, None, if◌then◌else◌}
 use Rattle.system.specs.declared.system.System.{System}
 use Rattle.last_events.specs.LastEvents.{first_child}

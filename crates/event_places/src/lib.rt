@@ -1,5 +1,5 @@
-//! Where the events of an execution act in the source: the line of a place after the live events, and whether a `select`
-//! opens there.
+//! Where the events of an execution act in the source: the line of a place after the live events, and whether a
+//! `select` opens there.
 #![tactic(auto)]
 
 mod laws;

@@ -35,9 +35,9 @@ fn arm_taken(live: &Live, choice: &[Entry]) -> Option<u32>
     }
 }
 
-/// The line, from 1, of the command that has this place after the live events: of the arms of a choice, which have the same
-/// places, the one that a live event took. None for a place of the environment, and for an address that is no place of a
-/// command in any arm that was taken. It takes as long as to look for a place at each choice on the way.
+/// The line, from 1, of the command that has this place after the live events: of the arms of a choice, which have the
+/// same places, the one that a live event took. None for a place of the environment, and for an address that is no
+/// place of a command in any arm that was taken. It takes as long as to look for a place at each choice on the way.
 pub fn line_after(system: &Checked, live: &Live, place: &Address) -> Option<u64>
     ensures { result ≡ model.line_after (events live.now.live) system.now place.now }
 {

@@ -1,4 +1,5 @@
--- How what is told of a fault begins: with the name of the text, the line and the column of the fault, and what is wrong.
+-- How what is told of a fault begins: with the name of the text, the line and the column of the fault, and what is
+-- wrong.
 use Rattle.std.specs.Prelude.{◌≡◌, ℕ, ◌+◌, List, [], ◌∷◌, ◌++◌, codes, decimal}
 use Rattle.source_places.specs.Places.{BeginsLine, characters, ends_before, within}
 

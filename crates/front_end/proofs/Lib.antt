@@ -1,2 +1,2 @@
-pub mod AcceptLemmas
-pub mod MakingLemmas
+mod AcceptLemmas
+mod MakingLemmas

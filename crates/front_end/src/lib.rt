@@ -2,9 +2,9 @@
 //! first that refuses them.
 #![tactic(auto)]
 
-mod accepting;
+mod acceptance;
 mod fault;
-mod making;
+mod make;
 
-pub use accepting::accept;
+pub use acceptance::accept;
 pub use fault::Fault;

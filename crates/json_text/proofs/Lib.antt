@@ -1,3 +1,3 @@
-pub mod Plain
-pub mod Growing
-pub mod ReadBack
+pub mod public
+mod Plain
+mod ReadBack

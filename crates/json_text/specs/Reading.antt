@@ -36,7 +36,8 @@ pub record ArePair (high low c : ℕ) : Type 0 where
 pub data BeginsWith (text : List ℕ) (c : ℕ) (rest : List ℕ) : Type 0 where
   itself : text ≡ c ∷ rest → c ≢ 34 → c ≢ 92 → BeginsWith text c rest
   one : IsWhole c → BeginsWithUnit text c rest → BeginsWith text c rest
-  two : (high low : ℕ) (middle : List ℕ) → BeginsWithUnit text high middle → BeginsWithUnit middle low rest → ArePair high low c →
+  two : (high low : ℕ) (middle : List ℕ) → BeginsWithUnit text high middle → BeginsWithUnit middle low rest →
+      ArePair high low c →
       BeginsWith text c rest
 
 -- up to the mark that ends a string the text is read as these characters

@@ -21,7 +21,9 @@ pair n = unit (55296 + n / 1024) ++ unit (56320 + n % 1024)
 
 -- a character that stands for itself: printable ASCII but `"`, `<` and `\`
 abbrev pub is_literal : ℕ → Bool
-is_literal c = nat_le 32 c && (nat_lt c 127 && (cond (c == 34) false true && (cond (c == 60) false true && cond (c == 92) false true)))
+is_literal c =
+    nat_le 32 c
+    && (nat_lt c 127 && (cond (c == 34) false true && (cond (c == 60) false true && cond (c == 92) false true)))
 
 -- a character as it stands in a string
 abbrev pub character_text : ℕ → List ℕ

@@ -1,4 +1,5 @@
-//! JSON texts that may stand in the script of a page: printable ASCII alone, and no `<` at all, so that no text ends the script.
+//! JSON texts that may stand in the script of a page: printable ASCII alone, and no `<` at all, so that no text ends
+//! the script.
 //!
 //! Bytes that are no UTF-8 are written as U+FFFD, one for each piece.
 #![tactic(auto)]

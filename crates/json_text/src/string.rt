@@ -7,8 +7,8 @@ ghost use Rattle.json_text.specs.Strings.{StringsArePlain, character_text, escap
 use bstr::ByteSlice;
 use std::alloc::AllocError;
 
-/// Adds the string of JSON that stands for the text. A byte sequence that is no UTF-8 stands for U+FFFD, a piece each. Without memory
-/// a part of it may be there.
+/// Adds the string of JSON that stands for the text. A byte sequence that is no UTF-8 stands for U+FFFD, a piece each.
+/// Without memory a part of it may be there.
 pub fn add_string(out: &mut Vec<u8>, text: &[u8]) -> Result<(), AllocError>
     ensures { OnOk result (out.new.items ≡ out.old.items ++ json_string (lossy_chars text.now)) }
 {

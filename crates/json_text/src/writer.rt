@@ -13,8 +13,8 @@ use std::marker::Model;
 
 /// A JSON text as it grows, value by value. Each byte of it is printable ASCII, and none is `<`.
 ///
-/// Lists and objects are opened and closed; a comma is put before each further value by itself. Whoever opens is to close. Where a call
-/// is refused for want of memory, a part of what it adds may be there.
+/// Lists and objects are opened and closed; a comma is put before each further value by itself. Whoever opens is to
+/// close. Where a call is refused for want of memory, a part of what it adds may be there.
 #[derive(Drop)]
 pub struct Json {
     bytes: Vec<u8>,
@@ -64,7 +64,8 @@ impl Json {
 
     /// Begins a value: a comma where another stands before it.
     fn separate(&mut self) -> Result<(), AllocError>
-        ensures { OnOk result (self.new ≡ record { text = self.old.text ++ model.comma self.old.first; first = false }) }
+        ensures { OnOk result (self.new
+            ≡ record { text = self.old.text ++ model.comma self.old.first; first = false }) }
     {
         if self.first {
             self.first = false;

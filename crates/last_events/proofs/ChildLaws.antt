@@ -5,14 +5,14 @@ use Rattle.std.specs.Ordering.{nat_cmp, ordering_then}
 use Rattle.address.specs.declared.Entry.{Entry}
 use Rattle.address.specs.declared.Entry.TheVariants.{Ordered, Branch}
 use Rattle.address.specs.Order.{entry_order, order_of}
-use Rattle.address.specs.walking.OrderLaws.{less-not-equal, greater-not-less, greater-not-equal}
-use Rattle.address.proofs.Total.{order-itself, order-ties, order-transitive}
+use Rattle.address.specs.internal.OrderLaws.{less-not-equal, greater-not-less, greater-not-equal}
+use Rattle.address.proofs.public.Total.{order-itself, order-ties, order-transitive}
 use Rattle.syntax.specs.Lists.{In}
 use Rattle.last_events.specs.LastEvents.{ticket_at, first_child}
 use Rattle.last_events.specs.declared.branch.Seat.{Seat}
 use Rattle.last_events.specs.declared.branch.Seat.TheVariants.{Event, Inner}
-use Rattle.last_events.specs.walking.Search.{Splits}
-use Rattle.last_events.specs.walking.Seats.{Places, way_of, AllOrdered, EndsAtBranch, seat_way, seat_places, flat, HasSeat, IsSound, IsBranch}
+use Rattle.last_events.specs.internal.Search.{Splits}
+use Rattle.last_events.specs.internal.Seats.{Places, way_of, AllOrdered, EndsAtBranch, seat_way, seat_places, flat, HasSeat, IsSound, IsBranch}
 use Rattle.last_events.proofs.ForkLaws.{number-less}
 use Rattle.last_events.proofs.LastLaws.{look-middle}
 use Rattle.last_events.proofs.ListLaws.{every-in, map-in-drop, at-within, get-at, split-at}

@@ -6,11 +6,11 @@ use Rattle.syntax.specs.Lists.{In}
 use Rattle.last_events.specs.LastEvents.{PutAt, Orderly}
 use Rattle.last_events.specs.declared.branch.Seat.{Seat}
 use Rattle.last_events.specs.declared.branch.Seat.TheVariants.{Event, Inner}
-use Rattle.last_events.specs.walking.Depths.{entries-append, entries-inner}
-use Rattle.last_events.specs.walking.Search.{Splits}
-use Rattle.last_events.specs.walking.Seats.{Places, way_of, rest_of, ordered_of, AllOrdered, EndsAtBranch, IsWay, behind_way, seat_way, seat_places, flat, HasSeat, IsSound, IsBranch, IsMadeOf}
-use Rattle.last_events.specs.walking.Sizes.{entries_of}
-use Rattle.last_events.specs.walking.Walks.{Related, AddedLast, AddedInner, AddedFrom, IsGroup, IsNearer}
+use Rattle.last_events.specs.internal.Depths.{entries-append, entries-inner}
+use Rattle.last_events.specs.internal.Search.{Splits}
+use Rattle.last_events.specs.internal.Seats.{Places, way_of, rest_of, ordered_of, AllOrdered, EndsAtBranch, IsWay, behind_way, seat_way, seat_places, flat, HasSeat, IsSound, IsBranch, IsMadeOf}
+use Rattle.last_events.specs.internal.Sizes.{entries_of}
+use Rattle.last_events.specs.internal.Walks.{Related, AddedLast, AddedInner, AddedFrom, IsGroup, IsNearer}
 use Rattle.last_events.proofs.LastLaws.{absent-inner, branch-taken, each-next, near-group, from-lesser, from-seat}
 use Rattle.last_events.proofs.ListLaws.{whole, get-at}
 use Rattle.last_events.proofs.SearchLaws.{length-places, in-at, some-is, none-some}

@@ -5,13 +5,13 @@ use Rattle.std.proofs.lemmas.Cmp.{nat_cmp_total, tied_itself, ranked}
 use Rattle.address.specs.declared.Entry.{Entry}
 use Rattle.address.specs.declared.Entry.TheVariants.{Ordered, Branch}
 use Rattle.address.specs.Order.{entry_order, order_of}
-use Rattle.address.specs.walking.OrderLaws.{less-not-equal, greater-not-equal, greater-not-less}
-use Rattle.address.specs.walking.Common.{FirstsDiffer}
+use Rattle.address.specs.internal.OrderLaws.{less-not-equal, greater-not-equal, greater-not-less}
+use Rattle.address.specs.internal.Common.{FirstsDiffer}
 use Rattle.address.specs.contracts.EntryOrd.TheImpl.{cmp-value}
 use Rattle.address.specs.contracts.EntryPartialEq.TheImpl.{eq-value}
-use Rattle.address.proofs.Entries.{entry_eq-Decides}
-use Rattle.address.proofs.Places.{head-injective, tail-injective}
-use Rattle.last_events.specs.walking.Forks.{IsFork, Shares}
+use Rattle.address.proofs.public.Entries.{entry_eq-Decides}
+use Rattle.address.proofs.public.Places.{head-injective, tail-injective}
+use Rattle.last_events.specs.internal.Forks.{IsFork, Shares}
 
 -- ---- the order, entry by entry
 pub number-less : (i j : ℕ) → nat_cmp i j ≡ Less → i < j

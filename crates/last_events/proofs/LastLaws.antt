@@ -6,16 +6,16 @@ use Rattle.address.specs.declared.Entry.{Entry}
 use Rattle.address.specs.declared.Entry.TheVariants.{Ordered, Branch}
 use Rattle.address.specs.Places.{Before}
 use Rattle.address.specs.Order.{order_of}
-use Rattle.address.specs.walking.OrderLaws.{less-not-equal, greater-not-less}
-use Rattle.address.proofs.Places.{before-end, before-transitive, before-left, apart-left, before-irreflexive, tail-injective, ordered-injective, nil-not-cons}
-use Rattle.address.proofs.Total.{order-itself}
+use Rattle.address.specs.internal.OrderLaws.{less-not-equal, greater-not-less}
+use Rattle.address.proofs.public.Places.{before-end, before-transitive, before-left, apart-left, before-irreflexive, tail-injective, ordered-injective, nil-not-cons}
+use Rattle.address.proofs.public.Total.{order-itself}
 use Rattle.syntax.specs.Lists.{In, Every}
 use Rattle.last_events.specs.LastEvents.{IsAt, ticket_at, OneTree, Orderly, LastBefore}
 use Rattle.last_events.specs.declared.branch.Seat.{Seat}
 use Rattle.last_events.specs.declared.branch.Seat.TheVariants.{Event, Inner}
-use Rattle.last_events.specs.walking.Search.{Splits}
-use Rattle.last_events.specs.walking.Seats.{Places, way_of, rest_of, ordered_of, EndsAtBranch, behind_way, seat_way, seat_places, flat, HasSeat, IsSound, IsBranch, FitsBehind}
-use Rattle.last_events.specs.walking.Walks.{Related, Covered, AddedLast, AddedBefore, AddedInner, AddedLesser, AddedFrom, IsGroup, IsNearer}
+use Rattle.last_events.specs.internal.Search.{Splits}
+use Rattle.last_events.specs.internal.Seats.{Places, way_of, rest_of, ordered_of, EndsAtBranch, behind_way, seat_way, seat_places, flat, HasSeat, IsSound, IsBranch, FitsBehind}
+use Rattle.last_events.specs.internal.Walks.{Related, Covered, AddedLast, AddedBefore, AddedInner, AddedLesser, AddedFrom, IsGroup, IsNearer}
 use Rattle.last_events.proofs.ForkLaws.{number-less, less-first, less-parts, less-rest, less-number}
 use Rattle.last_events.proofs.ListLaws.{in-left, in-right, in-either, every-in, every-left, every-right, whole, map-take, take-again, take-none, take-some, take-within, drop-either}
 use Rattle.last_events.proofs.SearchLaws.{none-some, length-places}

@@ -1,9 +1,9 @@
-pub mod ChildLaws
-pub mod CodeLaws
-pub mod ForkLaws
-pub mod LastLaws
-pub mod ListLaws
-pub mod SearchLaws
-pub mod SeatLaws
-pub mod TicketLaws
-pub mod WayLaws
+mod ChildLaws
+mod CodeLaws
+mod ForkLaws
+mod LastLaws
+mod ListLaws
+mod SearchLaws
+mod SeatLaws
+mod TicketLaws
+mod WayLaws

@@ -3,11 +3,11 @@ use Rattle.std.proofs.Common.{◌≡◌, ◌⊎◌, inl, inr, ℕ, zero, suc, �
 use Rattle.std.specs.Ordering.{is_lt, nat_cmp, ord_min}
 use Rattle.address.specs.declared.Entry.{Entry}
 use Rattle.address.specs.Order.{order_of}
-use Rattle.address.specs.walking.OrderLaws.{less-not-equal, greater-not-less}
-use Rattle.address.proofs.Total.{order-transitive, order-itself}
+use Rattle.address.specs.internal.OrderLaws.{less-not-equal, greater-not-less}
+use Rattle.address.proofs.public.Total.{order-transitive, order-itself}
 use Rattle.syntax.specs.Lists.{In}
-use Rattle.last_events.specs.walking.Forks.{IsFork, Shares}
-use Rattle.last_events.specs.walking.Search.{AllLess, LastNotLess, Rising, Splits}
+use Rattle.last_events.specs.internal.Forks.{IsFork, Shares}
+use Rattle.last_events.specs.internal.Search.{AllLess, LastNotLess, Rising, Splits}
 use Rattle.last_events.proofs.ForkLaws.{number-less, number-ties, number-more, shares-back, shares-on, shares-fewer, fork-shares, between-shares}
 
 -- ---- places by their number

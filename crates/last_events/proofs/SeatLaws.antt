@@ -5,14 +5,14 @@ use Rattle.std.specs.Global.{Box}
 use Rattle.std.specs.Map.{lookup}
 use Rattle.address.specs.declared.Entry.{Entry}
 use Rattle.address.specs.Order.{order_of}
-use Rattle.address.specs.walking.OrderLaws.{less-not-equal}
-use Rattle.address.proofs.Total.{order-itself, order-ties, order-total, order-transitive}
+use Rattle.address.specs.internal.OrderLaws.{less-not-equal}
+use Rattle.address.proofs.public.Total.{order-itself, order-ties, order-total, order-transitive}
 use Rattle.syntax.specs.Lists.{In, Every}
 use Rattle.last_events.specs.LastEvents.{ticket_at, PutAt, RemovedAt}
 use Rattle.last_events.specs.declared.branch.Seat.{Seat}
 use Rattle.last_events.specs.declared.branch.Seat.TheVariants.{Event, Inner}
-use Rattle.last_events.specs.walking.Search.{Rising, Splits}
-use Rattle.last_events.specs.walking.Seats.{Places, way_of, rest_of, AllOrdered, EndsAtBranch, IsWay, behind_way, seat_way, seat_places, flat, HasSeat, IsSound, IsBranch, IsMadeOf, FitsBehind, TakenAt}
+use Rattle.last_events.specs.internal.Search.{Rising, Splits}
+use Rattle.last_events.specs.internal.Seats.{Places, way_of, rest_of, AllOrdered, EndsAtBranch, IsWay, behind_way, seat_way, seat_places, flat, HasSeat, IsSound, IsBranch, IsMadeOf, FitsBehind, TakenAt}
 use Rattle.last_events.proofs.ForkLaws.{entry-itself}
 use Rattle.last_events.proofs.ListLaws.{in-left, in-right, in-either, in-map, map-in, in-map-take, in-map-drop, every-left, every-right, every-both, whole, split-at, set-split, get-at, at-map, at-within, map-at}
 use Rattle.last_events.proofs.SearchLaws.{some-is}

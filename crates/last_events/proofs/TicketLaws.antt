@@ -5,7 +5,7 @@ use Rattle.std.specs.List.{insert, remove}
 use Rattle.std.specs.List.Sorted.{IsNonDecreasingBy, IsPartitionPoint}
 use Rattle.std.proofs.lemmas.Bool.{ltb-true, ltb-false, cases_lt, cases_eq}
 use Rattle.syntax.specs.Lists.{In}
-use Rattle.last_events.specs.walking.Tickets.{Ascends, Parts, LastBelow, FirstFrom, rows_of, AllAscend}
+use Rattle.last_events.specs.internal.Tickets.{Ascends, Parts, LastBelow, FirstFrom, rows_of, AllAscend}
 use Rattle.last_events.specs.LastEvents.{Uses, LastUse, FirstUse}
 use Rattle.last_events.specs.declared.uses.UseTable.{UseTable}
 

@@ -2,9 +2,9 @@
 use Rattle.std.proofs.Common.{◌≡◌, ◌≢◌, ◌⊎◌, inl, inr, ℕ, zero, suc, ◌<◌, ◌≤◌, true, false, List, [], ◌∷◌, ◌++◌, length, take, drop, slice_get, refl, sym, ap, subst, ◌∙◌, true≢false, arith}
 use Rattle.address.specs.declared.Entry.{Entry}
 use Rattle.address.specs.declared.Entry.TheVariants.{Ordered, Branch}
-use Rattle.address.proofs.Places.{head-injective, tail-injective, nil-not-cons, same-entry?}
-use Rattle.last_events.specs.walking.Forks.{is_ordered_entry}
-use Rattle.last_events.specs.walking.Seats.{way_of, rest_of, ordered_of, AllOrdered, EndsAtBranch, IsWay}
+use Rattle.address.proofs.public.Places.{head-injective, tail-injective, nil-not-cons, same-entry?}
+use Rattle.last_events.specs.internal.Forks.{is_ordered_entry}
+use Rattle.last_events.specs.internal.Seats.{way_of, rest_of, ordered_of, AllOrdered, EndsAtBranch, IsWay}
 
 -- ---- what is a way
 pub ordered-way : (a : List Entry) → AllOrdered a → way_of a ≡ a

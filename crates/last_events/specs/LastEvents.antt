@@ -45,8 +45,8 @@ pub record Orderly (table : PlaceTable) (a : List Entry) : Type 0 where
   pub inside : (b c : List Entry) (t u : ℕ) → IsAt table b t → IsAt table c u → OneTree b c
   pub outside : (b : List Entry) (t : ℕ) → IsAt table b t → OneTree b a
 
--- to the tickets `old` some were added, each of an event before the place a; and each other event before a is before the
--- place of one of them
+-- to the tickets `old` some were added, each of an event before the place a; and each other event before a is before
+-- the place of one of them
 pub record LastBefore (table : PlaceTable) (a : List Entry) (old new : List ℕ) : Type 0 where
   pub kept : (t : ℕ) → In t old → In t new
   pub sound : (t : ℕ) → In t new → In t old ⊎ ((b : List Entry) × IsAt table b t × Before b a)

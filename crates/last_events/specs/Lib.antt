@@ -1,2 +1,2 @@
 pub mod LastEvents
-pub mod walking
+pub mod internal

@@ -1,10 +1,10 @@
-// What stands in a branch, in the order of places, with what stands in the branches of its parallels. No place is stored whole:
-// events of one branch share the way to it.
+// What stands in a branch, in the order of places, with what stands in the branches of its parallels. No place is
+// stored whole: events of one branch share the way to it.
 ghost use Rattle.std.specs.Prelude.{◌≡◌, ◌<◌, ◌++◌, ◌∷◌, [], true, false, length, map, IfOk, OnOk, OnErr};
 ghost use Rattle.last_events.specs.LastEvents.{ticket_at, first_child, Orderly, PutAt, RemovedAt};
-ghost use Rattle.last_events.specs.walking.Search.{Splits};
-ghost use Rattle.last_events.specs.walking.Seats.{AllOrdered, seat_way, seat_places, ordered_of, IsWay, flat, HasSeat, IsSound, IsBranch, IsMadeOf, FitsBehind, TakenAt};
-ghost use Rattle.last_events.specs.walking.Walks.{Related, AddedLast, AddedFrom, IsGroup, IsNearer};
+ghost use Rattle.last_events.specs.internal.Search.{Splits};
+ghost use Rattle.last_events.specs.internal.Seats.{AllOrdered, seat_way, seat_places, ordered_of, IsWay, flat, HasSeat, IsSound, IsBranch, IsMadeOf, FitsBehind, TakenAt};
+ghost use Rattle.last_events.specs.internal.Walks.{Related, AddedLast, AddedFrom, IsGroup, IsNearer};
 
 use crate::children::is_first_child;
 use crate::search::count_less;
@@ -36,17 +36,17 @@ impl Model for BranchEvents {
 
     ghost Value = { List (List Entry × ℕ) };
 
-    ghost use Rattle.last_events.specs.walking.Seats.{flat, IsBranch};
+    ghost use Rattle.last_events.specs.internal.Seats.{flat, IsBranch};
 
     ghost view = { λ branch. flat branch.seats.items };
 
     ghost invariant = { λ branch. IsBranch branch.seats.items };
 
-    ghost use Rattle.last_events.specs.walking.Sizes.{entries_of};
+    ghost use Rattle.last_events.specs.internal.Sizes.{entries_of};
 
     ghost size = { entries_of };
 
-    ghost use Rattle.last_events.specs.walking.Depths.{depth_le-entries};
+    ghost use Rattle.last_events.specs.internal.Depths.{depth_le-entries};
 
     ghost size_decreases = { λ a h. depth_le-entries a.seats.items h };
 }
@@ -79,8 +79,8 @@ impl BranchEvents {
         self.seats.is_empty()
     }
 
-    /// Puts the event of this ticket at the place, and adds the last events before it: where there is none, the last ones of
-    /// those that are nearest before all of these. Without memory for it the events are as before.
+    /// Puts the event of this ticket at the place, and adds the last events before it: where there is none, the last
+    /// ones of those that are nearest before all of these. Without memory for it the events are as before.
     #[cycle(put)]
     pub(crate) fn put(
         &mut self,
@@ -149,8 +149,11 @@ impl Seat {
         requires orderly { Orderly (seat_places self.old) (seat_way self.old ++ rest.now) }
         ensures sound { IsSound self.new }
         ensures way { seat_way self.new ≡ seat_way self.old }
-        ensures put { OnOk result (PutAt (seat_places self.old) (seat_way self.old ++ rest.now) ticket (seat_places self.new)) }
-        ensures found { OnOk result (AddedFrom (flat nearest.now) (seat_places self.old) (seat_way self.old ++ rest.now) found.old.items found.new.items) }
+        ensures put { OnOk result
+            (PutAt (seat_places self.old) (seat_way self.old ++ rest.now) ticket (seat_places self.new)) }
+        ensures found { OnOk result
+            (AddedFrom (flat nearest.now) (seat_places self.old) (seat_way self.old
+            ++ rest.now) found.old.items found.new.items) }
         ensures refused { OnErr result (seat_places self.new ≡ seat_places self.old) }
     {
         match self {
@@ -180,8 +183,8 @@ impl Seat {
     }
 }
 
-/// Puts the event among what stands in a branch, and adds the last events before it that stand there, or else those of the
-/// nearest. All that is added is added before anything is put in.
+/// Puts the event among what stands in a branch, and adds the last events before it that stand there, or else those of
+/// the nearest. All that is added is added before anything is put in.
 #[cycle(put)]
 fn put_among(
     seats: &mut Vec<Seat>,
@@ -196,7 +199,8 @@ fn put_among(
     requires orderly { Orderly (flat seats.old.items) place.now }
     ensures branch { IsBranch seats.new.items }
     ensures put { OnOk result (PutAt (flat seats.old.items) place.now ticket (flat seats.new.items)) }
-    ensures found { OnOk result (AddedFrom (flat nearest.now) (flat seats.old.items) place.now found.old.items found.new.items) }
+    ensures found { OnOk result
+        (AddedFrom (flat nearest.now) (flat seats.old.items) place.now found.old.items found.new.items) }
     ensures refused { OnErr result (flat seats.new.items ≡ flat seats.old.items) }
 {
     let (way, rest) = place.split_at(way_length(place));
@@ -338,8 +342,8 @@ fn first_child_among(seats: &[Seat], place: &[Entry]) -> Option<u64>
     }
 }
 
-/// The ticket of the event that stands at the first child of the place, which has no branch number: it is the next behind what
-/// is less than the place, or behind the place itself.
+/// The ticket of the event that stands at the first child of the place, which has no branch number: it is the next
+/// behind what is less than the place, or behind the place itself.
 fn event_behind(seats: &[Seat], index: usize, place: &[Entry]) -> Option<u64>
     requires branch { IsBranch seats.now }
     requires ordered { AllOrdered place.now }

@@ -2,7 +2,7 @@
 ghost use Rattle.std.specs.Prelude.{◌≡◌, slice_get};
 ghost use Rattle.std.specs.Ordering.{is_lt};
 ghost use Rattle.address.specs.Order.{order_of};
-ghost use Rattle.last_events.specs.walking.Forks.{IsFork, Shares, is_ordered_entry};
+ghost use Rattle.last_events.specs.internal.Forks.{IsFork, Shares, is_ordered_entry};
 
 use address::Entry;
 

@@ -1,5 +1,5 @@
-//! Tables of last events: which event stands at which place, and which events use which number. They hold tickets, and fall
-//! back to what they were when an event is taken out.
+//! Tables of last events: which event stands at which place, and which events use which number. They hold tickets, and
+//! fall back to what they were when an event is taken out.
 #![tactic(auto)]
 
 mod branch;

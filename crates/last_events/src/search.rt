@@ -1,8 +1,8 @@
 // Looking for a place by halves.
 ghost use Rattle.std.specs.Prelude.{◌≡◌, ◌≤◌, map, length, true, false, List, MatchOption};
 ghost use Rattle.address.specs.declared.Entry.{Entry};
-ghost use Rattle.last_events.specs.walking.Search.{AllLess, LastNotLess, Rising, Splits};
-ghost use Rattle.last_events.specs.walking.Seats.{seat_way};
+ghost use Rattle.last_events.specs.internal.Search.{AllLess, LastNotLess, Rising, Splits};
+ghost use Rattle.last_events.specs.internal.Seats.{seat_way};
 
 use crate::branch::Seat;
 use crate::forks::{fork, is_less};
@@ -25,9 +25,9 @@ impl Placed for Seat {
     }
 }
 
-/// How many of these places, which rise, are less than this one. Before the place of no entries there is none. Behind a branch
-/// number it is looked where that branch stands if each before it has events; else at the last two first, since a new place is
-/// behind all others nearly always.
+/// How many of these places, which rise, are less than this one. Before the place of no entries there is none. Behind a
+/// branch number it is looked where that branch stands if each before it has events; else at the last two first, since
+/// a new place is behind all others nearly always.
 pub(crate) fn count_less<T: Placed>(seats: &[T], place: &[Entry]) -> usize
     requires { Rising (map T.place seats.now) }
     ensures { Splits (map T.place seats.now) place.now result }
@@ -82,7 +82,8 @@ fn is_at<T: Placed>(seats: &[T], index: usize, place: &[Entry]) -> bool
     seat == place
 }
 
-/// Whether the first so many of these places, which rise, are less than this one. Else there is a last of them, and it is not.
+/// Whether the first so many of these places, which rise, are less than this one. Else there is a last of them, and it
+/// is not.
 fn is_behind<T: Placed>(seats: &[T], count: usize, place: &[Entry]) -> bool
     requires rising { Rising (map T.place seats.now) }
     requires within { count ≤ length seats.now }
@@ -98,8 +99,8 @@ fn is_behind<T: Placed>(seats: &[T], count: usize, place: &[Entry]) -> bool
     is_less(seat, place, parted)
 }
 
-/// How many of these places, which rise, are less than this one. What lies between two places that share some entries with it
-/// shares them too, so no look begins at the first entry again.
+/// How many of these places, which rise, are less than this one. What lies between two places that share some entries
+/// with it shares them too, so no look begins at the first entry again.
 fn count_by_halves<T: Placed>(seats: &[T], place: &[Entry]) -> usize
     requires { Rising (map T.place seats.now) }
     ensures { Splits (map T.place seats.now) place.now result }

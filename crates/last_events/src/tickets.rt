@@ -1,7 +1,7 @@
 // Tickets that ascend. A new one is behind all others nearly always, so the last is looked at first.
 ghost use Rattle.std.specs.Prelude.{◌≡◌, ◌<◌, ◌≤◌, ◌⊎◌, ◌↔◌, ℕ, IsTrue, IfOk, OnOk, OnErr, MatchOption, nat_lt};
 ghost use Rattle.syntax.specs.Lists.{In};
-ghost use Rattle.last_events.specs.walking.Tickets.{Ascends, Parts, LastBelow, FirstFrom};
+ghost use Rattle.last_events.specs.internal.Tickets.{Ascends, Parts, LastBelow, FirstFrom};
 
 use std::alloc::AllocError;
 
@@ -87,7 +87,8 @@ pub(crate) fn last_below(tickets: &[u64], below: u64) -> Option<u64>
 /// The least, from `from` on, that is less than `below`.
 pub(crate) fn first_from(tickets: &[u64], from: u64, below: u64) -> Option<u64>
     requires { Ascends tickets.now }
-    ensures { MatchOption result ((t : ℕ) → In t tickets.now → from ≤ t → t < below → ⊥) (FirstFrom tickets.now from below) }
+    ensures { MatchOption result ((t : ℕ) → In t tickets.now → from ≤ t → t < below →
+        ⊥) (FirstFrom tickets.now from below) }
 {
     let count = count_below(tickets, from);
     match tickets.get(count) {
@@ -104,7 +105,8 @@ pub(crate) fn add_between(
     found: &mut Vec<u64>,
 ) -> Result<(), AllocError>
     requires { Ascends tickets.now }
-    ensures { IfOk result (λ _. (t : ℕ) → In t found.new.items ↔ (In t found.old.items ⊎ (In t tickets.now × (from ≤ t) × (t < below)))) }
+    ensures { IfOk result (λ _. (t : ℕ) → In t found.new.items ↔
+        (In t found.old.items ⊎ (In t tickets.now × (from ≤ t) × (t < below)))) }
 {
     let (_, later) = tickets.split_at(count_below(tickets, from));
     let (within, _) = later.split_at(count_below(later, below));

@@ -2,14 +2,14 @@
 ghost use Rattle.std.specs.Prelude.{◌≡◌, ◌<◌, ◌≤◌, ◌⊎◌, ◌↔◌, ◌^◌, ℕ, [], length, map, slice_index_or, MatchOption, IfOk, OnOk, OnErr};
 ghost use Rattle.syntax.specs.Lists.{In};
 ghost use Rattle.last_events.specs.LastEvents.{Uses, LastUse, FirstUse};
-ghost use Rattle.last_events.specs.walking.Tickets.{AllAscend, rows_of};
+ghost use Rattle.last_events.specs.internal.Tickets.{AllAscend, rows_of};
 
 use crate::tickets::{add_between, first_from, last_below, put_ticket, remove_ticket};
 use std::alloc::{AllocError, Global};
 use std::marker::Model;
 
-/// Which events use which number, as the tickets of each number from 0 on. It takes memory for a list of each number up to the
-/// greatest that is put: the numbers are those of the variables or channels of one system.
+/// Which events use which number, as the tickets of each number from 0 on. It takes memory for a list of each number up
+/// to the greatest that is put: the numbers are those of the variables or channels of one system.
 #[derive(Drop)]
 pub struct UseTable {
     alloc: Global,
@@ -21,7 +21,7 @@ impl Model for UseTable {
 
     ghost Value = { List (List ℕ) };
 
-    ghost use Rattle.last_events.specs.walking.Tickets.{rows_of, AllAscend};
+    ghost use Rattle.last_events.specs.internal.Tickets.{rows_of, AllAscend};
 
     ghost view = { λ table. rows_of table.rows.items };
 
@@ -39,10 +39,11 @@ impl UseTable {
         }
     }
 
-    /// Puts a use of the number by the event of this ticket. Without memory for it, or for a list of each number up to this one,
-    /// the table is as before.
+    /// Puts a use of the number by the event of this ticket. Without memory for it, or for a list of each number up to
+    /// this one, the table is as before.
     pub fn put(&mut self, number: u32, ticket: u64) -> Result<(), AllocError>
-        ensures put { OnOk result ((x t : ℕ) → Uses self.new x t ↔ (Uses self.old x t ⊎ ((x ≡ number) × (t ≡ ticket)))) }
+        ensures put { OnOk result ((x t : ℕ) → Uses self.new x t ↔
+            (Uses self.old x t ⊎ ((x ≡ number) × (t ≡ ticket)))) }
         ensures refused { OnErr result ((x t : ℕ) → Uses self.new x t ↔ Uses self.old x t) }
     {
         make_rows(self.alloc, &mut self.rows, number as usize)?;
@@ -58,7 +59,8 @@ impl UseTable {
 
     /// The greatest ticket, less than `below`, of an event that uses the number. The last of all is found at once.
     pub fn last(&self, number: u32, below: u64) -> Option<u64>
-        ensures { MatchOption result ((t : ℕ) → Uses self.now number t → t < below → ⊥) (LastUse self.now number below) }
+        ensures { MatchOption result ((t : ℕ) → Uses self.now number t → t < below →
+            ⊥) (LastUse self.now number below) }
     {
         let tickets = row_at(self.rows.as_slice(), number as usize);
         last_below(tickets, below)
@@ -67,7 +69,8 @@ impl UseTable {
     /// The least ticket, from `from` on and less than `below`, of an event that uses the number.
     pub fn first(&self, number: u32, from: u64, below: u64) -> Option<u64>
         requires { from ≤ below }
-        ensures { MatchOption result ((t : ℕ) → Uses self.now number t → from ≤ t → t < below → ⊥) (FirstUse self.now number from below) }
+        ensures { MatchOption result ((t : ℕ) → Uses self.now number t → from ≤ t → t < below →
+            ⊥) (FirstUse self.now number from below) }
     {
         let tickets = row_at(self.rows.as_slice(), number as usize);
         first_from(tickets, from, below)
@@ -82,7 +85,8 @@ impl UseTable {
         found: &mut Vec<u64>,
     ) -> Result<(), AllocError>
         requires { from ≤ below }
-        ensures { IfOk result (λ _. (t : ℕ) → In t found.new.items ↔ (In t found.old.items ⊎ (Uses self.now number t × (from ≤ t) × (t < below)))) }
+        ensures { IfOk result (λ _. (t : ℕ) → In t found.new.items ↔
+            (In t found.old.items ⊎ (Uses self.now number t × (from ≤ t) × (t < below)))) }
     {
         let tickets = row_at(self.rows.as_slice(), number as usize);
         add_between(tickets, from, below, found)
@@ -103,7 +107,8 @@ fn row_at(rows: &[Vec<u64>], number: usize) -> &[u64]
 /// Makes rows without tickets up to that of this number, in one growth.
 fn make_rows(alloc: Global, rows: &mut Vec<Vec<u64>>, number: usize) -> Result<(), AllocError>
     requires { number < 2 ^ 32 }
-    ensures same { (x : ℕ) → slice_index_or (rows_of rows.new.items) x [] ≡ slice_index_or (rows_of rows.old.items) x [] }
+    ensures same { (x : ℕ) →
+        slice_index_or (rows_of rows.new.items) x [] ≡ slice_index_or (rows_of rows.old.items) x [] }
     ensures within { OnOk result (number < length rows.new.items) }
 {
     if number < rows.len() {
@@ -121,7 +126,8 @@ fn put_use(rows: &mut Vec<Vec<u64>>, number: usize, ticket: u64) -> Result<(), A
     requires ascend { AllAscend rows.old.items }
     requires within { number < length rows.old.items }
     ensures ascend { AllAscend rows.new.items }
-    ensures put { OnOk result ((x t : ℕ) → Uses (rows_of rows.new.items) x t ↔ (Uses (rows_of rows.old.items) x t ⊎ ((x ≡ number) × (t ≡ ticket)))) }
+    ensures put { OnOk result ((x t : ℕ) → Uses (rows_of rows.new.items) x t ↔
+        (Uses (rows_of rows.old.items) x t ⊎ ((x ≡ number) × (t ≡ ticket)))) }
     ensures refused { OnErr result ((x t : ℕ) → Uses (rows_of rows.new.items) x t ↔ Uses (rows_of rows.old.items) x t) }
 {
     put_ticket(&mut rows[number], ticket)
@@ -131,7 +137,8 @@ fn put_use(rows: &mut Vec<Vec<u64>>, number: usize, ticket: u64) -> Result<(), A
 fn remove_use(rows: &mut Vec<Vec<u64>>, number: usize, ticket: u64)
     requires { AllAscend rows.old.items }
     ensures ascend { AllAscend rows.new.items }
-    ensures removed { (x t : ℕ) → Uses (rows_of rows.new.items) x t ↔ (Uses (rows_of rows.old.items) x t × (((x ≡ number) × (t ≡ ticket)) → ⊥)) }
+    ensures removed { (x t : ℕ) → Uses (rows_of rows.new.items) x t ↔
+        (Uses (rows_of rows.old.items) x t × (((x ≡ number) × (t ≡ ticket)) → ⊥)) }
 {
     if number < rows.len() {
         remove_ticket(&mut rows[number], ticket);

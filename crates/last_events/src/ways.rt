@@ -1,6 +1,6 @@
 // The way that a place takes in its branch.
 ghost use Rattle.std.specs.Prelude.{◌≡◌, ◌≤◌, length, take, drop, true, false};
-ghost use Rattle.last_events.specs.walking.Seats.{way_of, rest_of, ordered_of, AllOrdered, EndsAtBranch, IsWay};
+ghost use Rattle.last_events.specs.internal.Seats.{way_of, rest_of, ordered_of, AllOrdered, EndsAtBranch, IsWay};
 
 use crate::forks::is_ordered;
 use address::Entry;

@@ -9,7 +9,7 @@ use Rattle.std.proofs.lemmas.List.Sums.{prefix_len-le-length}
 use Rattle.syntax.specs.Texts.{Text}
 use Rattle.lexer.specs.Comment.{is_opening, is_nested_comment, IsOpenComment}
 use Rattle.lexer.specs.Spelling.{begins, may_hold, IsRun, Spells}
-use Rattle.lexer.specs.walking.Fronts.{class_at, IsFront}
+use Rattle.lexer.specs.internal.Fronts.{class_at, IsFront}
 use Rattle.lexer.specs.declared.class.Class.{Class}
 use Rattle.lexer.specs.declared.class.Class.TheVariants.{Blank, LineComment, NestedComment, OpenComment, Word, Number, Symbol}
 use Rattle.lexer.proofs.CommentLemmas.{whole_once}

@@ -9,7 +9,7 @@ use Rattle.std.proofs.lemmas.List.Elements.{All-nil, All-cons}
 use Rattle.syntax.specs.Texts.{Text}
 use Rattle.lexer.specs.Table.{lookup, reserved_word, reserved_words, symbol, symbols}
 use Rattle.lexer.specs.Tokens.{token_at, token_of, token_number}
-use Rattle.lexer.specs.walking.Parts.{HasNoEnd}
+use Rattle.lexer.specs.internal.Parts.{HasNoEnd}
 use Rattle.lexer.specs.declared.class.Class.{Class}
 use Rattle.lexer.specs.declared.class.Class.TheVariants as class
 use Rattle.lexer.specs.declared.position.Position.{Position}

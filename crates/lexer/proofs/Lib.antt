@@ -1,12 +1,12 @@
-pub mod BucketLemmas
-pub mod CommentLemmas
-pub mod FrontLemmas
-pub mod KindLemmas
-pub mod LineLemmas
-pub mod MarkLemmas
-pub mod PartLemmas
-pub mod PieceLemmas
-pub mod ReadingLemmas
-pub mod SymbolLemmas
-pub mod UniqueLemmas
-pub mod ValueLemmas
+pub mod public
+mod BucketLemmas
+mod CommentLemmas
+mod FrontLemmas
+mod KindLemmas
+mod LineLemmas
+mod MarkLemmas
+mod PieceLemmas
+mod ReadingLemmas
+mod SymbolLemmas
+mod UniqueLemmas
+mod ValueLemmas

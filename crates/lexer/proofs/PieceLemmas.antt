@@ -8,7 +8,7 @@ use Rattle.syntax.specs.Texts.{Text}
 use Rattle.lexer.specs.Bytes.{is_blank, is_name_byte}
 use Rattle.lexer.specs.Comment.{is_opening}
 use Rattle.lexer.specs.Spelling.{begins, IsRun, Spells}
-use Rattle.lexer.specs.walking.Fronts.{class_at}
+use Rattle.lexer.specs.internal.Fronts.{class_at}
 use Rattle.lexer.specs.declared.class.Class.{Class}
 use Rattle.lexer.specs.declared.class.Class.TheVariants.{Blank, LineComment, NestedComment, OpenComment, Word, Number, Symbol}
 use Rattle.lexer.proofs.MarkLemmas.{mark_extends, mark_first, other_mark}

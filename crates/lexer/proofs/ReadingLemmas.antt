@@ -12,8 +12,8 @@ use Rattle.lexer.proofs.MarkLemmas.{mark_extends}
 use Rattle.syntax.specs.Texts.{Text}
 use Rattle.lexer.specs.Cut.{IsCut, Piece, joined}
 use Rattle.lexer.specs.Refusal.{IsDueAt, IsRefused}
-use Rattle.lexer.specs.walking.Fronts.{IsFront, IsPieceFault}
-use Rattle.lexer.specs.walking.Reached.{Reaches}
+use Rattle.lexer.specs.internal.Fronts.{IsFront, IsPieceFault}
+use Rattle.lexer.specs.internal.Reached.{Reaches}
 use Rattle.lexer.specs.Tokens.{AreTokens, IsReadable, behind, first_position, token_at, token_of, tokens_from}
 use Rattle.lexer.specs.declared.class.Class.{Class}
 use Rattle.refusals.specs.declared.lexer.Fault.{Fault}

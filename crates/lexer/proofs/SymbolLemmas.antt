@@ -7,7 +7,7 @@ use Rattle.std.proofs.lemmas.Bool.{false≢true, both_ways, and_from, and_parts,
 use Rattle.std.proofs.lemmas.List.{take_at, take-append-drop, length-take-le, nil_from_length}
 use Rattle.syntax.specs.Texts.{Text}
 use Rattle.lexer.specs.Spelling.{Spells, NothingSpelled}
-use Rattle.lexer.specs.walking.Fronts.{class_at, NoSymbolBeyond, IsFront}
+use Rattle.lexer.specs.internal.Fronts.{class_at, NoSymbolBeyond, IsFront}
 use Rattle.lexer.specs.Table.{lookup, symbol, symbols}
 use Rattle.lexer.specs.declared.class.Class.{Class}
 use Rattle.lexer.specs.declared.class.Class.TheVariants.{Blank, LineComment, NestedComment, OpenComment, Word, Number, Symbol}

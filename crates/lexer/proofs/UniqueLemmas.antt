@@ -8,7 +8,7 @@ use Rattle.lexer.specs.Comment.{closes, is_opening, is_nested_comment, IsOpenCom
 use Rattle.lexer.specs.Cut.{IsCut, IsLongest, Piece, joined}
 use Rattle.lexer.specs.Refusal.{BeginsTooLarge, IsDueAt, IsRefused}
 use Rattle.lexer.specs.Spelling.{Spells}
-use Rattle.lexer.specs.walking.Fronts.{class_at, IsFront}
+use Rattle.lexer.specs.internal.Fronts.{class_at, IsFront}
 use Rattle.lexer.specs.Tokens.{AreReadable, AreTokens, IsReadable, IsReadTo, first_position, tokens_from, value_of}
 use Rattle.lexer.specs.declared.class.Class.{Class}
 use Rattle.lexer.specs.declared.class.Class.TheVariants.{Blank, LineComment, NestedComment, OpenComment, Word, Number, Symbol}

@@ -6,4 +6,4 @@ pub mod Refusal
 pub mod Spelling
 pub mod Table
 pub mod Tokens
-pub mod walking
+pub mod internal

@@ -40,7 +40,7 @@ pub(crate) struct Found<'a> {
 impl<'a> Lexing<'a> {
     ghost use Rattle.std.specs.Prelude.{◌≡◌, ◌≤◌, ◌++◌, ◌⊎◌, [], List, IfOk, IfErr, OnOk, MatchOption};
     ghost use Rattle.lexer.specs.Tokens.{token_at};
-    ghost use Rattle.lexer.specs.walking.Parts.{BeginsProcedure, HasRead, IsAtProcedure, IsCutOff, IsKept, IsPart, IsRest, Refuses, Skips};
+    ghost use Rattle.lexer.specs.internal.Parts.{BeginsProcedure, HasRead, IsAtProcedure, IsCutOff, IsKept, IsPart, IsRest, Refuses, Skips};
     ghost use Rattle.lexer.specs.declared.token.Kind.TheVariants.{End};
     ghost use Rattle.lexer.specs.declared.token.Token.{Token};
     ghost use Rattle.refusals.specs.declared.lexer.Fault.TheVariants.{Memory};

@@ -5,7 +5,7 @@ ghost use Rattle.lexer.specs.Comment.{IsOpenComment, is_nested_comment, is_openi
 ghost use Rattle.lexer.specs.Spelling.{NothingSpelled, begins, may_hold};
 ghost use Rattle.lexer.specs.Table.{symbol};
 ghost use Rattle.lexer.specs.declared.class.Class.TheVariants.{Blank, LineComment};
-ghost use Rattle.lexer.specs.walking.Fronts.{IsFront, NoSymbolBeyond, class_at};
+ghost use Rattle.lexer.specs.internal.Fronts.{IsFront, NoSymbolBeyond, class_at};
 
 use crate::class::{Class, is_blank};
 use crate::table::symbol;

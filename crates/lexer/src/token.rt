@@ -1,7 +1,7 @@
 ghost use Rattle.std.specs.Prelude.{◌≡◌, ◌≤◌, ◌<◌, ◌+◌, ◌^◌, length, ◌++◌, ◌∷◌, [], ◌⊎◌, if◌then◌else◌, is_ok, IfOk, IfErr, OnOk};
 ghost use Rattle.std.specs.Option.{option_to_list};
 ghost use Rattle.lexer.specs.Tokens.{IsReadable, token_at, token_of};
-ghost use Rattle.lexer.specs.walking.Fronts.{IsPieceFault};
+ghost use Rattle.lexer.specs.internal.Fronts.{IsPieceFault};
 ghost use Rattle.refusals.specs.declared.lexer.Fault.TheVariants.{Memory};
 
 use crate::Fault;
@@ -195,7 +195,8 @@ pub(crate) fn push_token<'a>(
 ) -> Result<(), Fault>
     requires { position.offset + length text.now < 2 ^ 64 }
     ensures readable { OnOk result (IsReadable class text.now) }
-    ensures tokens { OnOk result (tokens.new.items ≡ tokens.old.items ++ option_to_list (token_of position class text.now)) }
+    ensures tokens { OnOk result (tokens.new.items
+        ≡ tokens.old.items ++ option_to_list (token_of position class text.now)) }
     ensures err { IfErr result (λ fault. (fault ≡ Memory) ⊎ IsPieceFault position.offset class text.now fault) }
 {
     if let Some(token) = token_of(position, class, text)? {

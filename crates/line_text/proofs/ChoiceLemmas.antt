@@ -9,8 +9,8 @@ use Rattle.runs.specs.declared.event.Choice.{Choice}
 use Rattle.line_text.specs.EventText.{field}
 use Rattle.line_text.specs.Fields.{BeginsField, CutAtSpace}
 use Rattle.line_text.specs.Operands.{IsArm, IsChoice, MayBeChoice}
-use Rattle.line_text.specs.walking.NoOperand.{IsNoArm, IsNoChoice}
-use Rattle.line_text.proofs.CutLemmas.{cut-same, tails, address-no-space}
+use Rattle.line_text.specs.internal.NoOperand.{IsNoArm, IsNoChoice}
+use Rattle.line_text.proofs.public.CutLemmas.{cut-same, tails, address-no-space}
 
 -- what stands for an arm is nothing or begins with a space
 pub arm-begins : (arm : ℕ) (rest : List ℕ) → IsArm arm rest → BeginsField rest

@@ -1,5 +1,2 @@
-pub mod ChoiceLemmas
-pub mod CutLemmas
-pub mod KeywordLemmas
-pub mod NumberLemmas
-pub mod OneOperand
+pub mod public
+mod ChoiceLemmas

@@ -4,4 +4,4 @@ pub mod FieldText
 pub mod Fields
 pub mod Keywords
 pub mod Operands
-pub mod walking
+pub mod internal

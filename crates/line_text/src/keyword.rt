@@ -1,6 +1,6 @@
 ghost use Rattle.std.specs.Prelude.{◌≡◌, MatchOption};
 ghost use Rattle.line_text.specs.Keywords.{spelling};
-ghost use Rattle.line_text.specs.walking.Spelled as spec;
+ghost use Rattle.line_text.specs.internal.Spelled as spec;
 
 /// The word with which a line begins.
 #[derive(Clone, Copy)]

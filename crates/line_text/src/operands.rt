@@ -3,9 +3,9 @@ ghost use Rattle.std.specs.Prelude.{◌≡◌, ◌<◌, ◌^◌, MatchOption, If
 ghost use Rattle.std.specs.Option.{SomeIff};
 ghost use Rattle.line_text.specs.EventText.{field};
 ghost use Rattle.line_text.specs.Fields.{CutAtSpace};
-ghost use Rattle.line_text.specs.walking.FieldParts.{IsFieldEnd, IsNoField};
+ghost use Rattle.line_text.specs.internal.FieldParts.{IsFieldEnd, IsNoField};
 ghost use Rattle.line_text.specs.Operands.{IsNumber, IsBranch, IsVariable, IsArm, IsChoice, MayBeChoice};
-ghost use Rattle.line_text.specs.walking.NoOperand.{IsNoTicket, IsNoBranch, IsNoVariable, IsNoArm, IsNoChoice};
+ghost use Rattle.line_text.specs.internal.NoOperand.{IsNoTicket, IsNoBranch, IsNoVariable, IsNoArm, IsNoChoice};
 
 use decimal::read_number;
 use runs::Choice;

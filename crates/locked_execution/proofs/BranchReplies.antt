@@ -15,20 +15,20 @@ use Rattle.runs.specs.declared.command.Command.{Command}
 use Rattle.runs.specs.declared.command.Reply.{Reply}
 use Rattle.runs.specs.declared.command.Refusal.{Refusal}
 use Rattle.runs.specs.declared.command.Refusal.TheVariants.{HistoryFull, Spent}
-use Rattle.runs.proofs.Options.{some-injective}
-use Rattle.runs.proofs.Lists.{every-in, in-right}
-use Rattle.runs.proofs.Orders.{run-formed}
-use Rattle.runs.proofs.Effects.{sound-formed}
-use Rattle.runs.proofs.StateLaws.{reaches-one}
-use Rattle.runs.proofs.ReadyLists.{ready-list, sooner-asymmetric}
-use Rattle.runs.proofs.SortedLists.{same-elements}
-use Rattle.runs.proofs.OneReplies.{one-reply}
+use Rattle.runs.proofs.public.Options.{some-injective}
+use Rattle.runs.proofs.public.Lists.{every-in, in-right}
+use Rattle.runs.proofs.public.Orders.{run-formed}
+use Rattle.runs.proofs.public.Effects.{sound-formed}
+use Rattle.runs.proofs.public.StateLaws.{reaches-one}
+use Rattle.runs.proofs.public.ReadyLists.{ready-list, sooner-asymmetric}
+use Rattle.runs.proofs.public.SortedLists.{same-elements}
+use Rattle.runs.proofs.public.OneReplies.{one-reply}
 use Rattle.machine.specs.AtMachine.{AtMachine, object}
 use Rattle.machine.specs.Branching.{in_branch, is_free, FirstFree, AllKeptBack, Branched, StepsBranch}
-use Rattle.machine.specs.walking.Choosing.{line_of_first, moves, FirstAt, Takes}
-use Rattle.machine.specs.declared.branching.BranchReply.{BranchReply}
-use Rattle.machine.specs.declared.branching.BranchReply.TheVariants.{Stepped, Stopped, Idle, Refused}
-use Rattle.machine.proofs.Branches.{moving-chosen, taken-branched, back-branched}
+use Rattle.machine.specs.internal.Choosing.{line_of_first, moves, FirstAt, Takes}
+use Rattle.machine.specs.declared.branch.BranchReply.{BranchReply}
+use Rattle.machine.specs.declared.branch.BranchReply.TheVariants.{Stepped, Stopped, Idle, Refused}
+use Rattle.machine.proofs.public.Branches.{moving-chosen, taken-branched, back-branched}
 
 -- one event alone is the first of a list that passes
 one-first : (free : Event → Bool) (xs ys after later : List Event) (e f : Event) → xs ++ e ∷ after ≡ ys ++ f ∷ later → free e ≡ true → free f ≡ true →

@@ -7,7 +7,7 @@ use Rattle.syntax.specs.Lists.{Every}
 use Rattle.runs.specs.Object.{Object}
 use Rattle.machine.specs.AtMachine.{AtMachine}
 use Rattle.machine.specs.Branching.{StepsBranch}
-use Rattle.machine.specs.declared.branching.BranchReply.{BranchReply}
+use Rattle.machine.specs.declared.branch.BranchReply.{BranchReply}
 use Rattle.recorded_calls.specs.declared.entry.Entry.{Entry}
 use Rattle.recorded_calls.specs.History.{calls_by, NoCallsFrom, Replays}
 use Rattle.locked_object.specs.Passes.{number, own}

@@ -8,14 +8,14 @@ use Rattle.runs.specs.declared.command.Refusal.{Refusal}
 use Rattle.runs.specs.declared.command.Refusal.TheVariants.{Memory}
 use Rattle.machine.specs.AtMachine.{object}
 use Rattle.machine.specs.Branching.{StepsBranch}
-use Rattle.machine.specs.declared.branching.BranchReply.{BranchReply}
+use Rattle.machine.specs.declared.branch.BranchReply.{BranchReply}
 use Rattle.locked_execution.specs.AtDesk.{AtDesk, execution, breaks_of, with_breaks}
 use Rattle.locked_execution.specs.Performs.{Answers, OnExecution, OnBranch, SetsBreak, ClearsBreak, session_reply, branch_reply}
 use Rattle.locked_execution.specs.Frames.{OnlyBreaksAndClears, OthersKeepTheirs, OthersKeepTheirsOverLists, BreakLeavesExecution, ClearLeavesExecution, RefusalLeavesAll, BreakSets, ClearClears}
 use Rattle.locked_execution.specs.declared.command.Command.{Command}
 use Rattle.locked_execution.specs.declared.command.Reply.{Reply}
 use Rattle.locked_execution.proofs.LineLaws.{line-in, line-out}
-use Rattle.locked_execution.proofs.Unchanged.{refused-leaves, all-same}
+use Rattle.locked_execution.proofs.public.Unchanged.{refused-leaves, all-same}
 
 -- a command of the execution keeps the breakpoints
 kept : (d d' : AtDesk) (c : runs_command.Command) (reply : Reply) →

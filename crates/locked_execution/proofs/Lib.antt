@@ -1,18 +1,15 @@
-pub mod AskedLists
-pub mod BackLaws
-pub mod BranchReplies
-pub mod BridgeLaws
-pub mod CallCounts
-pub mod CrewLaws
-pub mod Crossing
-pub mod ExpressionCrossing
-pub mod FrameLaws
-pub mod HistoryLaws
-pub mod LineLaws
-pub mod MachineCrossing
-pub mod OneReplies
-pub mod SomeReplies
-pub mod SystemCrossing
-pub mod TreeCrossing
-pub mod Unchanged
-pub mod WorkLemmas
+pub mod public
+mod BranchReplies
+mod CallCounts
+mod CrewLaws
+mod Crossing
+mod ExpressionCrossing
+mod FrameLaws
+mod HistoryLaws
+mod LineLaws
+mod MachineCrossing
+mod OneReplies
+mod SomeReplies
+mod SystemCrossing
+mod TreeCrossing
+mod WorkLemmas

@@ -6,7 +6,7 @@ use Rattle.std.proofs.MapsCrossing as crossingMaps
 use Rattle.channel_uses.proofs.part.Part.TheLaws.TheKnot as partKnot
 use Rattle.address.proofs.Address.TheSendSync as addressCrosses
 use Rattle.address.proofs.Entry.TheSendSync as entryCrosses
-use Rattle.dependence.proofs.held.HeldLinks.TheSendSync as heldLinksCrosses
+use Rattle.dependence.proofs.boxed_links.BoxedLinks.TheSendSync as heldLinksCrosses
 use Rattle.dependence.proofs.links.Links.TheSendSync as linksCrosses
 use Rattle.dependence.specs.contracts.live.Live as live
 use Rattle.last_events.proofs.branch.BranchEvents.TheLaws.TheKnot as branchKnot

@@ -6,7 +6,7 @@ use Rattle.runs.specs.Sound.{Sound}
 use Rattle.runs.specs.declared.command.Command as runs_command
 use Rattle.runs.specs.declared.command.Refusal.{Refusal}
 use Rattle.runs.specs.declared.command.Refusal.TheVariants.{BreaksFull, NoSuchLine}
-use Rattle.runs.proofs.OneReplies.{one-reply}
+use Rattle.runs.proofs.public.OneReplies.{one-reply}
 use Rattle.machine.specs.Breakpoints.{most_breaks}
 use Rattle.locked_execution.specs.AtDesk.{AtDesk, execution, breaks_of}
 use Rattle.locked_execution.specs.Performs.{OnExecution, OnBranch, RefusesBreak, SetsBreak, ClearsBreak, session_reply, branch_reply}
@@ -14,7 +14,7 @@ use Rattle.locked_execution.specs.Replies.{OneReply}
 use Rattle.locked_execution.specs.declared.command.Command.{Command}
 use Rattle.locked_execution.specs.declared.command.Reply.{Reply}
 use Rattle.locked_execution.proofs.BranchReplies.{one-branch}
-use Rattle.locked_execution.proofs.Unchanged.{all-same}
+use Rattle.locked_execution.proofs.public.Unchanged.{all-same}
 
 -- two replies and what is left after them are the same
 abbrev Same : Reply → Reply → AtDesk → AtDesk → Type 0

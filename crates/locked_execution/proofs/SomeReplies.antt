@@ -9,8 +9,8 @@ use Rattle.runs.specs.Does.{Does}
 use Rattle.runs.specs.Sound.{Sound}
 use Rattle.runs.specs.declared.command.Command as runs_command
 use Rattle.runs.specs.declared.command.Refusal.TheVariants.{BreaksFull, NoSuchLine}
-use Rattle.runs.proofs.Effects.{Effect, unchanged, added, taken, does-effect}
-use Rattle.runs.proofs.SomeReplies.{some-reply}
+use Rattle.runs.proofs.public.Effects.{Effect, unchanged, added, taken, does-effect}
+use Rattle.runs.proofs.public.SomeReplies.{some-reply}
 use Rattle.machine.specs.Breakpoints.{most_breaks, with_line, without_line}
 use Rattle.locked_execution.specs.AtDesk.{AtDesk, execution, breaks_of, with_breaks}
 use Rattle.locked_execution.specs.Performs.{Performs, OnExecution, session_reply, branch_reply}

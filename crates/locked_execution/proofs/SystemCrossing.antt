@@ -33,7 +33,7 @@ use Rattle.std.proofs.sync.Arc.TheSendSync as arcCrosses
 use Rattle.std.proofs.vec.Vec.TheSendSync as vecCrosses
 use Rattle.syntax.proofs.items.Items.TheSendSync as itemsCrosses
 use Rattle.syntax.proofs.name.Name.TheSendSync as nameCrosses
-use Rattle.system.proofs.hash_places.HashPlaces.TheSendSync as hashPlacesCrosses
+use Rattle.system.proofs.hash_positions.HashPositions.TheSendSync as hashPlacesCrosses
 use Rattle.value.proofs.width.Width.TheSendSync as widthCrosses
 
 pub ruleset maps = (arrayVecCrosses.the_send, arrayVecCrosses.the_sync, cellsCrosses.the_field_send, cellsCrosses.the_field_sync, cellsCrosses.the_send, cellsCrosses.the_sync, buildHasherDefaultCrosses.the_field_send, buildHasherDefaultCrosses.the_field_sync, buildHasherDefaultCrosses.the_send, buildHasherDefaultCrosses.the_sync, indexMapCrosses.the_send, indexMapCrosses.the_sync, smallVecCrosses.the_send, smallVecCrosses.the_sync, dataCrosses.the_field_send, dataCrosses.the_field_sync, dataCrosses.the_send, dataCrosses.the_sync, arcCrosses.the_send, arcCrosses.the_sync, vecCrosses.the_send, vecCrosses.the_sync, globalCrosses.the_field_send, globalCrosses.the_field_sync, globalCrosses.the_send, globalCrosses.the_sync, itemsCrosses.the_send, itemsCrosses.the_sync, nameCrosses.the_send, nameCrosses.the_sync, hashPlacesCrosses.the_send, hashPlacesCrosses.the_sync, widthCrosses.the_send, widthCrosses.the_sync, foldHasherCrosses.the_field_send, foldHasherCrosses.the_field_sync, foldHasherCrosses.the_send, foldHasherCrosses.the_sync, optionCrosses.the_field_send, optionCrosses.the_field_sync, optionCrosses.the_send, optionCrosses.the_sync, memoryCrosses.the_field_send, memoryCrosses.the_field_sync, memoryCrosses.the_send, memoryCrosses.the_sync, columnsCrosses.the_send, columnsCrosses.the_sync, bucketCrosses.the_field_send, bucketCrosses.the_field_sync, bucketCrosses.the_send, bucketCrosses.the_sync, indexTableCrosses.the_send, indexTableCrosses.the_sync, groupCrosses.the_field_send, groupCrosses.the_field_sync, groupCrosses.the_send, groupCrosses.the_sync, branchSend.the_send, branchSend.the_sync, branchSend.the_field_send, branchSend.the_field_sync, kindSend.the_send, kindSend.the_sync, kindSend.the_field_send, kindSend.the_field_sync)

@@ -11,7 +11,7 @@ use Rattle.locked_object.specs.Sharing.{NewPasses}
 use Rattle.locked_object.specs.declared.pass.Pass.{Pass}
 use Rattle.object_workers.specs.Dealt.{total}
 use Rattle.object_workers.specs.Runs.{steps_in, PassesFit, PassesRan, WorkersRan}
-use Rattle.object_workers.proofs.Turns.{steps_few}
+use Rattle.object_workers.proofs.public.Turns.{steps_few}
 use Rattle.system.specs.declared.system.System.{System}
 use Rattle.system_places.specs.SystemBranches.{branch_count}
 use Rattle.machine.specs.AtMachine.{AtMachine}

@@ -11,8 +11,8 @@ use Rattle.locked_execution.specs.Performs as performs
 use Rattle.locked_execution.specs.declared.command.Command.{Command}
 use Rattle.locked_execution.specs.declared.command.Reply.{Reply}
 
--- the command of the execution that a session's command is where it is answered so: a step in a branch is the step of the
--- event that it took; the others are none
+-- the command of the execution that a session's command is where it is answered so: a step in a branch is the step of
+-- the event that it took; the others are none
 abbrev pub on_execution : Command → Reply → Option runs_command.Command
 on_execution (Command.Step c) reply = Some (runs_command.Command.Step c)
 on_execution (Command.Undo t) reply = Some (runs_command.Command.Undo t)
@@ -49,13 +49,16 @@ replies_of (x ∷ xs) (reply ∷ replies) = onto (replied x.1 reply) (replies_of
 
 -- what a session is answered, the execution answers; where its command is none of the execution, that stays as it is
 abbrev pub IsOnExecution : Type 0
-IsOnExecution = (d d' : AtDesk) (session : ℕ) (command : Command) (reply : Reply) → performs.Answers d session command reply d' →
+IsOnExecution =
+    (d d' : AtDesk) (session : ℕ) (command : Command) (reply : Reply) → performs.Answers d session command reply d' →
     MatchOption (on_execution command reply)
     (d'.machine ≡ d.machine)
-    (λ c. (answer : runs_reply.Reply) × (performs.session_reply answer ≡ reply) × Answers (execution d) c answer (execution d'))
+    (λ c. (answer : runs_reply.Reply) × (performs.session_reply answer ≡ reply)
+    × Answers (execution d) c answer (execution d'))
 
 -- and so it is with lists
 abbrev pub AreOnExecution : Type 0
-AreOnExecution = (d d' : AtDesk) (commands : List (ℕ × Command)) (replies : List Reply) → Answered d commands replies d' →
+AreOnExecution =
+    (d d' : AtDesk) (commands : List (ℕ × Command)) (replies : List Reply) → Answered d commands replies d' →
     (answers : List runs_reply.Reply) × (map performs.session_reply answers ≡ replies_of commands replies)
     × calculus.Answered (execution d) (commands_of commands replies) answers (execution d')

@@ -25,14 +25,18 @@ DependentsGoAlong o o' = (t u : ℕ) (e f : Event) → LiveAt o.live t e → (Li
 
 -- so it is with any commands of sessions: none of them, and no list of them, takes less
 abbrev pub NoneTakeLess : Type 0
-NoneTakeLess = (d d' : AtDesk) (commands : List (ℕ × Command)) (replies : List Reply) → Sound (execution d) → Answered d commands replies d' →
+NoneTakeLess =
+    (d d' : AtDesk) (commands : List (ℕ × Command)) (replies : List Reply) → Sound (execution d) →
+    Answered d commands replies d' →
     DependentsGoAlong (execution d) (execution d')
 
 -- a rollback takes these and no others: exactly the events that do not depend on its event stay live
 abbrev pub RollTakesNoOthers : Type 0
-RollTakesNoOthers = (d d' : AtDesk) (session t n : ℕ) → Sound (execution d) → Performs d session (Command.Roll t) (Reply.Rolled n) d' →
+RollTakesNoOthers =
+    (d d' : AtDesk) (session t n : ℕ) → Sound (execution d) → Performs d session (Command.Roll t) (Reply.Rolled n) d' →
     (e : Event) × LiveAt d.machine.live t e
-    × ((u : ℕ) (f : Event) → LiveAt d'.machine.live u f ↔ (LiveAt d.machine.live u f × (Causes (events d.machine.live) e f → ⊥)))
+    × ((u : ℕ) (f : Event) → LiveAt d'.machine.live u f ↔
+    (LiveAt d.machine.live u f × (Causes (events d.machine.live) e f → ⊥)))
     × (n + length d'.machine.live ≡ length d.machine.live)
 
 -- the consequences of an event are the tickets of what a rollback of it would take, ascending
@@ -44,9 +48,13 @@ ConsequencesTellRoll = (d d' : AtDesk) (session t : ℕ) (ts : List ℕ) → Sou
 
 -- a rollback of a variable leaves it with the value that it had just before its last live writer
 abbrev pub ValueFromBefore : Type 0
-ValueFromBefore = (d d' : AtDesk) (session x n : ℕ) → Sound (execution d) → Performs d session (Command.RollValue x) (Reply.Rolled n) d' →
-    (before : Live) × (t : ℕ) × (e : Event) × (after : Live) × (d.machine.live ≡ before ++ (t, e) ∷ after) × (e.written ≡ Some x) × NoWriter after x
-    × ((S T : State) → Run (execution d).opening (events before) S → Reaches (execution d') T → get T.store x ≡ get S.store x)
+ValueFromBefore =
+    (d d' : AtDesk) (session x n : ℕ) → Sound (execution d) →
+    Performs d session (Command.RollValue x) (Reply.Rolled n) d' →
+    (before : Live) × (t : ℕ) × (e : Event) × (after : Live) × (d.machine.live ≡ before ++ (t, e) ∷ after)
+    × (e.written ≡ Some x) × NoWriter after x
+    × ((S T : State) → Run (execution d).opening (events before) S → Reaches (execution d') T →
+    get T.store x ≡ get S.store x)
 
 -- the command of a session that a command of the execution is
 abbrev pub session_command : runs_command.Command → Command
@@ -60,22 +68,24 @@ session_command (runs_command.Command.Consequences t) = Command.Consequences t
 session_command runs_command.Command.Live = Command.Live
 session_command (runs_command.Command.Value x) = Command.Value x
 
--- the commands of one session are performed in their order with these replies, one each, and leave d'; none wants memory
+-- the commands of one session are performed in their order with these replies, one each, and leave d'; none wants
+-- memory
 abbrev pub PerformsAll : AtDesk → ℕ → List Command → List Reply → AtDesk → Type 0
 PerformsAll d session [] replies d' = (replies ≡ []) × (d' ≡ d)
 PerformsAll d session (c ∷ cs) replies d' =
     (reply : Reply) × (rest : List Reply) × (middle : AtDesk)
     × (replies ≡ reply ∷ rest) × Performs d session c reply middle × PerformsAll middle session cs rest d'
 
--- from d to d', all amounts to undos of what went, from the greatest ticket down, and then steps of what came, in order of
--- tickets, each of which makes that very event: a session that asks these is answered so, and then the same events are live,
--- in the same order, and the state is the same
+-- from d to d', all amounts to undos of what went, from the greatest ticket down, and then steps of what came, in order
+-- of tickets, each of which makes that very event: a session that asks these is answered so, and then the same events
+-- are live, in the same order, and the state is the same
 abbrev pub AmountsToBackAndForth : AtDesk → AtDesk → Type 0
 AmountsToBackAndForth d d' = (session : ℕ) →
     (p : AtDesk)
     × PerformsAll d session (map session_command (back_and_forth d.machine.live d'.machine.live))
     (map session_reply (back_and_forth_replies d.machine.next d.machine.live d'.machine.live)) p
-    × (events p.machine.live ≡ events d'.machine.live) × ((T : State) → Reaches (execution p) T ↔ Reaches (execution d') T)
+    × (events p.machine.live ≡ events d'.machine.live)
+    × ((T : State) → Reaches (execution p) T ↔ Reaches (execution d') T)
 
 -- so do any commands of sessions, on a system that keeps the rule on sharing, as each machine does
 abbrev pub AllAmountToBackAndForth : Type 0

@@ -14,4 +14,5 @@ HistoryIsAnswered = (d d' : AtDesk) (log : History) → Replays Keeps d log d' �
 
 -- after a legal history on a sound execution one may rely on what one may rely on after any commands
 abbrev pub HistoryKeepsHeadline : Type 0
-HistoryKeepsHeadline = (d d' : AtDesk) (log : History) → Sound (execution d) → Replays Keeps d log d' → Headline (execution d')
+HistoryKeepsHeadline =
+    (d d' : AtDesk) (log : History) → Sound (execution d) → Replays Keeps d log d' → Headline (execution d')

@@ -9,7 +9,7 @@ use Rattle.runs.specs.declared.command.Refusal.{Refusal}
 use Rattle.runs.specs.declared.command.Refusal.TheVariants.{Memory, BreaksFull, NoSuchLine}
 use Rattle.machine.specs.Breakpoints.{most_breaks, with_line, without_line}
 use Rattle.machine.specs.Branching.{StepsBranch}
-use Rattle.machine.specs.declared.branching.BranchReply.{BranchReply}
+use Rattle.machine.specs.declared.branch.BranchReply.{BranchReply}
 use Rattle.locked_execution.specs.AtDesk.{AtDesk, execution, breaks_of, with_breaks}
 use Rattle.locked_execution.specs.declared.command.Command.{Command}
 use Rattle.locked_execution.specs.declared.command.Reply.{Reply}
@@ -42,20 +42,23 @@ OnExecution d c reply d' =
 -- a step in the branch, past the breakpoints of the session: no breakpoint changes
 abbrev pub OnBranch : AtDesk → ℕ → ℕ → Reply → AtDesk → Type 0
 OnBranch d session k reply d' =
-    (answer : BranchReply) × (reply ≡ branch_reply answer) × StepsBranch d.machine k (breaks_of d session) answer d'.machine
+    (answer : BranchReply) × (reply ≡ branch_reply answer)
+    × StepsBranch d.machine k (breaks_of d session) answer d'.machine
     × (d'.machine.checked ≡ d.machine.checked) × (d'.breaks ≡ d.breaks)
 
 -- why a session gets no breakpoint on a line: no command begins there; or it has none there yet, and as many as may be
 abbrev pub RefusesBreak : AtDesk → ℕ → ℕ → Refusal → Type 0
 RefusesBreak d session line NoSuchLine = begins line d.machine.checked.main ≡ false
 RefusesBreak d session line BreaksFull =
-    (begins line d.machine.checked.main ≡ true) × (is_in line (breaks_of d session) ≡ false) × (most_breaks ≤ length (breaks_of d session))
+    (begins line d.machine.checked.main ≡ true) × (is_in line (breaks_of d session) ≡ false)
+    × (most_breaks ≤ length (breaks_of d session))
 RefusesBreak d session line _ = ⊥
 
 -- a breakpoint of the session on a line on which a command begins: it has it already, or there is room for it
 abbrev pub SetsBreak : AtDesk → ℕ → ℕ → Reply → AtDesk → Type 0
 SetsBreak d session line Reply.Done d' =
-    (begins line d.machine.checked.main ≡ true) × ((is_in line (breaks_of d session) ≡ true) ⊎ (length (breaks_of d session) < most_breaks))
+    (begins line d.machine.checked.main ≡ true)
+    × ((is_in line (breaks_of d session) ≡ true) ⊎ (length (breaks_of d session) < most_breaks))
     × (d' ≡ with_breaks d session (with_line line (breaks_of d session)))
 SetsBreak d session line (Reply.Refused why) d' = RefusesBreak d session line why × (d' ≡ d)
 SetsBreak d session line _ d' = ⊥

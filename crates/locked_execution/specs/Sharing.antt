@@ -12,7 +12,8 @@ use Rattle.locked_execution.specs.declared.command.Reply.{Reply}
 abbrev pub History : Type 0
 History = List (Entry Command Reply)
 
--- the command of the session is answered by this reply, which is recorded, and leaves d': any reply but that no ticket is left
+-- the command of the session is answered by this reply, which is recorded, and leaves d': any reply but that no ticket
+-- is left
 abbrev pub Keeps : AtDesk → ℕ → Command → Reply → AtDesk → Type 0
 Keeps d session command reply d' = Performs d session command reply d' × (reply ≡ Reply.Refused Spent → ⊥)
 

@@ -17,16 +17,18 @@ use Rattle.locked_execution.specs.declared.command.Reply.{Reply}
 abbrev pub unstepped : System → AtDesk
 unstepped system = new_desk (record { checked = system; live = []; next = 1 })
 
--- so many workers took so many turns each, of which so many were steps: each had a new pass of one shared execution of the system, and
--- these are the passes afterwards
-pub record CountsSteps (system : System) (workers turns stepped : ℕ) (after : List (Pass AtDesk Command Reply)) : Type 0 where
+-- so many workers took so many turns each, of which so many were steps: each had a new pass of one shared execution of
+-- the system, and these are the passes afterwards
+pub record CountsSteps (system : System) (workers turns stepped : ℕ)
+    (after : List (Pass AtDesk Command Reply)) : Type 0 where
   -- where the calls of the execution are counted
   pub table : TableId
   pub before : List (Pass AtDesk Command Reply)
   pub lost : ℕ
   pub new : NewPasses table (unstepped system) workers before
   -- the steps are those among the calls that the passes have made
-  pub ran : WorkersRan table (unstepped system) Command.Branch (branch_count system) turns is_step before after stepped lost
+  pub ran : WorkersRan table (unstepped system) Command.Branch (branch_count system) turns is_step before after stepped
+      lost
   -- no more than there were turns
   pub few : stepped ≤ workers * turns
 
@@ -53,4 +55,5 @@ pub record Worked (system : System) (workers turns stepped live : ℕ) : Type 0 
 
 -- workers take nothing back, and nobody else made a call: each event that is live is that of one turn that was a step
 abbrev pub LiveAreStepped : Type 0
-LiveAreStepped = (system : System) (workers turns stepped live : ℕ) → Worked system workers turns stepped live → live ≡ stepped
+LiveAreStepped =
+    (system : System) (workers turns stepped live : ℕ) → Worked system workers turns stepped live → live ≡ stepped

@@ -5,7 +5,7 @@ ghost use Rattle.machine.specs.Headline.{Headline};
 ghost use Rattle.recorded_calls.specs.History.{NoCallsFrom};
 ghost use Rattle.object_workers.specs.Runs.{WorkersRan, AllSawLegal};
 ghost use Rattle.locked_object.specs.Keepers.{IsKeeperOf, passes_made};
-ghost use Rattle.locked_object.specs.Passes.{number, seen, own, told};
+ghost use Rattle.locked_object.specs.Passes.{number, seen_history, own, told_history};
 ghost use Rattle.locked_object.specs.Sharing.{NewPasses};
 ghost use Rattle.locked_execution.specs.AtDesk.{execution, new_desk};
 ghost use Rattle.locked_execution.specs.Sharing.{Keeps, Legal, is_step};
@@ -49,9 +49,9 @@ impl Shared {
         self.branches
     }
 
-    /// Answers the command of a pass under the lock, for which it may wait. Want of memory is not recorded, nor is 26, where no
-    /// ticket is left or 2^63 calls are recorded; all else is. Where the call is not recorded the pass is told the history that says
-    /// why; if it asks for the `length` next, it has seen at least that.
+    /// Answers the command of a pass under the lock, for which it may wait. Want of memory is not recorded, nor is 26,
+    /// where no ticket is left or 2^63 calls are recorded; all else is. Where the call is not recorded the pass is told
+    /// the history that says why; if it asks for the `length` next, it has seen at least that.
     pub fn call<W: Wait>(&self, rt: &W, pass: &mut Pass, command: &Command) -> Reply
         requires { IsPassOf self.now pass.old }
         ensures pass { IsPassOf self.now pass.new × (number pass.new ≡ number pass.old) }
@@ -64,14 +64,16 @@ impl Shared {
         }
     }
 
-    /// The number of recorded calls. It waits for nobody and takes no memory. The pass has then seen the history of that length.
+    /// The number of recorded calls. It waits for nobody and takes no memory. The pass has then seen the history of
+    /// that length.
     pub fn length(&self, pass: &mut Pass) -> u64
         requires { IsPassOf self.now pass.old }
-        ensures pass { IsPassOf self.now pass.new × (number pass.new ≡ number pass.old) × (own pass.new ≡ own pass.old) }
-        ensures length { length (seen pass.new) ≡ result }
-        ensures legal { Legal (opening self.now) (seen pass.new) }
-        ensures before { IsPrefix (seen pass.old) (seen pass.new) }
-        ensures told { IsPrefix (told pass.old) (seen pass.new) }
+        ensures pass { IsPassOf self.now pass.new × (number pass.new ≡ number pass.old)
+            × (own pass.new ≡ own pass.old) }
+        ensures length { length (seen_history pass.new) ≡ result }
+        ensures legal { Legal (opening self.now) (seen_history pass.new) }
+        ensures before { IsPrefix (seen_history pass.old) (seen_history pass.new) }
+        ensures told { IsPrefix (told_history pass.old) (seen_history pass.new) }
     {
         self.object.length(pass)
     }
@@ -81,19 +83,20 @@ impl Shared {
         requires one { IsPassOf self.now one.old }
         requires other { IsPassOf self.now other.old }
         ensures one { IsPassOf self.now one.new × (number one.new ≡ number one.old) × (own one.new ≡ own one.old) }
-        ensures other { IsPassOf self.now other.new × (number other.new ≡ number other.old) × (own other.new ≡ own other.old) }
-        ensures same { seen one.new ≡ seen other.new }
-        ensures length { length (seen one.new) ≡ result }
-        ensures legal { Legal (opening self.now) (seen one.new) }
-        ensures one_before { IsPrefix (seen one.old) (seen one.new) }
-        ensures other_before { IsPrefix (seen other.old) (seen other.new) }
+        ensures other { IsPassOf self.now other.new × (number other.new ≡ number other.old)
+            × (own other.new ≡ own other.old) }
+        ensures same { seen_history one.new ≡ seen_history other.new }
+        ensures length { length (seen_history one.new) ≡ result }
+        ensures legal { Legal (opening self.now) (seen_history one.new) }
+        ensures one_before { IsPrefix (seen_history one.old) (seen_history one.new) }
+        ensures other_before { IsPrefix (seen_history other.old) (seen_history other.new) }
     {
         self.object.meet(one, other)
     }
 
-    /// Runs a worker for each pass, each in a thread of its own where one can be made, for so many turns: a turn steps a branch. It tells the passes in
-    /// their order, how many turns were steps, and how many were lost: their call was not recorded. Without memory the passes come
-    /// back as they were.
+    /// Runs a worker for each pass, each in a thread of its own where one can be made, for so many turns: a turn steps
+    /// a branch. It tells the passes in their order, how many turns were steps, and how many were lost: their call was
+    /// not recorded. Without memory the passes come back as they were.
     pub fn run_workers<W: Threads + Wait + Sync, G: Gate + Sync>(
         &self,
         rt: &W,
@@ -105,7 +108,10 @@ impl Shared {
         requires passes { ArePassesOf self.now passes.items }
         requires few { length passes.items ≤ 16 }
         requires turns { turns ≤ 2 ^ 57 }
-        ensures ran { IfOk result (λ ran. WorkersRan (table self.now) (opening self.now) any.Command.Branch (branch_count (opening self.now).machine.checked) turns is_step passes.items ran.passes.items ran.stepped ran.lost) }
+        ensures ran { IfOk result (λ ran.
+            WorkersRan (table self.now) (opening self.now) any.Command.Branch
+            (branch_count (opening self.now).machine.checked) turns is_step passes.items ran.passes.items ran.stepped
+            ran.lost) }
         ensures legal { IfOk result (λ ran. AllSawLegal Keeps (opening self.now) passes.items ran.passes.items) }
         ensures refused { IfErr result (λ back. back.0.items ≡ passes.items) }
     {
@@ -115,8 +121,8 @@ impl Shared {
         }
     }
 
-    /// The execution, once no pass calls it any more. It waits for nobody, so that no clause says which calls are behind it, but
-    /// that its state is what its live events give; `finish_seen` says more.
+    /// The execution, once no pass calls it any more. It waits for nobody, so that no clause says which calls are
+    /// behind it, but that its state is what its live events give; `finish_seen` says more.
     pub fn finish(self) -> Machine
         ensures sound { Headline (execution (new_desk result)) }
     {
@@ -125,14 +131,14 @@ impl Shared {
         machine
     }
 
-    /// The execution, once no pass calls it any more, with its recorded calls behind it, which the pass has then seen: calls of its
-    /// passes, and of nobody else. It takes the lock, for which it may wait.
+    /// The execution, once no pass calls it any more, with its recorded calls behind it, which the pass has then seen:
+    /// calls of its passes, and of nobody else. It takes the lock, for which it may wait.
     pub fn finish_seen<W: Wait>(self, rt: &W, pass: &mut Pass) -> Machine
         requires { IsPassOf self pass.old }
         ensures pass { IsPassOf self pass.new × (number pass.new ≡ number pass.old) × (own pass.new ≡ own pass.old) }
-        ensures before { IsPrefix (seen pass.old) (seen pass.new) }
-        ensures left { Leaves (opening self) (seen pass.new) result }
-        ensures no_others { NoCallsFrom (passes_of self) (seen pass.new) }
+        ensures before { IsPrefix (seen_history pass.old) (seen_history pass.new) }
+        ensures left { Leaves (opening self) (seen_history pass.new) result }
+        ensures no_others { NoCallsFrom (passes_of self) (seen_history pass.new) }
     {
         let (board, mut keeper) = self.object.close(rt);
         keeper.show(&board, pass);

@@ -51,7 +51,8 @@ impl Gate for Open {
 impl Crew {
     /// So many workers and turns; `None` where there are more than a crew may have.
     pub fn new(workers: u32, turns: u64) -> Option<Crew>
-        ensures { MatchOption result ((16 < workers) ⊎ (1000000 < turns)) (λ crew. (crew.workers ≡ workers) × (crew.turns ≡ turns)) }
+        ensures { MatchOption result ((16 < workers)
+            ⊎ (1000000 < turns)) (λ crew. (crew.workers ≡ workers) × (crew.turns ≡ turns)) }
     {
         if workers <= MOST_WORKERS && turns <= u64::from(MOST_TURNS) {
             Some(Crew { workers, turns })
@@ -60,8 +61,8 @@ impl Crew {
         }
     }
 
-    /// Steps a new execution of the system: each worker has a pass of its own, and a turn steps a branch. It may wait for the
-    /// lock. Refused for want of memory alone.
+    /// Steps a new execution of the system: each worker has a pass of its own, and a turn steps a branch. It may wait
+    /// for the lock. Refused for want of memory alone.
     pub fn work<W: Threads + Wait + Sync>(
         self,
         rt: &W,

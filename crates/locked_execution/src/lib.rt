@@ -1,5 +1,5 @@
-//! One execution of a description and the sessions of the designers who work on it: they take events, take them back, ask
-//! what is live, and step a branch up to their breakpoints.
+//! One execution of a description and the sessions of the designers who work on it: they take events, take them back,
+//! ask what is live, and step a branch up to their breakpoints.
 #![tactic(auto)]
 
 mod asked;
@@ -11,7 +11,7 @@ mod fault;
 mod keeper;
 mod laws;
 mod object;
-mod performing;
+mod perform;
 mod shared;
 
 pub use asked::run_commands;

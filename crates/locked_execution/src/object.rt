@@ -43,8 +43,11 @@ impl Branches<Command, Reply> for Desk {
 /// The reply, as an error where it is not recorded: there was no memory, or no ticket.
 fn if_kept(reply: Reply) -> Result<Reply, Reply>
     ensures { MatchResult result
-        (λ r. (r ≡ reply) × (reply ≡ any.Reply.Refused refusal.Refusal.Memory → ⊥) × (reply ≡ any.Reply.Refused refusal.Refusal.Spent → ⊥))
-        (λ r. (r ≡ reply) × ((reply ≡ any.Reply.Refused refusal.Refusal.Memory) ⊎ (reply ≡ any.Reply.Refused refusal.Refusal.Spent))) }
+        (λ r. (r ≡ reply) × (reply ≡ any.Reply.Refused refusal.Refusal.Memory → ⊥)
+        × (reply ≡ any.Reply.Refused refusal.Refusal.Spent → ⊥))
+        (λ r. (r ≡ reply)
+        × ((reply ≡ any.Reply.Refused refusal.Refusal.Memory)
+        ⊎ (reply ≡ any.Reply.Refused refusal.Refusal.Spent))) }
 {
     match reply {
         Reply::Refused(Refusal::Memory) => Err(Reply::Refused(Refusal::Memory)),

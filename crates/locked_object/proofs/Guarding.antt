@@ -1,4 +1,4 @@
--- The two steps of the vault keep its rule.
+-- The two steps of the cell keep its rule.
 use Rattle.std.proofs.Common.{◌≡◌, ℕ, zero, suc, List, [], ◌∷◌, set, refl, ap, sym, ◌∙◌, subst}
 use mathlib.Core.Option.{Option, some, none, some-injective, some-ne-none}
 use lib.ListN.{get_elem?}
@@ -7,8 +7,8 @@ use Rattle.atomic_table.specs.Seated.{TableId}
 use Rattle.locked_object.specs.Guards.{Guards, Stays, TakesKeeper, GivesKeeper}
 use Rattle.locked_object.specs.Keepers.{IsKeeperOf, IsKeeperFor}
 use Rattle.locked_object.specs.declared.keeper.Keeper.{Keeper}
-use Rattle.locked_object.specs.declared.vault.Place.{Place}
-use Rattle.locked_object.specs.declared.vault.Place.TheVariants.{Home, Away}
+use Rattle.locked_object.specs.declared.cell.Place.{Place}
+use Rattle.locked_object.specs.declared.cell.Place.TheVariants.{Home, Away}
 
 -- the only seat
 one-seat : (v u : Place) (id : ℕ) → get_elem? (v ∷ []) id ≡ some u → (id ≡ 0) × (v ≡ u)
@@ -45,7 +45,7 @@ module _ {D C R : Type 0} (performs : D → ℕ → C → R → D → Type 0) (t
       → Allows (Guards performs table opening count) slots id me 0 (λ n. n) (λ _. GivesKeeper)
   gives_at slots id me k is fits = subst (λ (m : Me (Keeper D C R) Place). Allows (Guards performs table opening count) slots id m 0 (λ n. n) (λ _. GivesKeeper)) (sym is) (gives-away slots id k fits)
 
-  -- the keeper that is found where the vault is closed while its seat knows it at home
+  -- the keeper that is found where the cell is closed while its seat knows it at home
   pub closed_keeper : (id : ℕ) (u : Place) (words : List ℕ) (slots : List (Keeper D C R)) (x : Keeper D C R) → u ≡ Home → Final (Seen (Guards performs table opening count) id u) words slots → get_elem? slots 0 ≡ some x
       → IsKeeperFor performs table opening count x
   closed_keeper id u words slots x home ended at =

@@ -3,7 +3,7 @@ use Rattle.std.proofs.Common.{◌≡◌, ℕ, ◌+◌, List, [], ◌∷◌, ◌+
 use Rattle.std.proofs.lemmas.List.{length-append}
 use Rattle.atomic_table.specs.Seated.{TableId}
 use Rattle.recorded_calls.specs.History.{Replays, entry_of}
-use Rattle.recorded_calls.specs.Seats.{IsScribeOf}
+use Rattle.recorded_calls.specs.Seats.{IsRecorderOf}
 use Rattle.recorded_calls.specs.declared.entry.Entry.{Entry}
 use Rattle.locked_object.specs.Keepers.{IsKeeperOf, history}
 use Rattle.locked_object.specs.declared.keeper.Keeper.{Keeper}
@@ -20,7 +20,7 @@ module _ {D C R : Type 0} (performs : D → ℕ → C → R → D → Type 0) wh
 
 module _ {D C R : Type 0} (performs : D → ℕ → C → R → D → Type 0) (table : TableId) (opening : D) where
   -- a keeper with the same object and the same history
-  pub keeper_same : (k k' : Keeper D C R) → IsScribeOf table opening k'.scribe → k'.object ≡ k.object → k'.calls ≡ k.calls → history k' ≡ history k → IsKeeperOf performs table opening k → IsKeeperOf performs table opening k'
+  pub keeper_same : (k k' : Keeper D C R) → IsRecorderOf table opening k'.recorder → k'.object ≡ k.object → k'.calls ≡ k.calls → history k' ≡ history k → IsKeeperOf performs table opening k → IsKeeperOf performs table opening k'
   keeper_same k k' notes object calls same fits =
       record {
         notes = notes;

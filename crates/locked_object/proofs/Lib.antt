@@ -1,3 +1,3 @@
-pub mod Guarding
-pub mod Histories
-pub mod Locking
+mod Guarding
+mod Histories
+mod Locking

@@ -5,7 +5,7 @@ use lib.ListN.{get_elem?}
 use prog.Atomic.{either}
 use Rattle.atomic_table.proofs.Lists.{at_set, set_again}
 use Rattle.atomic_table.specs.Marked.{Keeps, Comes}
-use Rattle.recorded_calls.proofs.Seating.{all_more}
+use Rattle.recorded_calls.proofs.public.Seating.{all_more}
 use Rattle.locked_object.specs.Lock.{OneHolds, Locked, Unlocked}
 use Rattle.locked_object.specs.declared.lock.Hold.{Hold}
 use Rattle.locked_object.specs.declared.lock.Hold.TheVariants.{Free, Held}

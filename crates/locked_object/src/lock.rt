@@ -1,4 +1,4 @@
-// The lock: a perch on which the vault's only seat rests while nobody has it.
+// The lock: a perch on which the cell's only seat rests while nobody has it.
 use atomic_table::{PerchPlay, PerchRule};
 
 /// What one caller knows of the lock.

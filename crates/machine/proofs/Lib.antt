@@ -1,12 +1,8 @@
-pub mod Branches
-pub mod Entries
-pub mod Gathering
-pub mod HeadlineLaws
-pub mod Marked
-pub mod NeverMemory
-pub mod SetLines
-pub mod Sites
-pub mod Standing
-pub mod Stepped
-pub mod TakenOut
-pub mod Withouts
+pub mod public
+mod Marked
+mod NeverMemory
+mod SetLines
+mod Sites
+mod Stepped
+mod TakenOut
+mod Withouts

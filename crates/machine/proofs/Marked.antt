@@ -9,23 +9,23 @@ use Rattle.runs.specs.Live.{Live, LiveAt, DependsOn, NoDependent, WithoutTickets
 use Rattle.runs.specs.Object.{Object, with_live}
 use Rattle.runs.specs.Does.{TakesOut}
 use Rattle.runs.specs.declared.event.Event.{Event}
-use Rattle.runs.proofs.DependsOnLaw.{depends-up}
-use Rattle.runs.proofs.Lists.{in-right, in-parts}
-use Rattle.runs.proofs.Tickets.{rising-in, rising-parts}
-use Rattle.runs.proofs.UndoLaws.{without-live}
+use Rattle.runs.proofs.public.DependsOnLaw.{depends-up}
+use Rattle.runs.proofs.public.Lists.{in-right, in-parts}
+use Rattle.runs.proofs.public.Tickets.{rising-in, rising-parts}
+use Rattle.runs.proofs.public.UndoLaws.{without-live}
 use Rattle.dependence.specs.Shown.{Shown}
 use Rattle.dependence.specs.Taking.{MarksAllDependents, NoneMarkedAt}
-use Rattle.dependence.proofs.Following.{follows-on, follows-in}
-use Rattle.dependence.proofs.ListPlaces.{at-within, in-at, in-take, take-all, drop-all}
+use Rattle.dependence.proofs.public.Following.{follows-on, follows-in}
+use Rattle.dependence.proofs.public.ListPlaces.{at-within, in-at, in-take, take-all, drop-all}
 use Rattle.event_inverse.specs.Grown.{TreeAndStore}
 use Rattle.event_inverse.specs.Laws.{UndoneBy}
 use Rattle.event_inverse.specs.View.{inverse_view}
 use Rattle.event_inverse.specs.declared.record.Inverse.{Inverse}
-use Rattle.event_inverse.specs.walking.Reverted.{reverted}
-use Rattle.machine.specs.walking.Histories.{Stands}
-use Rattle.machine.specs.walking.Marking.{MarksDependents, StandsFrom}
-use Rattle.machine.proofs.Entries.{take-next, drop-next, within-at, parts-at}
-use Rattle.machine.proofs.Standing.{revert-here, less-split}
+use Rattle.event_inverse.specs.internal.Reverted.{reverted}
+use Rattle.machine.specs.internal.Histories.{Stands}
+use Rattle.machine.specs.internal.Marking.{MarksDependents, StandsFrom}
+use Rattle.machine.proofs.public.Entries.{take-next, drop-next, within-at, parts-at}
+use Rattle.machine.proofs.public.Standing.{revert-here, less-split}
 use Rattle.machine.proofs.Withouts.{not-longer, without-entry, one-left, left-alike}
 
 -- as they were marked

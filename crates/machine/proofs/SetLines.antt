@@ -6,10 +6,10 @@ use Rattle.std.proofs.lemmas.Bool.Decides.{nat_tests}
 use Rattle.syntax.specs.Lists.{Every}
 use Rattle.system.specs.Expression.{is_in}
 use Rattle.runs.specs.InOrder.{InOrder}
-use Rattle.runs.proofs.Lists.{every-in, every-map}
+use Rattle.runs.proofs.public.Lists.{every-in, every-map}
 use Rattle.machine.specs.Breakpoints.{with_line}
-use Rattle.machine.specs.walking.Sorting.{lesser_count}
-use Rattle.runs.proofs.ReadTests.{is-in}
+use Rattle.machine.specs.internal.Sorting.{lesser_count}
+use Rattle.runs.proofs.public.ReadTests.{is-in}
 
 -- a line that is set is set once
 pub with-there : (n : ℕ) (l : List ℕ) → InOrder ◌<◌ l → is_in n l ≡ true → l ≡ with_line n l

@@ -17,16 +17,16 @@ use Rattle.runs.specs.Ready.{Sooner, ReadyList, Chosen}
 use Rattle.runs.specs.Steps.{State}
 use Rattle.runs.specs.declared.event.Event.{Event}
 use Rattle.runs.specs.declared.event.Choice.{Choice}
-use Rattle.runs.proofs.Lists.{every-in, in-parts, in-right}
-use Rattle.runs.proofs.ReadyLists.{sooner-asymmetric}
-use Rattle.runs.proofs.SortedLists.{same-elements}
-use Rattle.offered_sides.specs.Sides.{Under}
+use Rattle.runs.proofs.public.Lists.{every-in, in-parts, in-right}
+use Rattle.runs.proofs.public.ReadyLists.{sooner-asymmetric}
+use Rattle.runs.proofs.public.SortedLists.{same-elements}
+use Rattle.local_actions.specs.Actions.{Under}
 use Rattle.allowed_events.specs.ReadyBelow.{ReadyBelow}
 use Rattle.machine.specs.Branching.{is_branch}
-use Rattle.machine.specs.walking.Sites.{IsAtSite, ReadyWith, site_among}
-use Rattle.machine.specs.declared.branching.Site.{Site}
-use Rattle.machine.specs.declared.branching.Site.TheVariants.{Child, Body, Port, Unknown}
-use Rattle.machine.proofs.Entries.{parts-at}
+use Rattle.machine.specs.internal.Sites.{IsAtSite, ReadyWith, site_among}
+use Rattle.machine.specs.declared.branch.Site.{Site}
+use Rattle.machine.specs.declared.branch.Site.TheVariants.{Child, Body, Port, Unknown}
+use Rattle.machine.proofs.public.Entries.{parts-at}
 
 -- the branch of a place is that of this number: it lies in the body, or at a port
 abbrev pub InBody : System → ℕ → Place → Type 0

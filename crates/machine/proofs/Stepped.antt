@@ -13,10 +13,10 @@ use Rattle.runs.specs.declared.command.Command.{Command}
 use Rattle.runs.specs.declared.command.Reply.{Reply}
 use Rattle.runs.specs.declared.command.Refusal.{Refusal}
 use Rattle.runs.specs.declared.command.Refusal.TheVariants.{NotReady, HistoryFull, Spent, Memory}
-use Rattle.runs.proofs.ReadyLists.{first-chosen}
+use Rattle.runs.proofs.public.ReadyLists.{first-chosen}
 use Rattle.machine.specs.Results.{step_reply}
-use Rattle.machine.specs.walking.Choosing.{NotTaken, TakesFound}
-use Rattle.machine.proofs.Entries.{parts-at}
+use Rattle.machine.specs.internal.Choosing.{NotTaken, TakesFound}
+use Rattle.machine.proofs.public.Entries.{parts-at}
 
 -- the first event of the ready list with the choice
 pub chosen-first : (T : State) (c : Choice) (es : List Event) (i : ℕ) (e : Event) → ReadyList T es → slice_get es i ≡ Some e → choice_of e ≡ c →

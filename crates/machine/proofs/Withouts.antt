@@ -3,8 +3,8 @@ use Rattle.std.proofs.Common.{◌≡◌, inl, inr, ℕ, suc, ◌≤◌, List, []
 use Rattle.runs.specs.Dependence.{Without, ended, stays, leaves}
 use Rattle.runs.specs.Live.{Live, Rising, LiveAt, WithoutTickets}
 use Rattle.runs.specs.declared.event.Event.{Event}
-use Rattle.runs.proofs.Lists.{in-right}
-use Rattle.runs.proofs.Tickets.{rising-in}
+use Rattle.runs.proofs.public.Lists.{in-right}
+use Rattle.runs.proofs.public.Tickets.{rising-in}
 use Rattle.dependence.specs.Taking.{StaysBeside, done, keeps, drops}
 
 -- it is not longer

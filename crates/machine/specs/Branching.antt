@@ -16,8 +16,8 @@ use Rattle.runs.specs.declared.command.Reply.{Reply}
 use Rattle.runs.specs.declared.command.Refusal.TheVariants.{Memory}
 use Rattle.event_places.specs.EventPlaces.{line_after}
 use Rattle.machine.specs.AtMachine.{AtMachine, object}
-use Rattle.machine.specs.declared.branching.BranchReply.{BranchReply}
-use Rattle.machine.specs.declared.branching.BranchReply.TheVariants.{Stepped, Stopped, Idle, Refused}
+use Rattle.machine.specs.declared.branch.BranchReply.{BranchReply}
+use Rattle.machine.specs.declared.branch.BranchReply.TheVariants.{Stepped, Stopped, Idle, Refused}
 
 -- the line of the command at which an event acts, after the live events
 abbrev pub line_of : AtMachine → Event → Option ℕ
@@ -60,15 +60,18 @@ AllKeptBack h breaks (e ∷ es) line = (line_of h e ≡ Some line) × Every (λ 
 
 -- what is answered where these are the events of the branch that are ready, and what is left
 abbrev pub Branched : AtMachine → List ℕ → List Event → BranchReply → AtMachine → Type 0
-Branched h breaks es (Stepped t e) h' = FirstFree (is_free h breaks) es e × Steps (object h) (choice_of e) (Reply.Stepped t e) (object h')
+Branched h breaks es (Stepped t e) h' =
+    FirstFree (is_free h breaks) es e × Steps (object h) (choice_of e) (Reply.Stepped t e) (object h')
 Branched h breaks es (Stopped line) h' = AllKeptBack h breaks es line × (h' ≡ h)
 Branched h breaks es Idle h' = (es ≡ []) × (h' ≡ h)
-Branched h breaks es (Refused why) h' = ((e : Event) × FirstFree (is_free h breaks) es e × RefusesStep (object h) (choice_of e) why) × (h' ≡ h)
+Branched h breaks es (Refused why) h' =
+    ((e : Event) × FirstFree (is_free h breaks) es e × RefusesStep (object h) (choice_of e) why) × (h' ≡ h)
 
 -- a step of branch k
 abbrev pub StepsBranch : AtMachine → ℕ → List ℕ → BranchReply → AtMachine → Type 0
 StepsBranch h k breaks reply h' =
-    (T : State) × (es : List Event) × Reaches (object h) T × ReadyList T es × Branched h breaks (in_branch h k es) reply h'
+    (T : State) × (es : List Event) × Reaches (object h) T × ReadyList T es
+    × Branched h breaks (in_branch h k es) reply h'
 
 -- the same, or there was no memory for it and nothing changed
 abbrev pub AnswersBranch : AtMachine → ℕ → List ℕ → BranchReply → AtMachine → Type 0

@@ -11,7 +11,8 @@ most_breaks = 64
 -- the lines and this one, at its place
 abbrev pub with_line : ℕ → List ℕ → List ℕ
 with_line line [] = line ∷ []
-with_line line (held ∷ lines) = cond (nat_lt held line) (held ∷ with_line line lines) (cond (held == line) (held ∷ lines) (line ∷ held ∷ lines))
+with_line line (held ∷ lines) =
+    cond (nat_lt held line) (held ∷ with_line line lines) (cond (held == line) (held ∷ lines) (line ∷ held ∷ lines))
 
 -- the lines without this one
 abbrev pub without_line : ℕ → List ℕ → List ℕ
@@ -19,5 +20,7 @@ without_line line lines = filter (λ held. not (held == line)) lines
 
 -- a breakpoint is set: refused where as many others are set as may be, and then nothing changes
 abbrev pub SetsBreak : {U : Type 0} → ℕ → List ℕ → Result U Refusal → List ℕ → Type 0
-SetsBreak line lines (Ok _) after = ((is_in line lines ≡ true) ⊎ (length lines < most_breaks)) × (after ≡ with_line line lines)
-SetsBreak line lines (Err why) after = (why ≡ BreaksFull) × (is_in line lines ≡ false) × (most_breaks ≤ length lines) × (after ≡ lines)
+SetsBreak line lines (Ok _) after =
+    ((is_in line lines ≡ true) ⊎ (length lines < most_breaks)) × (after ≡ with_line line lines)
+SetsBreak line lines (Err why) after =
+    (why ≡ BreaksFull) × (is_in line lines ≡ false) × (most_breaks ≤ length lines) × (after ≡ lines)

@@ -3,4 +3,4 @@ pub mod Branching
 pub mod Breakpoints
 pub mod Headline
 pub mod Results
-pub mod walking
+pub mod internal

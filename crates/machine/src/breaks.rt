@@ -2,7 +2,7 @@ ghost use Rattle.std.specs.Prelude.{◌≡◌, ◌<◌, ◌≤◌, [], length};
 ghost use Rattle.system.specs.Expression.{is_in};
 ghost use Rattle.runs.specs.InOrder.{InOrder};
 ghost use Rattle.machine.specs.Breakpoints.{most_breaks, with_line, without_line, SetsBreak};
-ghost use Rattle.machine.specs.walking.Sorting.{lesser_count};
+ghost use Rattle.machine.specs.internal.Sorting.{lesser_count};
 
 use crate::among::is_among;
 use arrayvec::ArrayVec;

@@ -2,19 +2,19 @@
 #![tactic(auto)]
 
 mod among;
-mod asking;
-mod branching;
+mod branch;
 mod breaks;
 mod fault;
 mod history;
 mod laws;
 mod machine;
-mod replying;
-mod rolling;
-mod stepping;
-mod undoing;
+mod question;
+mod reply;
+mod roll;
+mod step;
+mod undo;
 
-pub use branching::BranchReply;
+pub use branch::BranchReply;
 pub use breaks::Breaks;
 pub use fault::Fault;
 pub use laws::{answered_laws, branch_laws};

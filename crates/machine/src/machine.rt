@@ -5,23 +5,23 @@ ghost use Rattle.runs.specs.Object.{Reaches};
 ghost use Rattle.runs.specs.Ready.{ReadyList};
 ghost use Rattle.runs.specs.Does.{Answers};
 ghost use Rattle.runs.specs.declared.command.Command.{Command};
-ghost use Rattle.offered_sides.specs.Sides.{OffersExactly};
+ghost use Rattle.local_actions.specs.Actions.{OffersExactly};
 ghost use Rattle.event_places.specs.EventPlaces.{line_after, is_open_after};
 ghost use Rattle.machine.specs.Branching.{AnswersBranch};
 ghost use Rattle.machine.specs.AtMachine.{object};
 ghost use Rattle.machine.specs.Headline.{Headline};
 ghost use Rattle.machine.specs.Results.{step_reply, undo_reply, roll_reply, blame_reply, consequences_reply, ready_reply, live_reply, value_reply};
-ghost use Rattle.machine.specs.walking.Histories.{KnowsUses};
+ghost use Rattle.machine.specs.internal.Histories.{KnowsUses};
 
-use crate::branching::{BranchReply, or_branch_refused};
+use crate::branch::{BranchReply, or_branch_refused};
 use crate::history::History;
-use crate::replying::{or_no_memory, or_refused};
+use crate::reply::{or_no_memory, or_refused};
 use crate::{Breaks, Fault};
 use address::Address;
 use channel_uses::ChannelUses;
 use dependence::Live;
 use event_places::{line_after, select_after};
-use offered_sides::OfferedSide;
+use local_actions::LocalAction;
 use process_tree::system_code;
 use runs::{Choice, Event, Refusal};
 use sharing_check::Checked;
@@ -36,8 +36,8 @@ pub type Ticket = u64;
 /// The number of a variable, counted from 0.
 pub type Var = u32;
 
-/// One execution of a system: its live events with their tickets, and the ticket of the next step. The tree and the values to
-/// which they lead are changed in place, by a step and by its undo; no event is ever replayed.
+/// One execution of a system: its live events with their tickets, and the ticket of the next step. The tree and the
+/// values to which they lead are changed in place, by a step and by its undo; no event is ever replayed.
 #[derive(Drop)]
 pub struct Machine {
     alloc: Global,
@@ -56,7 +56,7 @@ impl Model for Machine {
     ghost coded = { Prim.hlevel (codes, whole.the_row.coded) };
 
     ghost use Rattle.machine.specs.AtMachine.{at_machine};
-    ghost use Rattle.machine.specs.walking.Histories.{Holds, KnowsUses};
+    ghost use Rattle.machine.specs.internal.Histories.{Holds, KnowsUses};
 
     ghost view = { λ machine. at_machine machine.system machine.history };
 
@@ -96,9 +96,11 @@ impl Machine {
         &self.history.live
     }
 
-    /// The ticket and the event at an index of the live events, counted from 0 in order of tickets; `None` past the last.
+    /// The ticket and the event at an index of the live events, counted from 0 in order of tickets; `None` past the
+    /// last.
     pub fn live_at(&self, index: u64) -> Option<(Ticket, &Event)>
-        ensures { MatchOption result (slice_get self.now.live index ≡ None) (λ entry. slice_get self.now.live index ≡ Some (entry.0, entry.1.now)) }
+        ensures { MatchOption result (slice_get self.now.live index ≡ None) (λ entry.
+            slice_get self.now.live index ≡ Some (entry.0, entry.1.now)) }
     {
         self.history.live.pair_at(index)
     }
@@ -121,8 +123,8 @@ impl Machine {
     ///
     /// # Errors
     ///
-    /// The first of `NotReady`, where no event with this choice is allowed, `HistoryFull`, where 65,536 events are live, and `Spent`,
-    /// where the next ticket would pass 2^63. `Memory` without memory. Nothing has changed then.
+    /// The first of `NotReady`, where no event with this choice is allowed, `HistoryFull`, where 65,536 events are
+    /// live, and `Spent`, where the next ticket would pass 2^63. `Memory` without memory. Nothing has changed then.
     pub fn step(&mut self, choice: &Choice) -> Result<(Ticket, Event), Refusal>
         ensures answers { Answers (object self.old) (Command.Step choice.now) (step_reply result) (object self.new) }
         ensures system { self.new.checked ≡ self.old.checked }
@@ -147,8 +149,8 @@ impl Machine {
     ///
     /// # Errors
     ///
-    /// `NoSuchEvent` where no live event has the ticket, else `NeededBy` the least ticket of another live event that depends on it.
-    /// Nothing has changed then.
+    /// `NoSuchEvent` where no live event has the ticket, else `NeededBy` the least ticket of another live event that
+    /// depends on it. Nothing has changed then.
     pub fn undo(&mut self, ticket: Ticket) -> Result<Event, Refusal>
         ensures answers { Answers (object self.old) (Command.Undo ticket) (undo_reply ticket result) (object self.new) }
         ensures never_memory { IfErr result (λ why. why ≢ Refusal.Memory) }
@@ -157,7 +159,8 @@ impl Machine {
         self.history.undo(ticket)
     }
 
-    /// Takes the event of this ticket back, and all live events that depend on it; how many they were. It takes no memory.
+    /// Takes the event of this ticket back, and all live events that depend on it; how many they were. It takes no
+    /// memory.
     ///
     /// # Errors
     ///
@@ -170,8 +173,8 @@ impl Machine {
         self.history.roll(ticket)
     }
 
-    /// Takes the last event that wrote the variable back, and all live events that depend on it; how many they were. It takes no
-    /// memory.
+    /// Takes the last event that wrote the variable back, and all live events that depend on it; how many they were. It
+    /// takes no memory.
     ///
     /// # Errors
     ///
@@ -202,16 +205,18 @@ impl Machine {
     ///
     /// `NoSuchEvent` where no live event has the ticket. `Memory` without memory, but never in its place.
     pub fn consequences(&self, ticket: Ticket) -> Result<Items<Ticket>, Refusal>
-        ensures { Answers (object self.now) (Command.Consequences ticket) (consequences_reply result) (object self.now) }
+        ensures { Answers (object self.now) (Command.Consequences ticket) (consequences_reply result)
+            (object self.now) }
     {
         or_refused(self.history.tell_consequences(ticket))
     }
 
-    /// Marks the live event of this ticket and all live events that depend on it, and no others; how many they are. It takes no
-    /// memory. The marks stay until the next marking, and a further event has none.
+    /// Marks the live event of this ticket and all live events that depend on it, and no others; how many they are. It
+    /// takes no memory. The marks stay until the next marking, and a further event has none.
     pub fn mark_consequences(&mut self, ticket: Ticket) -> u64
         requires { IsLive self.old.live ticket }
-        ensures counted { (tickets : List ℕ) × ConsequencesList self.old.live ticket tickets × (result ≡ length tickets) }
+        ensures counted { (tickets : List ℕ) × ConsequencesList self.old.live ticket tickets
+            × (result ≡ length tickets) }
         ensures same { self.new ≡ self.old }
     {
         self.history.live.mark_consequences(ticket)
@@ -255,15 +260,16 @@ impl Machine {
         or_no_memory(self.history.ready(self.alloc, &self.uses))
     }
 
-    /// The sides that the state offers, in order of place: those of the events that may be taken, and those that wait.
+    /// The actions that the state offers, in order of place: those of the events that may be taken, and those that
+    /// wait.
     ///
     /// # Errors
     ///
     /// `Memory` without memory.
-    pub fn sides(&self) -> Result<Items<OfferedSide>, Refusal>
-        ensures { IfOk result (λ sides. (T : State) × Reaches (object self.now) T × OffersExactly T sides) }
+    pub fn actions(&self) -> Result<Items<LocalAction>, Refusal>
+        ensures { IfOk result (λ actions. (T : State) × Reaches (object self.now) T × OffersExactly T actions) }
     {
-        or_no_memory(self.history.sides(self.alloc))
+        or_no_memory(self.history.actions(self.alloc))
     }
 
     /// The line, from 1, of the command that has this place after the live events. None where no command has it.

@@ -15,11 +15,12 @@ replacement = 0xFFFD
 abbrev pub is_from : ℕ → ℕ → ℕ → Bool
 is_from least most c = nat_le least c && nat_le c most
 
--- whether a terminal might act on a character over 127: the other control characters, what turns the direction of writing,
--- the ends of lines and paragraphs, and what is not seen at all
+-- whether a terminal might act on a character over 127: the other control characters, what turns the direction of
+-- writing, the ends of lines and paragraphs, and what is not seen at all
 abbrev pub acts : ℕ → Bool
 acts c =
-    is_from 0x80 0x9F c || is_from 0x200B 0x200F c || is_from 0x2028 0x202E c || is_from 0x2060 0x2069 c || (c == 0xFEFF)
+    is_from 0x80 0x9F c || is_from 0x200B 0x200F c || is_from 0x2028 0x202E c || is_from 0x2060 0x2069 c
+    || (c == 0xFEFF)
 
 -- a character as it is shown: a tab as itself, a control character as the sign that stands for it
 abbrev pub shown : ℕ → ℕ
@@ -33,8 +34,8 @@ shown c =
 abbrev pub columns : ℕ → ℕ
 columns c = if c == tab then 0 else unwrap_or (char_width false (shown c)) 0
 
--- what stands under a character, in bytes: a tab under a tab, else a blank for each of its columns. So what comes behind
--- stands under what comes behind the character
+-- what stands under a character, in bytes: a tab under a tab, else a blank for each of its columns. So what comes
+-- behind stands under what comes behind the character
 abbrev pub under : ℕ → List ℕ
 under c = if c == tab then tab ∷ [] else replicate (columns c) blank
 

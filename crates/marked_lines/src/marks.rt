@@ -31,8 +31,8 @@ fn add_note(out: &mut String, before: &str, note: &str) -> Result<(), AllocError
 }
 
 impl Part {
-    /// Where what stands over the signs of a mark ends. A mark of no bytes has the character behind it over its sign, but a
-    /// tab stands behind the sign.
+    /// Where what stands over the signs of a mark ends. A mark of no bytes has the character behind it over its sign,
+    /// but a tab stands behind the sign.
     fn stop_of(self, text: &[u8], mark: Mark<'_>) -> usize {
         if mark.start < mark.stop || text.get(mark.start) == Some(&b'\t') {
             return mark.stop.min(self.to);

@@ -105,8 +105,8 @@ impl Part {
     }
 }
 
-/// Adds what stands under some characters, so that what comes behind stands under what comes behind them: blanks, and a tab
-/// for each tab.
+/// Adds what stands under some characters, so that what comes behind stands under what comes behind them: blanks, and a
+/// tab for each tab.
 pub fn add_under(out: &mut String, bytes: &[u8]) -> Result<(), AllocError>
     ensures { IfOk result (λ _. string_bytes out.new ≡ string_bytes out.old ++ blanks_under (lossy_chars bytes.now)) }
 {

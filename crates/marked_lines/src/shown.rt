@@ -22,8 +22,8 @@ pub fn shown(character: char) -> char
     if acts(code) { '\u{FFFD}' } else { character }
 }
 
-/// Whether a terminal might act on the character: the other control characters, what turns the direction of writing, the
-/// ends of lines and paragraphs, and what is not seen at all.
+/// Whether a terminal might act on the character: the other control characters, what turns the direction of writing,
+/// the ends of lines and paragraphs, and what is not seen at all.
 fn acts(code: u32) -> bool
     ensures { result ≡ marks.acts code }
 {

@@ -1,16 +1,16 @@
 // Refusal 13: arguments and ports.
 use crate::kinds::kind_text;
-use crate::names::{Around, site_text};
+use crate::names::{Context, site_text};
 use findings::{Finding, short, text_between, text_of};
 use std::alloc::AllocError;
 use written_names::{Declared, Kind, Role, Site, find as declaration_of, ports};
 
 /// The call of a procedure whose arguments do not fit.
-pub fn find(around: Around<'_>, finding: &mut Finding) -> Result<(), AllocError> {
+pub fn find(context: Context<'_>, finding: &mut Finding) -> Result<(), AllocError> {
     let alloc = finding.alloc;
-    let name = text_between(around.source, finding.start, finding.stop);
-    let arguments = arguments_at(around, finding)?;
-    let Some(called) = declaration_of(around.source, around.visible, name.as_bytes()) else {
+    let name = text_between(context.source, finding.start, finding.stop);
+    let arguments = arguments_at(context, finding)?;
+    let Some(called) = declaration_of(context.source, context.visible, name.as_bytes()) else {
         return finding.say(&[
             "the arguments of this call do not fit the ports of `",
             name,
@@ -18,16 +18,16 @@ pub fn find(around: Around<'_>, finding: &mut Finding) -> Result<(), AllocError>
         ]);
     };
     let index = (called.number as usize).wrapping_sub(1);
-    let Some(procedure) = around.description.procedures.get(index) else {
+    let Some(procedure) = context.description.procedures.get(index) else {
         return finding.say(&[
             "the arguments of this call do not fit the ports of `",
             name,
             "`",
         ]);
     };
-    let ports = ports(alloc, around.source, around.types, procedure)?;
+    let ports = ports(alloc, context.source, context.types, procedure)?;
     let misfit = Misfit {
-        around,
+        context,
         name,
         called,
         ports: ports.as_slice(),
@@ -45,7 +45,7 @@ pub fn find(around: Around<'_>, finding: &mut Finding) -> Result<(), AllocError>
 /// A call that does not fit.
 #[derive(Clone, Copy)]
 struct Misfit<'a> {
-    around: Around<'a>,
+    context: Context<'a>,
     name: &'a str,
     called: Declared,
     ports: &'a [Declared],
@@ -53,12 +53,12 @@ struct Misfit<'a> {
 }
 
 /// The arguments of the call at the fault.
-fn arguments_at(around: Around<'_>, finding: &Finding) -> Result<Vec<Site>, AllocError> {
+fn arguments_at(context: Context<'_>, finding: &Finding) -> Result<Vec<Site>, AllocError> {
     let mut arguments = Vec::new(finding.alloc);
     let mut is_inside = false;
-    for site in around.sites {
+    for site in context.sites {
         if site.role != Role::Argument {
-            is_inside = site.role == Role::Called && site.span.start == around.offset;
+            is_inside = site.role == Role::Called && site.span.start == context.offset;
         } else if is_inside {
             arguments.push(*site)?;
         }
@@ -85,7 +85,7 @@ fn find_number(misfit: Misfit<'_>, finding: &mut Finding) -> Result<(), AllocErr
     ])?;
     let mut between = "";
     for port in misfit.ports {
-        let text = text_of(misfit.around.source, port.span);
+        let text = text_of(misfit.context.source, port.span);
         finding.advise(&[between, text])?;
         between = ", ";
     }
@@ -97,7 +97,7 @@ fn twice(misfit: Misfit<'_>) -> Option<(Site, Site)> {
     for second in misfit.arguments {
         for first in misfit.arguments {
             if first.span.start < second.span.start
-                && *site_text(misfit.around, *first) == *site_text(misfit.around, *second)
+                && *site_text(misfit.context, *first) == *site_text(misfit.context, *second)
             {
                 return Some((*first, *second));
             }
@@ -113,7 +113,7 @@ fn find_twice(
     second: Site,
     finding: &mut Finding,
 ) -> Result<(), AllocError> {
-    let text = text_of(misfit.around.source, second.span);
+    let text = text_of(misfit.context.source, second.span);
     finding.say(&[
         "this call gives `",
         misfit.name,
@@ -137,10 +137,10 @@ fn goes_to(argument: Kind, port: Kind) -> bool {
 
 /// The first port whose argument has another kind or width.
 fn find_pair(misfit: Misfit<'_>, finding: &mut Finding) -> Result<(), AllocError> {
-    let around = misfit.around;
+    let context = misfit.context;
     for (port, argument) in misfit.ports.iter().zip(misfit.arguments) {
-        let text = site_text(around, *argument);
-        if let Some(given) = declaration_of(around.source, around.visible, text)
+        let text = site_text(context, *argument);
+        if let Some(given) = declaration_of(context.source, context.visible, text)
             && (!goes_to(given.kind, port.kind) || given.width != port.width)
         {
             return say_pair(misfit, *port, *argument, given, finding);
@@ -169,7 +169,7 @@ fn say_pair(
     given: Declared,
     finding: &mut Finding,
 ) -> Result<(), AllocError> {
-    let source = misfit.around.source;
+    let source = misfit.context.source;
     let port_name = text_of(source, port.span);
     let argument_name = text_of(source, argument.span);
     finding.say(&["port `", port_name, "` of `", misfit.name, "` is "])?;

@@ -14,7 +14,7 @@ use written_names::{
 
 /// What is known around a fault.
 #[derive(Clone, Copy)]
-pub struct Around<'a> {
+pub struct Context<'a> {
     pub source: &'a [u8],
     pub description: &'a Description,
     pub types: &'a [Declared],
@@ -45,7 +45,7 @@ pub fn find(
     if let Some(procedure) = description.procedures.get(owner.wrapping_sub(1)) {
         sites_found = sites(alloc, source, visible.as_slice(), procedure, finding.start)?;
     }
-    let around = Around {
+    let context = Context {
         source,
         description,
         types: types.as_slice(),
@@ -54,25 +54,25 @@ pub fn find(
         owner,
         offset: finding.start,
     };
-    find_by_number(around, tokens, number, finding)
+    find_by_number(context, tokens, number, finding)
 }
 
 /// What was found about a fault with this number.
 fn find_by_number(
-    around: Around<'_>,
+    context: Context<'_>,
     tokens: &[Token],
     number: u32,
     finding: &mut Finding,
 ) -> Result<(), AllocError> {
     match number {
-        7 => find_unknown(around, finding),
-        8 => repeated::find_name(around, finding),
-        9 => find_kind(around, finding),
-        10 => widths::find(around, tokens, finding),
-        11 => widths::find_guard(around, finding),
-        12 => repeated::find_arm(around, finding),
-        13 => calls::find(around, finding),
-        _ => repeated::find_enclosed(around, finding),
+        7 => find_unknown(context, finding),
+        8 => repeated::find_name(context, finding),
+        9 => find_kind(context, finding),
+        10 => widths::find(context, tokens, finding),
+        11 => widths::find_guard(context, finding),
+        12 => repeated::find_arm(context, finding),
+        13 => calls::find(context, finding),
+        _ => repeated::find_enclosed(context, finding),
     }
 }
 
@@ -110,20 +110,20 @@ fn name_at<'a>(source: &'a [u8], finding: &Finding) -> &'a str {
 }
 
 /// A name that nothing visible has.
-fn find_unknown(around: Around<'_>, finding: &mut Finding) -> Result<(), AllocError> {
-    let name = name_at(around.source, finding);
-    let role = role_at(around.sites, around.offset);
+fn find_unknown(context: Context<'_>, finding: &mut Finding) -> Result<(), AllocError> {
+    let name = name_at(context.source, finding);
+    let role = role_at(context.sites, context.offset);
     finding.say(&["nothing visible here is called `", name, "`"])?;
     let alloc = finding.alloc;
     let mut nearest = Nearest::none();
-    for one in around.visible {
-        if fits(role, one.kind) && one.span.start < around.offset {
-            let candidate = text_between(around.source, one.span.start, one.span.stop);
+    for one in context.visible {
+        if fits(role, one.kind) && one.span.start < context.offset {
+            let candidate = text_between(context.source, one.span.start, one.span.stop);
             nearest.offer(alloc, name, candidate)?;
         }
     }
     if let Some(candidate) = nearest.name {
-        let found = declaration_of(around.source, around.visible, candidate.as_bytes());
+        let found = declaration_of(context.source, context.visible, candidate.as_bytes());
         let line = found.map_or(0, |one| one.span.line);
         let kind = found.map_or("a name", |one| kind_text(one.kind));
         return write!(
@@ -131,23 +131,23 @@ fn find_unknown(around: Around<'_>, finding: &mut Finding) -> Result<(), AllocEr
             "did you mean `{candidate}`, {kind} of line {line}?"
         );
     }
-    advise_unknown(around, name, role, finding)
+    advise_unknown(context, name, role, finding)
 }
 
 /// What helps where no visible name is near.
 fn advise_unknown(
-    around: Around<'_>,
+    context: Context<'_>,
     name: &str,
     role: Option<Role>,
     finding: &mut Finding,
 ) -> Result<(), AllocError> {
     let mut number = 0_usize;
-    for procedure in around.description.procedures.as_slice() {
+    for procedure in context.description.procedures.as_slice() {
         number = number.saturating_add(1);
-        if *procedure.name.name.text() == *name.as_bytes() && number >= around.owner {
+        if *procedure.name.name.text() == *name.as_bytes() && number >= context.owner {
             let line = procedure.name.span.line;
             let name = short(name);
-            if number == around.owner {
+            if number == context.owner {
                 return finding.advise(&[
                     "a procedure is visible behind its own `end` alone: none calls itself",
                 ]);
@@ -177,11 +177,11 @@ fn advise_unknown(
 }
 
 /// A name of another kind than its place needs.
-fn find_kind(around: Around<'_>, finding: &mut Finding) -> Result<(), AllocError> {
-    let name = name_at(around.source, finding);
-    let role = role_at(around.sites, around.offset);
+fn find_kind(context: Context<'_>, finding: &mut Finding) -> Result<(), AllocError> {
+    let name = name_at(context.source, finding);
+    let role = role_at(context.sites, context.offset);
     finding.say(&["`", name, "` is "])?;
-    let Some(found) = declaration_of(around.source, around.visible, name.as_bytes()) else {
+    let Some(found) = declaration_of(context.source, context.visible, name.as_bytes()) else {
         return finding.say(&["of another kind: ", wanted_text(role)]);
     };
     finding.say(&[kind_text(found.kind), ", and ", wanted_text(role)])?;
@@ -190,8 +190,8 @@ fn find_kind(around: Around<'_>, finding: &mut Finding) -> Result<(), AllocError
 }
 
 /// The bytes of a site's name.
-pub fn site_text<'a>(around: Around<'a>, site: Site) -> &'a [u8]
-    ensures { result.now ≡ text_of around.entry.source.now site.span }
+pub fn site_text<'a>(context: Context<'a>, site: Site) -> &'a [u8]
+    ensures { result.now ≡ text_of context.entry.source.now site.span }
 {
-    text_at(around.source, site.span)
+    text_at(context.source, site.span)
 }

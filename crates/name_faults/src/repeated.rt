@@ -3,15 +3,15 @@ ghost use Rattle.std.specs.Prelude.{◌≡◌, ◌≢◌, ◌<◌, ◌≤◌, If
 ghost use Rattle.written_names.specs.Texts.{text_of};
 
 use crate::kinds::kind_text;
-use crate::names::{Around, site_text};
+use crate::names::{Context, site_text};
 use findings::{Finding, short, text_between};
 use std::alloc::AllocError;
 use written_names::{Declared, Kind, Role, Site, find as declaration_of, text_at, width_of_number};
 
 /// A name that is declared already.
-pub fn find_name(around: Around<'_>, finding: &mut Finding) -> Result<(), AllocError> {
-    let name = text_between(around.source, finding.start, finding.stop);
-    let Some(first) = first_declared(around, name.as_bytes(), finding.start) else {
+pub fn find_name(context: Context<'_>, finding: &mut Finding) -> Result<(), AllocError> {
+    let name = text_between(context.source, finding.start, finding.stop);
+    let Some(first) = first_declared(context, name.as_bytes(), finding.start) else {
         return finding.say(&["`", name, "` is declared already"]);
     };
     finding.say(&["`", name, "` is "])?;
@@ -23,11 +23,12 @@ pub fn find_name(around: Around<'_>, finding: &mut Finding) -> Result<(), AllocE
 }
 
 /// The first declaration of a name that stands elsewhere than at the offset.
-fn first_declared(around: Around<'_>, name: &[u8], offset: u64) -> Option<Declared>
-    ensures { IfSome result (λ one. (one.span.start ≢ offset) × (text_of around.entry.source.now one.span ≡ name.now)) }
+fn first_declared(context: Context<'_>, name: &[u8], offset: u64) -> Option<Declared>
+    ensures { IfSome result (λ one. (one.span.start ≢ offset)
+        × (text_of context.entry.source.now one.span ≡ name.now)) }
 {
-    for one in around.visible {
-        if one.span.start != offset && *text_at(around.source, one.span) == *name {
+    for one in context.visible {
+        if one.span.start != offset && *text_at(context.source, one.span) == *name {
             return Some(*one);
         }
     }
@@ -35,9 +36,9 @@ fn first_declared(around: Around<'_>, name: &[u8], offset: u64) -> Option<Declar
 }
 
 /// The site that begins at the offset as a label or as an arm.
-fn arm_at(around: Around<'_>) -> Option<Site> {
-    for site in around.sites {
-        if site.span.start == around.offset && matches!(site.role, Role::Label | Role::Arm) {
+fn arm_at(context: Context<'_>) -> Option<Site> {
+    for site in context.sites {
+        if site.span.start == context.offset && matches!(site.role, Role::Label | Role::Arm) {
             return Some(*site);
         }
     }
@@ -45,33 +46,33 @@ fn arm_at(around: Around<'_>) -> Option<Site> {
 }
 
 /// A label or an arm that stands twice, or a label that is too wide.
-pub fn find_arm(around: Around<'_>, finding: &mut Finding) -> Result<(), AllocError> {
-    let text = text_between(around.source, finding.start, finding.stop);
-    let Some(site) = arm_at(around) else {
+pub fn find_arm(context: Context<'_>, finding: &mut Finding) -> Result<(), AllocError> {
+    let text = text_between(context.source, finding.start, finding.stop);
+    let Some(site) = arm_at(context) else {
         return finding.say(&["`", text, "` stands in two arms, or is too wide"]);
     };
     if site.role == Role::Arm {
         finding.say(&["`", text, "` stands in two arms of this choice"])?;
-        if let Some(first) = earlier_arm(around, site) {
+        if let Some(first) = earlier_arm(context, site) {
             finding.add_beside(first.span, "the first")?;
         }
         return finding.advise(&[
             "put what both arms do into one, and decide inside it by `if` or `case`",
         ]);
     }
-    find_label(around, site, text, finding)
+    find_label(context, site, text, finding)
 }
 
 /// An earlier arm of the same choice on the same channel.
-fn earlier_arm(around: Around<'_>, arm: Site) -> Option<Site>
+fn earlier_arm(context: Context<'_>, arm: Site) -> Option<Site>
     ensures { IfSome result (λ one. (one.choice ≡ arm.choice) × (one.span.start < arm.span.start)
-        × (text_of around.entry.source.now one.span ≡ text_of around.entry.source.now arm.span)) }
+        × (text_of context.entry.source.now one.span ≡ text_of context.entry.source.now arm.span)) }
 {
-    for site in around.sites {
+    for site in context.sites {
         if site.role == Role::Arm
             && site.choice == arm.choice
             && site.span.start < arm.span.start
-            && *site_text(around, *site) == *site_text(around, arm)
+            && *site_text(context, *site) == *site_text(context, arm)
         {
             return Some(*site);
         }
@@ -80,11 +81,11 @@ fn earlier_arm(around: Around<'_>, arm: Site) -> Option<Site>
 }
 
 /// The value of a label.
-fn label_value(around: Around<'_>, label: Site) -> Option<u64> {
+fn label_value(context: Context<'_>, label: Site) -> Option<u64> {
     match label.number {
         Some(number) => Some(number),
         None => {
-            let found = declaration_of(around.source, around.visible, site_text(around, label))?;
+            let found = declaration_of(context.source, context.visible, site_text(context, label))?;
             if found.kind == Kind::Element {
                 Some(found.number)
             } else {
@@ -95,16 +96,16 @@ fn label_value(around: Around<'_>, label: Site) -> Option<u64> {
 }
 
 /// The width of a label: of a number the least, of an element that of its enumeration.
-fn label_width(around: Around<'_>, label: Site) -> Option<u64> {
+fn label_width(context: Context<'_>, label: Site) -> Option<u64> {
     match label.number {
         Some(number) => Some(width_of_number(number)),
-        None => declaration_of(around.source, around.visible, site_text(around, label))?.width,
+        None => declaration_of(context.source, context.visible, site_text(context, label))?.width,
     }
 }
 
 /// The expression of the `case` to which a label belongs.
-fn subject_of(around: Around<'_>, label: Site) -> Option<Site> {
-    for site in around.sites {
+fn subject_of(context: Context<'_>, label: Site) -> Option<Site> {
+    for site in context.sites {
         if site.role == Role::Subject && site.choice == label.choice {
             return Some(*site);
         }
@@ -113,13 +114,13 @@ fn subject_of(around: Around<'_>, label: Site) -> Option<Site> {
 }
 
 /// An earlier label of the same `case` with the same value.
-fn earlier_label(around: Around<'_>, label: Site) -> Option<Site> {
-    let value = label_value(around, label)?;
-    for site in around.sites {
+fn earlier_label(context: Context<'_>, label: Site) -> Option<Site> {
+    let value = label_value(context, label)?;
+    for site in context.sites {
         if site.role == Role::Label
             && site.choice == label.choice
             && site.span.start < label.span.start
-            && label_value(around, *site) == Some(value)
+            && label_value(context, *site) == Some(value)
         {
             return Some(*site);
         }
@@ -129,13 +130,13 @@ fn earlier_label(around: Around<'_>, label: Site) -> Option<Site> {
 
 /// A label that stands twice or is too wide.
 fn find_label(
-    around: Around<'_>,
+    context: Context<'_>,
     label: Site,
     text: &str,
     finding: &mut Finding,
 ) -> Result<(), AllocError> {
-    let width = label_width(around, label).unwrap_or(0);
-    let subject = subject_of(around, label);
+    let width = label_width(context, label).unwrap_or(0);
+    let subject = subject_of(context, label);
     let room = subject.and_then(|site| site.width).unwrap_or(u64::MAX);
     if width > room {
         let text = short(text);
@@ -150,28 +151,28 @@ fn find_label(
             "a label never comes that is wider than the expression: take it out, or widen the expression by `(e as T)`",
         ]);
     }
-    let value = label_value(around, label).unwrap_or(0);
+    let value = label_value(context, label).unwrap_or(0);
     let text = short(text);
     write!(
         finding.what,
         "label `{text}` stands for {value}, as an earlier label of this `case` does"
     )?;
-    if let Some(first) = earlier_label(around, label) {
+    if let Some(first) = earlier_label(context, label) {
         finding.add_beside(first.span, "the earlier label")?;
     }
     finding.advise(&["each value has one arm: take one of the two out"])
 }
 
 /// The innermost arm that is open on the name around the offset: the last that begins, since arms stand in one another.
-fn enclosing(around: Around<'_>, name: &[u8]) -> Option<Site>
-    ensures { IfSome result (λ one. (one.body.0 ≤ around.entry.offset) × (around.entry.offset < one.body.1)
-        × (text_of around.entry.source.now one.span ≡ name.now)) }
+fn enclosing(context: Context<'_>, name: &[u8]) -> Option<Site>
+    ensures { IfSome result (λ one. (one.body.0 ≤ context.entry.offset) × (context.entry.offset < one.body.1)
+        × (text_of context.entry.source.now one.span ≡ name.now)) }
 {
-    for site in around.sites.iter().rev() {
+    for site in context.sites.iter().rev() {
         if matches!(site.role, Role::Arm | Role::Opened)
-            && site.body.0 <= around.offset
-            && around.offset < site.body.1
-            && *site_text(around, *site) == *name
+            && site.body.0 <= context.offset
+            && context.offset < site.body.1
+            && *site_text(context, *site) == *name
         {
             return Some(*site);
         }
@@ -180,14 +181,14 @@ fn enclosing(around: Around<'_>, name: &[u8]) -> Option<Site>
 }
 
 /// A channel that is used in an arm that is open on it.
-pub fn find_enclosed(around: Around<'_>, finding: &mut Finding) -> Result<(), AllocError> {
-    let name = text_between(around.source, finding.start, finding.stop);
+pub fn find_enclosed(context: Context<'_>, finding: &mut Finding) -> Result<(), AllocError> {
+    let name = text_between(context.source, finding.start, finding.stop);
     finding.say(&[
         "`",
         name,
         "` is open around this place, where its name is the value that was received",
     ])?;
-    if let Some(arm) = enclosing(around, name.as_bytes()) {
+    if let Some(arm) = enclosing(context, name.as_bytes()) {
         finding.add_beside(arm.span, "opened here")?;
     }
     finding.advise(&[

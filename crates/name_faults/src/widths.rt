@@ -1,5 +1,5 @@
 // Refusals 10 and 11: widths.
-use crate::names::{Around, site_text};
+use crate::names::{Context, site_text};
 use findings::{Finding, short, text_of};
 use lexer::{Kind as TokenKind, Token};
 use std::alloc::AllocError;
@@ -9,8 +9,12 @@ use written_names::{Declared, Role, Site, find as declaration_of};
 const MOST: u64 = 64;
 
 /// What is too wide at the fault.
-pub fn find(around: Around<'_>, tokens: &[Token], finding: &mut Finding) -> Result<(), AllocError> {
-    if let Some(bits) = declared_width(tokens, around.offset) {
+pub fn find(
+    context: Context<'_>,
+    tokens: &[Token],
+    finding: &mut Finding,
+) -> Result<(), AllocError> {
+    if let Some(bits) = declared_width(tokens, context.offset) {
         write!(
             finding.what,
             "a width is from 1 to 64 bits, and this one is {bits}"
@@ -21,11 +25,11 @@ pub fn find(around: Around<'_>, tokens: &[Token], finding: &mut Finding) -> Resu
             "a value that is wider goes in parts, over two variables or channels"
         }]);
     }
-    if let Some((target, value)) = handed_over(around) {
-        return find_value(around, target, value, finding);
+    if let Some((target, value)) = handed_over(context) {
+        return find_value(context, target, value, finding);
     }
-    if let Some((from, into)) = received(around) {
-        return find_received(around, from, into, finding);
+    if let Some((from, into)) = received(context) {
+        return find_received(context, from, into, finding);
     }
     finding.say(&["this sum would be 65 bits wide, and a value has 64 at most"])?;
     finding.advise(&[
@@ -50,14 +54,14 @@ fn declared_width(tokens: &[Token], offset: u64) -> Option<u64> {
 }
 
 /// The target and the value of the assignment or the send whose value begins at the fault and is wider than the target.
-fn handed_over(around: Around<'_>) -> Option<(Site, Site)> {
+fn handed_over(context: Context<'_>) -> Option<(Site, Site)> {
     let mut before: Option<Site> = None;
-    for site in around.sites {
+    for site in context.sites {
         if matches!(site.role, Role::AssignedValue | Role::SentValue)
-            && site.span.start == around.offset
+            && site.span.start == context.offset
             && let Some(target) = before
             && site.width? <= MOST
-            && site.width? > declared(around, target)?.width?
+            && site.width? > declared(context, target)?.width?
         {
             return Some((target, *site));
         }
@@ -67,11 +71,11 @@ fn handed_over(around: Around<'_>) -> Option<(Site, Site)> {
 }
 
 /// The channel and the variable of the receive whose variable stands at the fault.
-fn received(around: Around<'_>) -> Option<(Site, Site)> {
+fn received(context: Context<'_>) -> Option<(Site, Site)> {
     let mut before: Option<Site> = None;
-    for site in around.sites {
+    for site in context.sites {
         if site.role == Role::ReceivedInto
-            && site.span.start == around.offset
+            && site.span.start == context.offset
             && let Some(from) = before
         {
             return Some((from, *site));
@@ -82,20 +86,20 @@ fn received(around: Around<'_>) -> Option<(Site, Site)> {
 }
 
 /// The declaration of a site's name.
-fn declared(around: Around<'_>, site: Site) -> Option<Declared> {
-    declaration_of(around.source, around.visible, site_text(around, site))
+fn declared(context: Context<'_>, site: Site) -> Option<Declared> {
+    declaration_of(context.source, context.visible, site_text(context, site))
 }
 
 /// The width of what a site's name is declared as, or 0.
-fn width_at(around: Around<'_>, site: Site) -> u64 {
-    declared(around, site)
+fn width_at(context: Context<'_>, site: Site) -> u64 {
+    declared(context, site)
         .and_then(|one| one.width)
         .unwrap_or(0)
 }
 
 /// Marks the declaration of a site's name.
-fn add_declared(around: Around<'_>, site: Site, finding: &mut Finding) -> Result<(), AllocError> {
-    match declared(around, site) {
+fn add_declared(context: Context<'_>, site: Site, finding: &mut Finding) -> Result<(), AllocError> {
+    match declared(context, site) {
         Some(one) => finding.add_beside(one.span, "declared here"),
         None => Ok(()),
     }
@@ -103,21 +107,21 @@ fn add_declared(around: Around<'_>, site: Site, finding: &mut Finding) -> Result
 
 /// A value that is wider than what takes it.
 fn find_value(
-    around: Around<'_>,
+    context: Context<'_>,
     target: Site,
     value: Site,
     finding: &mut Finding,
 ) -> Result<(), AllocError> {
     finding.stop = value.span.stop;
     let wide = value.width.unwrap_or(0);
-    let room = width_at(around, target);
-    let name = short(text_of(around.source, target.span));
-    let text = short(text_of(around.source, value.span));
+    let room = width_at(context, target);
+    let name = short(text_of(context.source, target.span));
+    let text = short(text_of(context.source, value.span));
     write!(
         finding.what,
         "`{text}` is {wide} bits wide, and `{name}` has {room}"
     )?;
-    add_declared(around, target, finding)?;
+    add_declared(context, target, finding)?;
     let inner = without_parentheses(text);
     write!(
         finding.help,
@@ -157,21 +161,21 @@ fn is_one_group(text: &str) -> bool {
 
 /// A channel that is wider than the variable that takes its value.
 fn find_received(
-    around: Around<'_>,
+    context: Context<'_>,
     from: Site,
     into: Site,
     finding: &mut Finding,
 ) -> Result<(), AllocError> {
-    let channel = short(text_of(around.source, from.span));
-    let variable = short(text_of(around.source, into.span));
-    let wide = width_at(around, from);
-    let room = width_at(around, into);
+    let channel = short(text_of(context.source, from.span));
+    let variable = short(text_of(context.source, into.span));
+    let wide = width_at(context, from);
+    let room = width_at(context, into);
     write!(
         finding.what,
         "`{channel}` carries {wide} bits, and `{variable}` has {room}"
     )?;
-    add_declared(around, from, finding)?;
-    add_declared(around, into, finding)?;
+    add_declared(context, from, finding)?;
+    add_declared(context, into, finding)?;
     write!(
         finding.help,
         "make `{variable}` {wide} bits wide, or cut the value as it comes: `{channel} -> then {variable} := ({channel} as {room} bits) end`"
@@ -179,12 +183,12 @@ fn find_received(
 }
 
 /// A guard that is not one bit wide.
-pub fn find_guard(around: Around<'_>, finding: &mut Finding) -> Result<(), AllocError> {
-    for site in around.sites {
-        if site.role == Role::Guard && site.span.start == around.offset {
+pub fn find_guard(context: Context<'_>, finding: &mut Finding) -> Result<(), AllocError> {
+    for site in context.sites {
+        if site.role == Role::Guard && site.span.start == context.offset {
             finding.stop = site.span.stop;
             let width = site.width.unwrap_or(0);
-            let text = short(text_of(around.source, site.span));
+            let text = short(text_of(context.source, site.span));
             write!(
                 finding.what,
                 "the condition `{text}` is {width} bits wide, and a condition is 1 bit"

@@ -9,10 +9,10 @@ use Rattle.locked_object.specs.Passes.{IsPassOf}
 use Rattle.locked_object.specs.declared.pass.Pass.{Pass}
 use Rattle.object_workers.specs.Dealt.{hand, total}
 use Rattle.object_workers.specs.Runs.{steps_in, PassRan, PassesRan, WorkersRan, PassesFit, SawLegal, AllSawLegal}
-use Rattle.object_workers.specs.walking.Workers.{WorkerRan, Ready, IsReady, AllReady, AllRan, CountsFew, IsCounted}
+use Rattle.object_workers.specs.internal.Workers.{WorkerRan, Ready, IsReady, AllReady, AllRan, CountsFew, IsCounted}
 use Rattle.object_workers.specs.declared.worker.Worker.{Worker}
 use Rattle.object_workers.proofs.Numbers.{total_end}
-use Rattle.object_workers.proofs.Turns.{steps_few}
+use Rattle.object_workers.proofs.public.Turns.{steps_few}
 
 module _ {D C R : Type 0} (table : TableId) (opening : D) where
   -- each of the workers is ready

@@ -1,3 +1,3 @@
-pub mod Gathering
-pub mod Numbers
-pub mod Turns
+pub mod public
+mod Gathering
+mod Numbers

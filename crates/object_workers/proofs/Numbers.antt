@@ -6,7 +6,7 @@ use mathlib.Core.Option.{some, some-injective, some-ne-none}
 use lib.ListN.{get_elem?}
 use Rattle.crossbeam_queue.specs.Fifo.{Pushes, Pops, Forks, Learns}
 use Rattle.object_workers.specs.Dealt.{Dealt, hand, range, times, total}
-use Rattle.object_workers.specs.declared.dealing.Hand.{Hand}
+use Rattle.object_workers.specs.declared.queue.Hand.{Hand}
 
 module _ {X : Type 0} (f : X → ℕ) where
   -- one element changes

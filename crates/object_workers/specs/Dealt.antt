@@ -1,6 +1,6 @@
 -- The rule of the queue of branch numbers.
 use Rattle.std.specs.Prelude.{◌≡◌, ℕ, zero, suc, ◌+◌, ◌==◌, if◌then◌else◌, List, [], ◌∷◌, length}
-use Rattle.object_workers.specs.declared.dealing.Hand.{Hand}
+use Rattle.object_workers.specs.declared.queue.Hand.{Hand}
 
 -- these numbers in one's hands
 abbrev pub hand : List ℕ → Hand

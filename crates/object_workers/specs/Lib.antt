@@ -1,3 +1,3 @@
 pub mod Dealt
 pub mod Runs
-pub mod walking
+pub mod internal

@@ -4,7 +4,7 @@ use mathlib.Core.List.{IsPrefix}
 use Rattle.atomic_table.specs.Seated.{TableId}
 use Rattle.recorded_calls.specs.History.{IsLegal}
 use Rattle.recorded_calls.specs.declared.entry.Entry.{Entry}
-use Rattle.locked_object.specs.Passes.{IsPassOf, number, seen, own}
+use Rattle.locked_object.specs.Passes.{IsPassOf, number, seen_history, own}
 use Rattle.locked_object.specs.declared.pass.Pass.{Pass}
 use Rattle.object_workers.specs.Dealt.{total}
 
@@ -13,7 +13,8 @@ module _ {C R : Type 0} where
   abbrev pub steps_in : (R → Bool) → List (Entry C R) → ℕ
   steps_in steps = total (λ e. if steps e.reply then 1 else 0)
 
-  -- a call of the pass of this number, which asks for a step of a branch below the count, of branch 0 where there is none
+  -- a call of the pass of this number, which asks for a step of a branch below the count, of branch 0 where there is
+  -- none
   abbrev pub AsksBranch : (ℕ → C) → ℕ → ℕ → Entry C R → Type 0
   AsksBranch asks count n e = (e.pass ≡ n) × ((k : ℕ) × (e.command ≡ asks k) × ((k < count) ⊎ ((count ≡ 0) × (k ≡ 0))))
 
@@ -28,7 +29,7 @@ module _ {D C R : Type 0} where
     pub record PassRan (before after : Pass D C R) (added : List (Entry C R)) : Type 0 where
       pub fits : IsPassOf table opening after
       pub same : number after ≡ number before
-      pub saw : IsPrefix (seen before) (seen after)
+      pub saw : IsPrefix (seen_history before) (seen_history after)
       pub made : own after ≡ own before ++ added
       pub branches : AskBranches asks count (number before) added
       pub few : length added ≤ turns
@@ -48,7 +49,8 @@ module _ {D C R : Type 0} where
 
   -- the pass has seen what it had seen, or it has seen a legal history
   abbrev pub SawLegal : (D → ℕ → C → R → D → Type 0) → D → Pass D C R → Pass D C R → Type 0
-  SawLegal performs opening before after = (seen after ≡ seen before) ⊎ IsLegal performs opening (seen after)
+  SawLegal performs opening before after =
+      (seen_history after ≡ seen_history before) ⊎ IsLegal performs opening (seen_history after)
 
   -- each of the passes, in their order
   abbrev pub AllSawLegal : (D → ℕ → C → R → D → Type 0) → D → List (Pass D C R) → List (Pass D C R) → Type 0

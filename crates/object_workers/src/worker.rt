@@ -2,9 +2,9 @@
 ghost use Rattle.std.specs.Prelude.{ℕ, List, ◌-◌, ◌≡◌, ◌⊎◌, ◌≤◌, ◌<◌, ◌+◌, ◌^◌, ◌∷◌, if◌then◌else◌, MatchResult};
 ghost use Rattle.crossbeam_queue.specs.Passes as queue;
 ghost use Rattle.locked_object.specs.Passes as locked;
-ghost use Rattle.object_workers.specs.walking.Workers.{WorkerFits, WorkerRan, InHands, AskedFor};
+ghost use Rattle.object_workers.specs.internal.Workers.{WorkerFits, WorkerRan, InHands, AskedFor};
 
-use crate::dealing::{Branching, Gives, Hand, Queue, Takes};
+use crate::queue::{Branching, Gives, Hand, Queue, Takes};
 use crate::{Branches, Gate};
 use locked_object::{NotRecorded, Pass, Shared};
 use std::sync::Wait;
@@ -17,7 +17,8 @@ pub(crate) struct Work<'a, C: Drop, R: Drop, D: Branches<C, R>, G: Gate, B: Bran
     pub(crate) gate: &'a G,
 }
 
-/// A pass, its place at the queue, the number of the worker, which is its pass's place from 0, and how many of its turns were steps and were lost.
+/// A pass, its place at the queue, the number of the worker, which is its pass's place from 0, and how many of its
+/// turns were steps and were lost.
 #[derive(Drop)]
 pub(crate) struct Worker<D, C, R> {
     pub(crate) pass: Pass<D, C, R>,
@@ -35,10 +36,12 @@ impl<C: Drop, R: Drop, D: Branches<C, R>> Worker<D, C, R> {
         work: &Work<'_, C, R, D, G, B>,
         turns: u64,
     )
-        requires fits { WorkerFits work.now.shared.now.board.table.shared.table_id work.now.shared.now.board.table.shared.key work.now.queue.now.table.shared.table_id self.old }
+        requires fits { WorkerFits work.now.shared.now.board.table.shared.table_id
+            work.now.shared.now.board.table.shared.key work.now.queue.now.table.shared.table_id self.old }
         requires new { (self.old.stepped ≡ 0) × (self.old.lost ≡ 0) }
         requires room { B.count ≤ queue.ruled_capacity work.now.queue.now }
-        ensures { WorkerRan work.now.shared.now.board.table.shared.table_id work.now.shared.now.board.table.shared.key D.performs D.asks D.steps B.count turns self.old self.new }
+        ensures { WorkerRan work.now.shared.now.board.table.shared.table_id work.now.shared.now.board.table.shared.key
+            D.performs D.asks D.steps B.count turns self.old self.new }
     {
         for turn in 0..turns {
             self.turn(rt, work, turn);
@@ -52,11 +55,14 @@ impl<C: Drop, R: Drop, D: Branches<C, R>> Worker<D, C, R> {
         work: &Work<'_, C, R, D, G, B>,
         turn: u64,
     )
-        requires fits { WorkerFits work.now.shared.now.board.table.shared.table_id work.now.shared.now.board.table.shared.key work.now.queue.now.table.shared.table_id self.old }
+        requires fits { WorkerFits work.now.shared.now.board.table.shared.table_id
+            work.now.shared.now.board.table.shared.key work.now.queue.now.table.shared.table_id self.old }
         requires few { (self.old.stepped ≤ turn) × (self.old.lost ≤ turn) × (turn < 2 ^ 64 - 1) }
         requires room { B.count ≤ queue.ruled_capacity work.now.queue.now }
-        ensures fits { WorkerFits work.now.shared.now.board.table.shared.table_id work.now.shared.now.board.table.shared.key work.now.queue.now.table.shared.table_id self.new }
-        ensures ran { WorkerRan work.now.shared.now.board.table.shared.table_id work.now.shared.now.board.table.shared.key D.performs D.asks D.steps B.count 1 self.old self.new }
+        ensures fits { WorkerFits work.now.shared.now.board.table.shared.table_id
+            work.now.shared.now.board.table.shared.key work.now.queue.now.table.shared.table_id self.new }
+        ensures ran { WorkerRan work.now.shared.now.board.table.shared.table_id
+            work.now.shared.now.board.table.shared.key D.performs D.asks D.steps B.count 1 self.old self.new }
     {
         match work.queue.pop_as::<Takes<B>, W>(rt, &mut self.seat) {
             Some(branch) => {
@@ -75,13 +81,15 @@ impl<C: Drop, R: Drop, D: Branches<C, R>> Worker<D, C, R> {
         branch: u32,
         turn: u64,
     )
-        requires pass { locked.IsPassOf work.now.shared.now.board.table.shared.table_id work.now.shared.now.board.table.shared.key self.old.pass }
+        requires pass { locked.IsPassOf work.now.shared.now.board.table.shared.table_id
+            work.now.shared.now.board.table.shared.key self.old.pass }
         requires branch { (branch < B.count) ⊎ ((B.count ≡ 0) × (branch ≡ 0)) }
         requires held { InHands (queue.view self.old.seat).numbers branch }
         requires few { (self.old.stepped ≤ turn) × (self.old.lost ≤ turn) × (turn < 2 ^ 64 - 1) }
         ensures asked { AskedFor D.asks branch self.old.pass self.new.pass }
         ensures seat { (self.new.seat ≡ self.old.seat) × (self.new.number ≡ self.old.number) }
-        ensures ran { WorkerRan work.now.shared.now.board.table.shared.table_id work.now.shared.now.board.table.shared.key D.performs D.asks D.steps B.count 1 self.old self.new }
+        ensures ran { WorkerRan work.now.shared.now.board.table.shared.table_id
+            work.now.shared.now.board.table.shared.key D.performs D.asks D.steps B.count 1 self.old self.new }
     {
         work.gate.before(self.number, turn);
         let command = D::ask(branch);
@@ -93,9 +101,11 @@ impl<C: Drop, R: Drop, D: Branches<C, R>> Worker<D, C, R> {
     /// Counts a step, or a turn that was lost.
     fn count(&mut self, told: &Result<R, NotRecorded<R>>)
         requires { (self.old.stepped < 2 ^ 64 - 1) × (self.old.lost < 2 ^ 64 - 1) }
-        ensures same { (self.new.pass ≡ self.old.pass) × (self.new.seat ≡ self.old.seat) × (self.new.number ≡ self.old.number) }
+        ensures same { (self.new.pass ≡ self.old.pass) × (self.new.seat ≡ self.old.seat)
+            × (self.new.number ≡ self.old.number) }
         ensures counted { MatchResult told.now
-            (λ reply. (self.new.stepped ≡ self.old.stepped + (if D.steps reply then 1 else 0)) × (self.new.lost ≡ self.old.lost))
+            (λ reply. (self.new.stepped ≡ self.old.stepped + (if D.steps reply then 1 else 0))
+            × (self.new.lost ≡ self.old.lost))
             (λ _. (self.new.stepped ≡ self.old.stepped) × (self.new.lost ≡ self.old.lost + 1)) }
     {
         match told {

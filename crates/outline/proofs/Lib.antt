@@ -1,1 +1,1 @@
-pub mod Numbering
+mod Numbering

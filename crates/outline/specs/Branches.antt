@@ -1,5 +1,5 @@
--- The branches of a system, each with its number, its place and the ends that it uses: the children of the body where that is a
--- parallel, else the body as one, and behind them the environment's side of each port, in order.
+-- The branches of a system, each with its number, its place and the ends that it uses: the children of the body where
+-- that is a parallel, else the body as one, and behind them the environment's side of each port, in order.
 use Rattle.std.specs.Prelude.{◌≡◌, ◌↔◌, ℕ, ◌+◌, ◌≤◌, List, [], ◌∷◌, ◌++◌, Option, None, Some, length, slice_get}
 use Rattle.address.specs.declared.Entry.{Entry}
 use Rattle.address.specs.declared.Entry.TheVariants.{Branch}
@@ -21,7 +21,13 @@ of_body body = record { number = 0; place = Branch 0 ∷ []; part = Body (out-Co
 
 -- child n of a body that is a parallel, at /0/n
 abbrev pub of_child : ℕ → Command → BranchEntry
-of_child n child = record { number = n; place = Branch 0 ∷ Branch n ∷ []; part = Body (out-Command child).line; ends = ends_in child [] }
+of_child n child =
+    record {
+      number = n;
+      place = Branch 0 ∷ Branch n ∷ [];
+      part = Body (out-Command child).line;
+      ends = ends_in child [];
+    }
 
 -- the children, the first with the number n
 abbrev pub of_children : ℕ → List Command → List BranchEntry
@@ -59,17 +65,19 @@ of_main body (Some children) = of_children 0 children
 -- all branches, in order of their numbers
 abbrev pub branches_of : System → List BranchEntry
 branches_of system =
-    of_main system.main (parallel_of system.main) ++ of_ports (length (of_main system.main (parallel_of system.main))) 1 system.environment
+    of_main system.main (parallel_of system.main)
+    ++ of_ports (length (of_main system.main (parallel_of system.main))) 1 system.environment
 
 -- the place a is p or below it
 abbrev pub Under : List Entry → List Entry → Type 0
 Under p a = (rest : List Entry) × (a ≡ p ++ rest)
 
--- one entry for each number from 0 on, in order, and a place lies in branch k, as `branch` means it, exactly where the entry
--- of number k has it at its place or below
+-- one entry for each number from 0 on, in order, and a place lies in branch k, as `branch` means it, exactly where the
+-- entry of number k has it at its place or below
 pub record IsNumbered (system : System) (entries : List BranchEntry) : Type 0 where
   pub in_order : (i : ℕ) (e : BranchEntry) → slice_get entries i ≡ Some e → e.number ≡ i
-  pub exactly : (a : List Entry) (k : ℕ) → branch_at system a ≡ Some k ↔ ((e : BranchEntry) × (slice_get entries k ≡ Some e) × Under e.place a)
+  pub exactly : (a : List Entry) (k : ℕ) → branch_at system a ≡ Some k ↔
+      ((e : BranchEntry) × (slice_get entries k ≡ Some e) × Under e.place a)
 
 -- so it is of all branches, where each number has 32 bits
 abbrev pub BranchesByNumber : Type 0

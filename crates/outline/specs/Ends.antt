@@ -1,5 +1,5 @@
--- The ends of channels that a command uses: each send, receive, sync and arm with the line of its command, in the order of the
--- source. (Balsa calls the two sides of a handshake its ends; own word for a use in the source.)
+-- The ends of channels that a command uses: each send, receive, sync and arm with the line of its command, in the order
+-- of the source. (Balsa calls the two sides of a handshake its ends; own word for a use in the source.)
 use Rattle.std.specs.Prelude.{ℕ, ◌+◌, List, [], ◌∷◌, ◌++◌, Option, None, Some}
 use Rattle.system.specs.declared.command.Command.{Command}
 use Rattle.system.specs.declared.command.Action.TheOpen.{Action-F, Arm-F, Command-F, Guarded-F, Labelled-F}

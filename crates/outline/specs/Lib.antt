@@ -3,4 +3,4 @@ pub mod Ends
 pub mod Names
 pub mod OutlineText
 pub mod Outlined
-pub mod walking
+pub mod internal

@@ -72,7 +72,8 @@ called_at a c = called_if (order_of a c.place) c.name
 -- a branch: its number, its place, the calls that it is, and the ends that it uses
 abbrev pub branch_head : List CallEntry → BranchEntry → List ℕ
 branch_head calls b =
-    codes "  " ++ decimal b.number ++ codes " " ++ text_of b.place ++ part_text b.part ++ flat_map (called_at b.place) calls ++ ending
+    codes "  " ++ decimal b.number ++ codes " " ++ text_of b.place ++ part_text b.part
+    ++ flat_map (called_at b.place) calls ++ ending
 
 abbrev pub branch_lines : List ChannelEntry → List CallEntry → BranchEntry → List ℕ
 branch_lines channels calls b = branch_head calls b ++ flat_map (end_line channels) b.ends
@@ -109,7 +110,8 @@ kind_text Sync = codes " sync"
 -- an end of branch k, if it is one of channel n
 abbrev pub use_line : ℕ → ℕ → End → List ℕ
 use_line n k e =
-    cond (e.channel == n) (codes "    " ++ way_text e.way ++ codes ", branch " ++ decimal k ++ on_line e.line ++ ending) []
+    cond (e.channel == n) (codes "    " ++ way_text e.way ++ codes ", branch " ++ decimal k ++ on_line e.line
+    ++ ending) []
 
 abbrev pub uses_lines : ℕ → BranchEntry → List ℕ
 uses_lines n b = flat_map (use_line n b.number) b.ends
@@ -138,7 +140,8 @@ enumeration_lines e = codes "  " ++ e.name ++ codes " line " ++ decimal e.line +
 -- ---- all of it
 
 abbrev pub branches_text : Outline → Described → List ℕ
-branches_text o d = count_line (codes "branches") (length o.branches) ++ flat_map (branch_lines o.channels d.calls) o.branches
+branches_text o d =
+    count_line (codes "branches") (length o.branches) ++ flat_map (branch_lines o.channels d.calls) o.branches
 
 abbrev pub calls_text : Described → List ℕ
 calls_text d = count_line (codes "calls") (length d.calls) ++ flat_map call_line d.calls ++ deeper_line d.deeper
@@ -149,10 +152,12 @@ variables_text o d =
 
 abbrev pub channels_text : Outline → Described → List ℕ
 channels_text o d =
-    count_line (codes "channels") (length o.channels) ++ flat_map (channel_lines o.branches d.channel_lines.items) o.channels
+    count_line (codes "channels") (length o.channels)
+    ++ flat_map (channel_lines o.branches d.channel_lines.items) o.channels
 
 abbrev pub enumerations_text : Described → List ℕ
-enumerations_text d = count_line (codes "enumerations") (length d.enumerations) ++ flat_map enumeration_lines d.enumerations
+enumerations_text d =
+    count_line (codes "enumerations") (length d.enumerations) ++ flat_map enumeration_lines d.enumerations
 
 -- what the system tells, with the calls that are branches and the lines of declarations that the source tells
 abbrev pub system_text : Outline → Described → List ℕ

@@ -39,7 +39,8 @@ fn write_each(
     branches: &[BranchEntry],
     out: &mut Vec<u8>,
 ) -> Result<(), AllocError>
-    ensures { OnOk result (out.new.items ≡ out.old.items ++ flat_map (model.branch_lines channels.now calls.now) branches.now) }
+    ensures { OnOk result (out.new.items
+        ≡ out.old.items ++ flat_map (model.branch_lines channels.now calls.now) branches.now) }
 {
     for branch in branches {
         write_branch(channels, calls, branch, out)?;

@@ -174,7 +174,8 @@ fn place_of(alloc: Global, entries: &[Entry]) -> Result<Address, AllocError>
     Address::new(alloc, entries)
 }
 
-/// The number in 32 bits. It is an error if it has more, which no description reaches that fits into the limits of size.
+/// The number in 32 bits. It is an error if it has more, which no description reaches that fits into the limits of
+/// size.
 pub(crate) fn as_number(count: usize) -> Result<u32, AllocError>
     ensures { IfOk result (λ number. number ≡ count) }
 {

@@ -38,7 +38,8 @@ fn write_each(
     channels: &[ChannelEntry],
     out: &mut Vec<u8>,
 ) -> Result<(), AllocError>
-    ensures { OnOk result (out.new.items ≡ out.old.items ++ flat_map (model.channel_lines branches.now lines.now) channels.now) }
+    ensures { OnOk result (out.new.items
+        ≡ out.old.items ++ flat_map (model.channel_lines branches.now lines.now) channels.now) }
 {
     for channel in channels {
         write_channel(branches, lines, channel, out)?;

@@ -2,7 +2,7 @@
 ghost use Rattle.std.specs.Prelude.{◌≡◌, [], map, IfOk, OnOk};
 ghost use Rattle.std.specs.Option.{option_map};
 ghost use Rattle.outline.specs.Ends as model;
-ghost use Rattle.outline.specs.walking.Parts as parts;
+ghost use Rattle.outline.specs.internal.Parts as parts;
 
 use std::alloc::{AllocError, Global};
 use syntax::Items;

@@ -1,5 +1,5 @@
-//! What there is in a system, by the numbers that script lines and answers use: its branches, each with the ends of channels
-//! that it uses, its variables and its channels.
+//! What there is in a system, by the numbers that script lines and answers use: its branches, each with the ends of
+//! channels that it uses, its variables and its channels.
 #![tactic(auto)]
 
 mod branch_text;

@@ -20,8 +20,8 @@ pub struct Outline {
     pub channels: Items<ChannelEntry>,
 }
 
-/// Exactly the branches, variables and channels of the system, each once, in order of numbers. It is an error if there is no
-/// memory.
+/// Exactly the branches, variables and channels of the system, each once, in order of numbers. It is an error if there
+/// is no memory.
 pub fn outline_of(alloc: Global, checked: &Checked) -> Result<Outline, AllocError>
     ensures { IfOk result (λ made. Outlines checked.now made) }
 {

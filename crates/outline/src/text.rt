@@ -12,8 +12,8 @@ use described::Described;
 use std::alloc::AllocError;
 
 impl Outline {
-    /// Adds the text, without what only the source tells: the branches with the ends that they use, the variables, and the channels
-    /// with who uses them. Without memory a part of it may be there.
+    /// Adds the text, without what only the source tells: the branches with the ends that they use, the variables, and
+    /// the channels with who uses them. Without memory a part of it may be there.
     pub fn write_to(&self, out: &mut Vec<u8>) -> Result<(), AllocError>
         ensures { OnOk result ((d : told.Described) × (out.new.items ≡ out.old.items ++ model.system_text self.now d)) }
     {
@@ -21,8 +21,8 @@ impl Outline {
         write_system(self, &nothing, out)
     }
 
-    /// Adds the text, with the calls that are branches and the lines of declarations, and behind it the calls and the enumerations.
-    /// Without memory a part of it may be there.
+    /// Adds the text, with the calls that are branches and the lines of declarations, and behind it the calls and the
+    /// enumerations. Without memory a part of it may be there.
     pub fn write_with(&self, described: &Described, out: &mut Vec<u8>) -> Result<(), AllocError>
         ensures { OnOk result (out.new.items ≡ out.old.items ++ model.outline_text self.now described.now) }
     {

@@ -4,11 +4,11 @@ use Rattle.std.specs.Prelude.{IfOk, IfErr, MatchResult}
 use Rattle.lexer.specs.declared.token.Token.{Token}
 use Rattle.syntax.specs.declared.declaration.Description.{Description}
 use Rattle.parser.specs.Accepted.{Parses, IsRefused}
-use Rattle.parser.specs.walking.Answer.{IsAnswer}
+use Rattle.parser.specs.internal.Answer.{IsAnswer}
 use Rattle.parser.specs.Offsets.{offset_at}
 use Rattle.refusals.specs.declared.parser.Fault.{Fault}
 use Rattle.refusals.specs.declared.parser.Fault.TheVariants.{Memory, Unexpected, TooDeep}
-use Rattle.parser.specs.walking.Readers.{Outcome, read, unexpected, too_deep}
+use Rattle.parser.specs.internal.Readers.{Outcome, read, unexpected, too_deep}
 use Rattle.parser.proofs.Parsed.{outcome, parsed, unexpected_first, too_deep_first, every_description, every_unexpected, every_too_deep}
 
 pub answers_description : (tokens : List Token) (result : Result Description Fault) → IsAnswer tokens (outcome tokens) result → IfOk result (λ given. Parses tokens given)

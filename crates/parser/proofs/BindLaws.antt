@@ -4,7 +4,7 @@ use Rattle.lexer.specs.declared.token.Kind.{Kind}
 use Rattle.lexer.specs.declared.token.Token.{Token}
 use Rattle.parser.specs.Input.{Input, input, next, is_one_of}
 use Rattle.parser.specs.Rules.{Rule, bind as bind_rule}
-use Rattle.parser.specs.walking.Readers.{Reader, Outcome, read, unexpected, too_deep, and_then, bind}
+use Rattle.parser.specs.internal.Readers.{Reader, Outcome, read, unexpected, too_deep, and_then, bind}
 use Rattle.parser.proofs.Laws.{up, Completed, HasSentence, Taken, Halt, at_unexpected, at_too_deep, halted, Halted, Deeper, Traced, Complete, Alike, Grows, Starts, Laws, Full}
 use Rattle.parser.proofs.FrontLemmas.{next_behind, joined}
 use Rattle.parser.proofs.Membership.{none_in, stranger, in_first, in_second, in_neither}

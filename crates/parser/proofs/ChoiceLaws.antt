@@ -6,7 +6,7 @@ use Rattle.lexer.specs.declared.token.Kind.{Kind}
 use Rattle.lexer.specs.declared.token.Token.{Token}
 use Rattle.parser.specs.Input.{Input, input, next, is_one_of}
 use Rattle.parser.specs.Rules.{Rule, either, inside as inside_rule}
-use Rattle.parser.specs.walking.Readers.{Reader, Outcome, read, unexpected, too_deep, and_then, branch, inside}
+use Rattle.parser.specs.internal.Readers.{Reader, Outcome, read, unexpected, too_deep, and_then, branch, inside}
 use Rattle.parser.proofs.Laws.{up, Completed, HasSentence, Taken, Halt, at_unexpected, at_too_deep, halted, Halted, Traced, Alike, Laws, Full}
 use Rattle.parser.proofs.FrontLemmas.{next_behind}
 use Rattle.parser.proofs.Membership.{all_in, none_in, member, no_member, stranger, in_first, in_second, in_neither}

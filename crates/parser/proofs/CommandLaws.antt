@@ -11,9 +11,9 @@ use Rattle.syntax.specs.declared.command.Action.{Action}
 use Rattle.syntax.specs.declared.command.Action.TheVariants as action
 use Rattle.parser.specs.Input.{is_one_of, same_kind}
 use Rattle.parser.specs.Rules.{Rule}
-use Rattle.parser.specs.walking.Readers.{Reader}
+use Rattle.parser.specs.internal.Readers.{Reader}
 use Rattle.parser.specs.Grammar as g
-use Rattle.parser.specs.walking.Reading as r
+use Rattle.parser.specs.internal.Reading as r
 use Rattle.parser.proofs.Laws.{HasSentence, Laws, Full}
 use Rattle.parser.proofs.BindLaws.{bind_full, bind_sentence}
 use Rattle.parser.proofs.TakeLaws.{pure_full, pure_sentence, take_full, take_sentence}

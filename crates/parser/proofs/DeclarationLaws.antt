@@ -4,7 +4,7 @@ use Rattle.lexer.specs.declared.token.Kind.TheVariants as kind
 use Rattle.syntax.specs.declared.name.Identifier.{Identifier}
 use Rattle.parser.specs.Input.{same_kind}
 use Rattle.parser.specs.Grammar as g
-use Rattle.parser.specs.walking.Reading as r
+use Rattle.parser.specs.internal.Reading as r
 use Rattle.parser.proofs.Laws.{Full}
 use Rattle.parser.proofs.BindLaws.{bind_full}
 use Rattle.parser.proofs.TakeLaws.{pure_full, take_full}

@@ -7,10 +7,10 @@ use Rattle.syntax.specs.declared.span.Span.{Span}
 use Rattle.syntax.specs.declared.expression.Expr.{Expr}
 use Rattle.parser.specs.Input.{is_one_of, same_kind}
 use Rattle.parser.specs.Rules.{Rule}
-use Rattle.parser.specs.walking.Readers.{Reader}
+use Rattle.parser.specs.internal.Readers.{Reader}
 use Rattle.parser.specs.Grammar as g
 use Rattle.parser.specs.Grammar.{sum_signs, comparison_signs, conjunct_words, expression_words}
-use Rattle.parser.specs.walking.Reading as r
+use Rattle.parser.specs.internal.Reading as r
 use Rattle.parser.proofs.Laws.{HasSentence, Laws, Full}
 use Rattle.parser.proofs.Membership.{all_in, none_in}
 use Rattle.parser.proofs.BindLaws.{bind_full, bind_sentence}

@@ -11,9 +11,9 @@ use Rattle.parser.specs.Input.{Input}
 use Rattle.parser.specs.Sentences.{StopsAt, StopsForGood, StopsForLevels}
 use Rattle.parser.specs.declared.halt.Halt.{Halt}
 use Rattle.parser.specs.declared.halt.Halt.TheVariants as stop
-use Rattle.parser.specs.walking.Answer.{fault_before}
-use Rattle.parser.specs.walking.Readers.{read}
-use Rattle.parser.specs.walking.Reads.{Halts}
+use Rattle.parser.specs.internal.Answer.{fault_before}
+use Rattle.parser.specs.internal.Readers.{read}
+use Rattle.parser.specs.internal.Reads.{Halts}
 use Rattle.parser.proofs.Parsed.{outcome, parsed, unexpected_stop, too_deep_stop}
 
 -- where reading stops at a token it stops there with more behind it

@@ -4,7 +4,7 @@ use Rattle.lexer.specs.declared.token.Kind.{Kind}
 use Rattle.lexer.specs.declared.token.Token.{Token}
 use Rattle.parser.specs.Input.{Input, input, next, is_one_of}
 use Rattle.parser.specs.Rules.{Rule}
-use Rattle.parser.specs.walking.Readers.{Reader, Outcome, read, unexpected, too_deep}
+use Rattle.parser.specs.internal.Readers.{Reader, Outcome, read, unexpected, too_deep}
 
 -- the same place with one level more
 abbrev pub up : Input → Input

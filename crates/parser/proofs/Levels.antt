@@ -1,9 +1,9 @@
 -- What is read inside a level, one level at a time.
 use Rattle.std.proofs.Common.{◌≡◌, ℕ, zero, suc, ◌+◌, ◌-◌, ◌<◌, refl, ap, ◌∙◌, arith}
 use Rattle.parser.specs.Input.{Input}
-use Rattle.parser.specs.walking.Readers.{Reader, unexpected, nothing, inside, bind}
-use Rattle.parser.specs.walking.Reading.{factor, factor_of, expression, expression_of, grouped, conjunct_of, comparison_of, compared, sum_of, simple, simple_of, command_of, parallel_of, alone_or_joined}
-use Rattle.parser.specs.walking.Nests.{inner, factor_in, expression_in, simple_in, command_in}
+use Rattle.parser.specs.internal.Readers.{Reader, unexpected, nothing, inside, bind}
+use Rattle.parser.specs.internal.Reading.{factor, factor_of, expression, expression_of, grouped, conjunct_of, comparison_of, compared, sum_of, simple, simple_of, command_of, parallel_of, alone_or_joined}
+use Rattle.parser.specs.internal.Nests.{inner, factor_in, expression_in, simple_in, command_in}
 
 -- inside the last level there is nothing
 pub none_inside : {A : Type 0} (reader : ℕ → Reader A) (depth : ℕ) (i : Input) → depth ≡ 0 → inner reader depth i ≡ unexpected i.tokens

@@ -1,23 +1,23 @@
-pub mod Answered
-pub mod BalanceLaws
-pub mod BindLaws
-pub mod ChoiceLaws
-pub mod Closed
-pub mod CommandLaws
-pub mod DeclarationLaws
-pub mod ExpressionLaws
-pub mod FrontLemmas
-pub mod Halted
-pub mod InsideLemmas
-pub mod LastLemmas
-pub mod Laws
-pub mod Levels
-pub mod ListLaws
-pub mod Membership
-pub mod OpenLaws
-pub mod Parsed
-pub mod PartLaws
-pub mod RepeatLaws
-pub mod TakeLaws
-pub mod Turns
-pub mod WholeLaws
+pub mod public
+mod Answered
+mod BalanceLaws
+mod BindLaws
+mod ChoiceLaws
+mod Closed
+mod CommandLaws
+mod DeclarationLaws
+mod ExpressionLaws
+mod FrontLemmas
+mod Halted
+mod InsideLemmas
+mod LastLemmas
+mod Laws
+mod Levels
+mod ListLaws
+mod Membership
+mod OpenLaws
+mod Parsed
+mod RepeatLaws
+mod TakeLaws
+mod Turns
+mod WholeLaws

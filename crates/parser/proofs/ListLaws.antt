@@ -5,9 +5,9 @@ use Rattle.lexer.specs.declared.token.Kind.TheVariants as kind
 use Rattle.lexer.specs.declared.token.Kind.TheVariants.{End}
 use Rattle.parser.specs.Input.{is_one_of, same_kind}
 use Rattle.parser.specs.Rules.{Rule}
-use Rattle.parser.specs.walking.Readers.{Reader}
+use Rattle.parser.specs.internal.Readers.{Reader}
 use Rattle.parser.specs.Grammar as g
-use Rattle.parser.specs.walking.Reading as r
+use Rattle.parser.specs.internal.Reading as r
 use Rattle.parser.proofs.Laws.{HasSentence, Full}
 use Rattle.parser.proofs.Membership.{all_in, none_in, apart_nothing}
 use Rattle.parser.proofs.BindLaws.{bind_full, bind_sentence}

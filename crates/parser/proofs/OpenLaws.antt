@@ -6,7 +6,7 @@ use Rattle.lexer.specs.declared.token.Kind.TheVariants.{End}
 use Rattle.lexer.specs.declared.token.Token.{Token}
 use Rattle.parser.specs.Input.{Input, input, next, is_one_of}
 use Rattle.parser.specs.Rules.{Rule, bind as bind_rule, take_open as take_open_rule}
-use Rattle.parser.specs.walking.Readers.{Reader, read, unexpected, too_deep, bind, take_open, take_open_from, opened}
+use Rattle.parser.specs.internal.Readers.{Reader, read, unexpected, too_deep, bind, take_open, take_open_from, opened}
 use Rattle.parser.proofs.Laws.{up, Completed, HasSentence, Taken, at_unexpected, Halted, Deeper, Traced, Alike, Grows, Laws, Full}
 use Rattle.parser.proofs.Membership.{apart_nothing}
 use Rattle.parser.proofs.BindLaws.{bind_traced, bind_laws, alike_second}

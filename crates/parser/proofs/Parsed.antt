@@ -8,9 +8,9 @@ use Rattle.parser.specs.Accepted.{most_levels, Parses, FirstUnexpected, FirstToo
 use Rattle.parser.specs.Offsets.{offset_at}
 use Rattle.parser.specs.Sentences.{StopsForGood, StopsForLevels}
 use Rattle.parser.specs.Input.{Input, input, is_one_of, same_kind}
-use Rattle.parser.specs.walking.Readers.{Outcome, read, unexpected, too_deep, whole}
+use Rattle.parser.specs.internal.Readers.{Outcome, read, unexpected, too_deep, whole}
 use Rattle.parser.specs.Grammar as g
-use Rattle.parser.specs.walking.Reading as r
+use Rattle.parser.specs.internal.Reading as r
 use Rattle.parser.proofs.DeclarationLaws.{description_full}
 use Rattle.parser.proofs.WholeLaws.{read_sentence, sentence_read, stops_for_good, stops_for_levels, good_stop_read, deep_stop_read}
 

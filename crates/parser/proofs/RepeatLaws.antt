@@ -6,7 +6,7 @@ use Rattle.lexer.specs.declared.token.Kind.TheVariants.{End}
 use Rattle.lexer.specs.declared.token.Token.{Token}
 use Rattle.parser.specs.Input.{Input, input, next, is_one_of}
 use Rattle.parser.specs.Rules.{Rule, bind as bind_rule, pure as pure_rule, turns, repeat as repeat_rule}
-use Rattle.parser.specs.walking.Readers.{Reader, Outcome, read, unexpected, too_deep, and_then, bind, pure, branch, repeat, repeat_from}
+use Rattle.parser.specs.internal.Readers.{Reader, Outcome, read, unexpected, too_deep, and_then, bind, pure, branch, repeat, repeat_from}
 use Rattle.parser.proofs.Laws.{up, HasSentence, Taken, Traced, Alike, Starts, Laws, Full}
 use Rattle.parser.proofs.Membership.{all_in, none_in, member, stranger, in_neither}
 use Rattle.parser.proofs.BindLaws.{bind_traced, completed_first, alike_second}

@@ -6,7 +6,7 @@ use Rattle.lexer.specs.declared.token.Kind.TheVariants.{End}
 use Rattle.lexer.specs.declared.token.Token.{Token}
 use Rattle.parser.specs.Input.{Input, input, next, is_one_of}
 use Rattle.parser.specs.Rules.{pure as pure_rule, take as take_rule}
-use Rattle.parser.specs.walking.Readers.{read, unexpected, pure, take, take_from}
+use Rattle.parser.specs.internal.Readers.{read, unexpected, pure, take, take_from}
 use Rattle.parser.proofs.Laws.{up, HasSentence, Taken, at_unexpected, Halted, Traced, Alike, Laws, Full}
 
 pub pure_sentence : {A : Type 0} (a : A) → HasSentence (pure_rule a)

@@ -6,8 +6,8 @@ use Rattle.syntax.specs.declared.expression.Expr.{Expr}
 use Rattle.parser.specs.declared.halt.Halt.{Halt}
 use Rattle.parser.specs.declared.halt.Halt.TheVariants.{Memory, Unexpected, TooDeep}
 use Rattle.parser.specs.Input.{Input, next, is_one_of}
-use Rattle.parser.specs.walking.Readers.{Outcome, Reader, read, and_then, bind, pure, branch, repeat, repeat_from}
-use Rattle.parser.specs.walking.Reads.{Halts}
+use Rattle.parser.specs.internal.Readers.{Outcome, Reader, read, and_then, bind, pure, branch, repeat, repeat_from}
+use Rattle.parser.specs.internal.Reads.{Halts}
 
 -- one turn fewer is left
 left_over : (n at : ℕ) → at < n → n - at ≡ suc (n - (at + 1))

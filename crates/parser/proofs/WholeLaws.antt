@@ -8,7 +8,7 @@ use Rattle.lexer.specs.declared.token.Kind.TheVariants.{End}
 use Rattle.lexer.specs.declared.token.Token.{Token}
 use Rattle.parser.specs.Input.{Input, input, next, is_one_of, same_kind}
 use Rattle.parser.specs.Rules.{Rule}
-use Rattle.parser.specs.walking.Readers.{Reader, Outcome, read, unexpected, too_deep, and_then, whole}
+use Rattle.parser.specs.internal.Readers.{Reader, Outcome, read, unexpected, too_deep, and_then, whole}
 use Rattle.parser.specs.Sentences.{Spells, GoesOn, GoesOnWith, StopsAt, StopsForGood, StopsForLevels}
 use Rattle.parser.proofs.Laws.{up, Completed, Taken, at_unexpected, at_too_deep, Halted, Deeper, Traced, Alike, Full}
 use Rattle.parser.proofs.Membership.{same}

@@ -5,4 +5,4 @@ pub mod Offsets
 pub mod Rules
 pub mod Sentences
 pub mod Trees
-pub mod walking
+pub mod internal

@@ -2,13 +2,13 @@
 //! so that each function but one is proved by itself.
 
 ghost use Rattle.std.specs.Prelude.{◌≡◌, ◌+◌, ◌^◌, ◌<◌};
-ghost use Rattle.parser.specs.walking.Nests.{ReadsAt, simple_in, command_in, expression_in};
-ghost use Rattle.parser.specs.walking.Readers.{read};
-ghost use Rattle.parser.specs.walking.Reading as reading;
-ghost use Rattle.parser.specs.walking.Reading.{command_of};
-ghost use Rattle.parser.specs.walking.Reads.{place, Reads};
+ghost use Rattle.parser.specs.internal.Nests.{ReadsAt, simple_in, command_in, expression_in};
+ghost use Rattle.parser.specs.internal.Readers.{read};
+ghost use Rattle.parser.specs.internal.Reading as reading;
+ghost use Rattle.parser.specs.internal.Reading.{command_of};
+ghost use Rattle.parser.specs.internal.Reads.{place, Reads};
 ghost use Rattle.parser.specs.Trees as trees;
-ghost use Rattle.parser.specs.walking.BySign as by_sign;
+ghost use Rattle.parser.specs.internal.BySign as by_sign;
 
 use crate::cursor::Cursor;
 use crate::expression::expression;
@@ -28,7 +28,7 @@ fn new_command(cursor: &Cursor<'_, '_>, span: Span, action: Action) -> Result<Co
 
 /// `end`, behind what begins at `start`. The command is made first, since an action that is dropped
 /// at the `?` would be dropped form by form.
-#[tactic(auto, unfolding(crate::specs::walking::Readers::bind, crate::specs::walking::Readers::pure))]
+#[tactic(auto, unfolding(crate::specs::internal::Readers::bind, crate::specs::internal::Readers::pure))]
 fn ended(cursor: &mut Cursor<'_, '_>, start: Span, action: Action) -> Result<Command, Halt>
     ensures { Reads (reading.ended start action (place cursor.old)) result (place cursor.new) }
 {
@@ -39,7 +39,7 @@ fn ended(cursor: &mut Cursor<'_, '_>, start: Span, action: Action) -> Result<Com
 }
 
 /// `continue`
-#[tactic(auto, unfolding(crate::specs::walking::Reading::word, crate::specs::walking::Readers::bind, crate::specs::walking::Readers::pure))]
+#[tactic(auto, unfolding(crate::specs::internal::Reading::word, crate::specs::internal::Readers::bind, crate::specs::internal::Readers::pure))]
 fn nothing(cursor: &mut Cursor<'_, '_>) -> Result<Command, Halt>
     ensures { Reads (reading.word Kind.ContinueWord Action.Continue (place cursor.old)) result (place cursor.new) }
 {
@@ -48,7 +48,7 @@ fn nothing(cursor: &mut Cursor<'_, '_>) -> Result<Command, Halt>
 }
 
 /// `halt`
-#[tactic(auto, unfolding(crate::specs::walking::Reading::word, crate::specs::walking::Readers::bind, crate::specs::walking::Readers::pure))]
+#[tactic(auto, unfolding(crate::specs::internal::Reading::word, crate::specs::internal::Readers::bind, crate::specs::internal::Readers::pure))]
 fn halt(cursor: &mut Cursor<'_, '_>) -> Result<Command, Halt>
     ensures { Reads (reading.word Kind.HaltWord Action.Halt (place cursor.old)) result (place cursor.new) }
 {
@@ -57,7 +57,7 @@ fn halt(cursor: &mut Cursor<'_, '_>) -> Result<Command, Halt>
 }
 
 /// `sync name`
-#[tactic(auto, unfolding(crate::specs::walking::Reading::synchronisation, crate::specs::walking::Readers::bind, crate::specs::walking::Readers::pure))]
+#[tactic(auto, unfolding(crate::specs::internal::Reading::synchronisation, crate::specs::internal::Readers::bind, crate::specs::internal::Readers::pure))]
 fn sync(cursor: &mut Cursor<'_, '_>) -> Result<Command, Halt>
     ensures { Reads (reading.synchronisation (place cursor.old)) result (place cursor.new) }
 {
@@ -78,7 +78,7 @@ fn given_by(sign: Kind, name: Identifier, value: Expr) -> Action
 }
 
 /// `:= expression` or `<- expression`, behind `name`.
-#[tactic(auto, unfolding(crate::specs::walking::Readers::bind, crate::specs::walking::Readers::pure))]
+#[tactic(auto, unfolding(crate::specs::internal::Readers::bind, crate::specs::internal::Readers::pure))]
 fn give(
     cursor: &mut Cursor<'_, '_>,
     sign: Kind,
@@ -95,7 +95,7 @@ fn give(
 }
 
 /// A variable's name, behind `channel ->`.
-#[tactic(auto, unfolding(crate::specs::walking::Reading::receiving, crate::specs::walking::Readers::bind, crate::specs::walking::Readers::pure))]
+#[tactic(auto, unfolding(crate::specs::internal::Reading::receiving, crate::specs::internal::Readers::bind, crate::specs::internal::Readers::pure))]
 fn receive(cursor: &mut Cursor<'_, '_>, channel: Identifier) -> Result<Command, Halt>
     ensures { Reads (reading.receiving channel (place cursor.old)) result (place cursor.new) }
 {
@@ -106,7 +106,7 @@ fn receive(cursor: &mut Cursor<'_, '_>, channel: Identifier) -> Result<Command, 
 }
 
 /// The names in the parentheses of a call, none or more.
-#[tactic(auto, unfolding(crate::specs::walking::Reading::arguments, crate::specs::walking::Readers::branch, crate::specs::walking::Readers::pure))]
+#[tactic(auto, unfolding(crate::specs::internal::Reading::arguments, crate::specs::internal::Readers::branch, crate::specs::internal::Readers::pure))]
 fn arguments(cursor: &mut Cursor<'_, '_>) -> Result<Items<Identifier>, Halt>
     ensures { Reads (reading.arguments (place cursor.old)) result (place cursor.new) }
 {
@@ -118,7 +118,7 @@ fn arguments(cursor: &mut Cursor<'_, '_>) -> Result<Items<Identifier>, Halt>
 }
 
 /// `( names )`, behind `procedure`.
-#[tactic(auto, unfolding(crate::specs::walking::Reading::call, crate::specs::walking::Readers::bind, crate::specs::walking::Readers::pure))]
+#[tactic(auto, unfolding(crate::specs::internal::Reading::call, crate::specs::internal::Readers::bind, crate::specs::internal::Readers::pure))]
 fn call(cursor: &mut Cursor<'_, '_>, procedure: Identifier) -> Result<Command, Halt>
     ensures { Reads (reading.call procedure (place cursor.old)) result (place cursor.new) }
 {
@@ -159,7 +159,7 @@ struct Joined<'r, R> {
 
 impl<R: Rule<Tree = Command>> Joined<'_, R> {
     /// The command that `first` begins.
-    #[tactic(auto, unfolding(crate::specs::walking::Reading::joined, crate::specs::walking::Reading::one_more, crate::specs::walking::Readers::bind, crate::specs::walking::Readers::pure))]
+    #[tactic(auto, unfolding(crate::specs::internal::Reading::joined, crate::specs::internal::Reading::one_more, crate::specs::internal::Readers::bind, crate::specs::internal::Readers::pure))]
     fn joined(&self, cursor: &mut Cursor<'_, '_>, first: Command) -> Result<Command, Halt>
         requires { R.can_read self.now.item.now }
         ensures { Reads
@@ -184,9 +184,10 @@ impl<R: Rule<Tree = Command>> Rule for Joined<'_, R> {
 
     ghost can_read = { λ joined. R.can_read joined.item.now };
 
-    ghost reader = { λ joined. reading.alone_or_joined joined.sign (by_sign.made_of joined.sign) (R.reader joined.item.now) };
+    ghost reader = { λ joined.
+        reading.alone_or_joined joined.sign (by_sign.made_of joined.sign) (R.reader joined.item.now) };
 
-    #[tactic(auto, unfolding(crate::specs::walking::Reading::alone_or_joined, crate::specs::walking::Readers::branch, crate::specs::walking::Readers::bind, crate::specs::walking::Readers::pure))]
+    #[tactic(auto, unfolding(crate::specs::internal::Reading::alone_or_joined, crate::specs::internal::Readers::branch, crate::specs::internal::Readers::bind, crate::specs::internal::Readers::pure))]
     fn read(&self, cursor: &mut Cursor<'_, '_>) -> Result<Command, Halt> {
         let first = self.item.read(cursor)?;
         if cursor.sees(self.sign) {
@@ -208,7 +209,7 @@ struct Parts<R> {
 
 impl<R: Rule<Tree = Command>> Parts<R> {
     /// Any command: parallels with `;` between them, of simple commands with `||` between them.
-    #[tactic(auto, unfolding(crate::specs::walking::Reading::command_of, crate::specs::walking::Reading::parallel_of))]
+    #[tactic(auto, unfolding(crate::specs::internal::Reading::command_of, crate::specs::internal::Reading::parallel_of))]
     fn command(&self, cursor: &mut Cursor<'_, '_>) -> Result<Command, Halt>
         requires { R.can_read self.now.simple }
         ensures { Reads (command_of (R.reader self.now.simple) (place cursor.old)) result (place cursor.new) }
@@ -225,7 +226,7 @@ impl<R: Rule<Tree = Command>> Parts<R> {
     }
 
     /// `[ command ]`
-    #[tactic(auto, unfolding(crate::specs::walking::Reading::bracketed, crate::specs::walking::Readers::bind, crate::specs::walking::Readers::pure))]
+    #[tactic(auto, unfolding(crate::specs::internal::Reading::bracketed, crate::specs::internal::Readers::bind, crate::specs::internal::Readers::pure))]
     fn bracketed(&self, cursor: &mut Cursor<'_, '_>) -> Result<Command, Halt>
         requires { R.can_read self.now.simple }
         ensures { Reads
@@ -240,7 +241,7 @@ impl<R: Rule<Tree = Command>> Parts<R> {
     }
 
     /// `then command`
-    #[tactic(auto, unfolding(crate::specs::walking::Reading::body, crate::specs::walking::Readers::bind, crate::specs::walking::Readers::pure))]
+    #[tactic(auto, unfolding(crate::specs::internal::Reading::body, crate::specs::internal::Readers::bind, crate::specs::internal::Readers::pure))]
     fn body(&self, cursor: &mut Cursor<'_, '_>) -> Result<Command, Halt>
         requires { R.can_read self.now.simple }
         ensures { Reads
@@ -252,7 +253,7 @@ impl<R: Rule<Tree = Command>> Parts<R> {
     }
 
     /// `while expression then command end`, behind the `loop` at `start`.
-    #[tactic(auto, unfolding(crate::specs::walking::Reading::while_loop, crate::specs::walking::Readers::bind, crate::specs::walking::Readers::pure))]
+    #[tactic(auto, unfolding(crate::specs::internal::Reading::while_loop, crate::specs::internal::Readers::bind, crate::specs::internal::Readers::pure))]
     fn while_loop(&self, cursor: &mut Cursor<'_, '_>, start: Span) -> Result<Command, Halt>
         requires { R.can_read self.now.simple }
         ensures { Reads
@@ -266,7 +267,7 @@ impl<R: Rule<Tree = Command>> Parts<R> {
     }
 
     /// `command end`, behind the `loop` at `start`.
-    #[tactic(auto, unfolding(crate::specs::walking::Reading::endless, crate::specs::walking::Readers::bind, crate::specs::walking::Readers::pure))]
+    #[tactic(auto, unfolding(crate::specs::internal::Reading::endless, crate::specs::internal::Readers::bind, crate::specs::internal::Readers::pure))]
     fn endless(&self, cursor: &mut Cursor<'_, '_>, start: Span) -> Result<Command, Halt>
         requires { R.can_read self.now.simple }
         ensures { Reads
@@ -278,7 +279,7 @@ impl<R: Rule<Tree = Command>> Parts<R> {
     }
 
     /// `loop .. end`
-    #[tactic(auto, unfolding(crate::specs::walking::Reading::looping, crate::specs::walking::Readers::branch, crate::specs::walking::Readers::bind, crate::specs::walking::Readers::pure))]
+    #[tactic(auto, unfolding(crate::specs::internal::Reading::looping, crate::specs::internal::Readers::branch, crate::specs::internal::Readers::bind, crate::specs::internal::Readers::pure))]
     fn repeated(&self, cursor: &mut Cursor<'_, '_>) -> Result<Command, Halt>
         requires { R.can_read self.now.simple }
         ensures { Reads
@@ -294,7 +295,7 @@ impl<R: Rule<Tree = Command>> Parts<R> {
     }
 
     /// `else command`, or nothing.
-    #[tactic(auto, unfolding(crate::specs::walking::Reading::otherwise, crate::specs::walking::Reading::last_body, crate::specs::walking::Readers::branch, crate::specs::walking::Readers::bind, crate::specs::walking::Readers::pure))]
+    #[tactic(auto, unfolding(crate::specs::internal::Reading::otherwise, crate::specs::internal::Reading::last_body, crate::specs::internal::Readers::branch, crate::specs::internal::Readers::bind, crate::specs::internal::Readers::pure))]
     fn otherwise(&self, cursor: &mut Cursor<'_, '_>) -> Result<Option<Command>, Halt>
         requires { R.can_read self.now.simple }
         ensures { Reads
@@ -311,7 +312,7 @@ impl<R: Rule<Tree = Command>> Parts<R> {
     }
 
     /// `if .. end`
-    #[tactic(auto, unfolding(crate::specs::walking::Reading::branching, crate::specs::walking::Readers::bind, crate::specs::walking::Readers::pure))]
+    #[tactic(auto, unfolding(crate::specs::internal::Reading::branching, crate::specs::internal::Readers::bind, crate::specs::internal::Readers::pure))]
     fn branching(&self, cursor: &mut Cursor<'_, '_>) -> Result<Command, Halt>
         requires { R.can_read self.now.simple }
         ensures { Reads
@@ -327,7 +328,7 @@ impl<R: Rule<Tree = Command>> Parts<R> {
     }
 
     /// `of .. end`, behind the `case` at `start` and `value`.
-    #[tactic(auto, unfolding(crate::specs::walking::Readers::bind, crate::specs::walking::Readers::pure))]
+    #[tactic(auto, unfolding(crate::specs::internal::Readers::bind, crate::specs::internal::Readers::pure))]
     fn cases(&self, cursor: &mut Cursor<'_, '_>, start: Span, value: Expr) -> Result<Command, Halt>
         requires { R.can_read self.now.simple }
         ensures { Reads
@@ -342,7 +343,7 @@ impl<R: Rule<Tree = Command>> Parts<R> {
     }
 
     /// `case .. end`
-    #[tactic(auto, unfolding(crate::specs::walking::Reading::casing, crate::specs::walking::Readers::bind, crate::specs::walking::Readers::pure))]
+    #[tactic(auto, unfolding(crate::specs::internal::Reading::casing, crate::specs::internal::Readers::bind, crate::specs::internal::Readers::pure))]
     fn case(&self, cursor: &mut Cursor<'_, '_>) -> Result<Command, Halt>
         requires { R.can_read self.now.simple }
         ensures { Reads
@@ -355,7 +356,7 @@ impl<R: Rule<Tree = Command>> Parts<R> {
     }
 
     /// `select .. end`
-    #[tactic(auto, unfolding(crate::specs::walking::Reading::selecting, crate::specs::walking::Readers::bind, crate::specs::walking::Readers::pure))]
+    #[tactic(auto, unfolding(crate::specs::internal::Reading::selecting, crate::specs::internal::Readers::bind, crate::specs::internal::Readers::pure))]
     fn select(&self, cursor: &mut Cursor<'_, '_>) -> Result<Command, Halt>
         requires { R.can_read self.now.simple }
         ensures { Reads
@@ -369,7 +370,7 @@ impl<R: Rule<Tree = Command>> Parts<R> {
     }
 
     /// `| name then command end`, behind the `arbitrate` at `start` and its first arm.
-    #[tactic(auto, unfolding(crate::specs::walking::Readers::bind, crate::specs::walking::Readers::pure))]
+    #[tactic(auto, unfolding(crate::specs::internal::Readers::bind, crate::specs::internal::Readers::pure))]
     fn against(&self, cursor: &mut Cursor<'_, '_>, start: Span, first: Arm) -> Result<Command, Halt>
         requires { R.can_read self.now.simple }
         ensures { Reads
@@ -382,7 +383,7 @@ impl<R: Rule<Tree = Command>> Parts<R> {
     }
 
     /// `arbitrate .. end`
-    #[tactic(auto, unfolding(crate::specs::walking::Reading::arbitrating, crate::specs::walking::Readers::bind, crate::specs::walking::Readers::pure))]
+    #[tactic(auto, unfolding(crate::specs::internal::Reading::arbitrating, crate::specs::internal::Readers::bind, crate::specs::internal::Readers::pure))]
     fn arbitrate(&self, cursor: &mut Cursor<'_, '_>) -> Result<Command, Halt>
         requires { R.can_read self.now.simple }
         ensures { Reads
@@ -396,7 +397,7 @@ impl<R: Rule<Tree = Command>> Parts<R> {
     }
 
     /// `then command end`, behind `channel ->`.
-    #[tactic(auto, unfolding(crate::specs::walking::Reading::enclosing, crate::specs::walking::Readers::bind, crate::specs::walking::Readers::pure))]
+    #[tactic(auto, unfolding(crate::specs::internal::Reading::enclosing, crate::specs::internal::Readers::bind, crate::specs::internal::Readers::pure))]
     fn input(&self, cursor: &mut Cursor<'_, '_>, channel: Identifier) -> Result<Command, Halt>
         requires { R.can_read self.now.simple }
         ensures { Reads
@@ -410,7 +411,7 @@ impl<R: Rule<Tree = Command>> Parts<R> {
     }
 
     /// `->` and what stands behind it, behind `channel`.
-    #[tactic(auto, unfolding(crate::specs::walking::Reading::incoming, crate::specs::walking::Readers::branch, crate::specs::walking::Readers::bind, crate::specs::walking::Readers::pure))]
+    #[tactic(auto, unfolding(crate::specs::internal::Reading::incoming, crate::specs::internal::Readers::branch, crate::specs::internal::Readers::bind, crate::specs::internal::Readers::pure))]
     fn incoming(&self, cursor: &mut Cursor<'_, '_>, channel: Identifier) -> Result<Command, Halt>
         requires { R.can_read self.now.simple }
         ensures { Reads
@@ -427,7 +428,7 @@ impl<R: Rule<Tree = Command>> Parts<R> {
     }
 
     /// What begins with a name.
-    #[tactic(auto, unfolding(crate::specs::walking::Reading::named, crate::specs::walking::Reading::assignment, crate::specs::walking::Reading::sending, crate::specs::walking::Readers::branch, crate::specs::walking::Readers::bind, crate::specs::walking::Readers::pure))]
+    #[tactic(auto, unfolding(crate::specs::internal::Reading::named, crate::specs::internal::Reading::assignment, crate::specs::internal::Reading::sending, crate::specs::internal::Readers::branch, crate::specs::internal::Readers::bind, crate::specs::internal::Readers::pure))]
     fn named(&self, cursor: &mut Cursor<'_, '_>) -> Result<Command, Halt>
         requires { R.can_read self.now.simple }
         ensures { Reads
@@ -447,7 +448,7 @@ impl<R: Rule<Tree = Command>> Parts<R> {
     }
 
     /// A command that is no sequence and no parallel, unless in brackets.
-    #[tactic(auto, unfolding(crate::specs::walking::Reading::any_simple, crate::specs::walking::Readers::branch))]
+    #[tactic(auto, unfolding(crate::specs::internal::Reading::any_simple, crate::specs::internal::Readers::branch))]
     fn choice(&self, cursor: &mut Cursor<'_, '_>) -> Result<Command, Halt>
         requires { R.can_read self.now.simple }
         ensures { Reads
@@ -479,7 +480,7 @@ impl<R: Rule<Tree = Command>> Parts<R> {
     }
 
     /// The same, and closes the levels that it opened.
-    #[tactic(auto, using(crate::proofs::Closed::closes), unfolding(crate::specs::walking::Reading::simple_of, crate::specs::walking::Readers::inside))]
+    #[tactic(auto, using(crate::proofs::Closed::closes), unfolding(crate::specs::internal::Reading::simple_of, crate::specs::internal::Readers::inside))]
     fn whole(&self, cursor: &mut Cursor<'_, '_>) -> Result<Command, Halt>
         requires { R.can_read self.now.simple }
         ensures { Reads
@@ -505,9 +506,10 @@ impl<R: Rule<Tree = Command>> Rule for GuardedRule<'_, R> {
 
     ghost can_read = { λ arm. R.can_read arm.parts.now.simple };
 
-    ghost reader = { λ arm. reading.guarded (command_of (R.reader arm.parts.now.simple)) (expression_in arm.parts.now.depth) };
+    ghost reader = { λ arm.
+        reading.guarded (command_of (R.reader arm.parts.now.simple)) (expression_in arm.parts.now.depth) };
 
-    #[tactic(auto, unfolding(crate::specs::walking::Reading::guarded, crate::specs::walking::Readers::bind, crate::specs::walking::Readers::pure))]
+    #[tactic(auto, unfolding(crate::specs::internal::Reading::guarded, crate::specs::internal::Readers::bind, crate::specs::internal::Readers::pure))]
     fn read(&self, cursor: &mut Cursor<'_, '_>) -> Result<Guarded, Halt> {
         let guard = expression(cursor, self.parts.depth)?;
         let body = self.parts.body(cursor)?;
@@ -529,7 +531,7 @@ impl<R: Rule<Tree = Command>> Rule for CaseArmRule<'_, R> {
     ghost reader = { λ arm.
         reading.case_arm (command_of (R.reader arm.parts.now.simple)) (expression_in arm.parts.now.depth) };
 
-    #[tactic(auto, unfolding(crate::specs::walking::Reading::case_arm, crate::specs::walking::Readers::bind, crate::specs::walking::Readers::pure))]
+    #[tactic(auto, unfolding(crate::specs::internal::Reading::case_arm, crate::specs::internal::Readers::bind, crate::specs::internal::Readers::pure))]
     fn read(&self, cursor: &mut Cursor<'_, '_>) -> Result<CaseArm, Halt> {
         let labels = labels(cursor)?;
         let body = self.parts.body(cursor)?;
@@ -548,9 +550,10 @@ impl<R: Rule<Tree = Command>> Rule for ArmRule<'_, R> {
 
     ghost can_read = { λ arm. R.can_read arm.parts.now.simple };
 
-    ghost reader = { λ arm. reading.arm_of (command_of (R.reader arm.parts.now.simple)) (expression_in arm.parts.now.depth) };
+    ghost reader = { λ arm.
+        reading.arm_of (command_of (R.reader arm.parts.now.simple)) (expression_in arm.parts.now.depth) };
 
-    #[tactic(auto, unfolding(crate::specs::walking::Reading::arm_of, crate::specs::walking::Readers::bind, crate::specs::walking::Readers::pure))]
+    #[tactic(auto, unfolding(crate::specs::internal::Reading::arm_of, crate::specs::internal::Readers::bind, crate::specs::internal::Readers::pure))]
     fn read(&self, cursor: &mut Cursor<'_, '_>) -> Result<Arm, Halt> {
         let channel = cursor.identifier()?;
         let body = self.parts.body(cursor)?;
@@ -568,7 +571,8 @@ struct Inside<F> {
 impl<F: Fn(&mut Cursor<'_, '_>, usize) -> Result<Command, Halt>> Rule for Inside<F> {
     type Tree = Command;
 
-    ghost can_read = { λ inside. ReadsAt inside.depth (simple_in inside.depth) (F.pre inside.simple) (F.post inside.simple) };
+    ghost can_read = { λ inside.
+        ReadsAt inside.depth (simple_in inside.depth) (F.pre inside.simple) (F.post inside.simple) };
 
     ghost reader = { λ inside. simple_in inside.depth };
 

@@ -1,9 +1,9 @@
 ghost use Rattle.std.specs.Prelude.{◌≡◌, ℕ, [], ◌∷◌};
 ghost use Rattle.parser.specs.Input as spec;
 ghost use Rattle.parser.specs.Input.{input, next};
-ghost use Rattle.parser.specs.walking.Readers.{take, take_open};
-ghost use Rattle.parser.specs.walking.Reading as reading;
-ghost use Rattle.parser.specs.walking.Reads.{place, Reads, Lends};
+ghost use Rattle.parser.specs.internal.Readers.{take, take_open};
+ghost use Rattle.parser.specs.internal.Reading as reading;
+ghost use Rattle.parser.specs.internal.Reads.{place, Reads, Lends};
 
 use crate::halt::Halt;
 use lexer::{Kind, Token};
@@ -99,7 +99,7 @@ impl<'a, 's> Cursor<'a, 's> {
     }
 
     /// Goes behind the next token, which has to be of one of these kinds.
-    #[tactic(auto, unfolding(crate::specs::walking::Readers::take))]
+    #[tactic(auto, unfolding(crate::specs::internal::Readers::take))]
     pub fn take_any(&mut self, kinds: &[Kind]) -> Result<&'a Token<'s>, Halt>
         ensures { Lends (take kinds.now (place self.old)) result (place self.new) }
     {
@@ -113,7 +113,7 @@ impl<'a, 's> Cursor<'a, 's> {
     }
 
     /// The same, and the token opens a level: one of `depth`, of which the cursor may open fewer.
-    #[tactic(auto, unfolding(crate::specs::walking::Readers::take_open))]
+    #[tactic(auto, unfolding(crate::specs::internal::Readers::take_open))]
     pub fn open_any(&mut self, depth: usize, kinds: &[Kind]) -> Result<&'a Token<'s>, Halt>
         ensures { Lends (take_open depth kinds.now (place self.old)) result (place self.new) }
     {
@@ -145,7 +145,7 @@ impl<'a, 's> Cursor<'a, 's> {
     }
 
     /// A name.
-    #[tactic(auto, unfolding(crate::specs::walking::Reading::identifier, crate::specs::walking::Readers::bind, crate::specs::walking::Readers::pure))]
+    #[tactic(auto, unfolding(crate::specs::internal::Reading::identifier, crate::specs::internal::Readers::bind, crate::specs::internal::Readers::pure))]
     pub fn identifier(&mut self) -> Result<Identifier, Halt>
         ensures { Reads (reading.identifier (place self.old)) result (place self.new) }
     {

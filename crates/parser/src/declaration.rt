@@ -1,11 +1,11 @@
 //! Declarations and the whole description.
 
 ghost use Rattle.std.specs.Prelude.{◌≡◌, List, [], ◌∷◌};
-ghost use Rattle.parser.specs.walking.Readers as readers;
-ghost use Rattle.parser.specs.walking.Reading as reading;
-ghost use Rattle.parser.specs.walking.Reads.{place, Reads};
+ghost use Rattle.parser.specs.internal.Readers as readers;
+ghost use Rattle.parser.specs.internal.Reading as reading;
+ghost use Rattle.parser.specs.internal.Reads.{place, Reads};
 ghost use Rattle.parser.specs.Accepted.{most_levels};
-ghost use Rattle.parser.specs.walking.BySign as by_sign;
+ghost use Rattle.parser.specs.internal.BySign as by_sign;
 ghost use Rattle.lexer.specs.declared.token.Kind.{Kind};
 ghost use Rattle.syntax.specs.declared.expression.TypeName.{TypeName};
 ghost use Rattle.syntax.specs.declared.name.Identifier.{Identifier};
@@ -23,7 +23,7 @@ use syntax::{
 };
 
 /// `number bits` or `enumeration names end`
-#[tactic(auto, unfolding(crate::specs::walking::Reading::type_definition, crate::specs::walking::Reading::bits, crate::specs::walking::Reading::enumeration, crate::specs::walking::Readers::branch, crate::specs::walking::Readers::bind, crate::specs::walking::Readers::pure))]
+#[tactic(auto, unfolding(crate::specs::internal::Reading::type_definition, crate::specs::internal::Reading::bits, crate::specs::internal::Reading::enumeration, crate::specs::internal::Readers::branch, crate::specs::internal::Readers::bind, crate::specs::internal::Readers::pure))]
 fn definition(cursor: &mut Cursor<'_, '_>) -> Result<TypeDefinition, Halt>
     ensures { Reads (reading.type_definition (place cursor.old)) result (place cursor.new) }
 {
@@ -49,7 +49,7 @@ impl Rule for TypeRule {
 
     ghost reader = { λ _. reading.type_declaration };
 
-    #[tactic(auto, unfolding(crate::specs::walking::Reading::type_declaration, crate::specs::walking::Readers::bind, crate::specs::walking::Readers::pure))]
+    #[tactic(auto, unfolding(crate::specs::internal::Reading::type_declaration, crate::specs::internal::Readers::bind, crate::specs::internal::Readers::pure))]
     fn read(&self, cursor: &mut Cursor<'_, '_>) -> Result<TypeDeclaration, Halt> {
         cursor.take(Kind::TypeWord)?;
         let name = cursor.identifier()?;
@@ -75,7 +75,7 @@ trait Declared: Drop {
 }
 
 /// `word names : type`
-#[tactic(auto, unfolding(crate::specs::walking::Readers::bind, crate::specs::walking::Readers::pure))]
+#[tactic(auto, unfolding(crate::specs::internal::Readers::bind, crate::specs::internal::Readers::pure))]
 fn typed<D: Declared>(cursor: &mut Cursor<'_, '_>, word: Kind) -> Result<D, Halt>
     ensures { Reads (reading.typed word (D.typed word) (place cursor.old)) result (place cursor.new) }
 {
@@ -86,7 +86,7 @@ fn typed<D: Declared>(cursor: &mut Cursor<'_, '_>, word: Kind) -> Result<D, Halt
 }
 
 /// `sync names`
-#[tactic(auto, unfolding(crate::specs::walking::Readers::bind, crate::specs::walking::Readers::pure))]
+#[tactic(auto, unfolding(crate::specs::internal::Readers::bind, crate::specs::internal::Readers::pure))]
 fn synced<D: Declared>(cursor: &mut Cursor<'_, '_>) -> Result<D, Halt>
     ensures { Reads (reading.synced D.sync (place cursor.old)) result (place cursor.new) }
 {
@@ -126,7 +126,7 @@ impl Rule for PortRule {
 
     ghost reader = { λ _. reading.port_of };
 
-    #[tactic(auto, unfolding(crate::specs::walking::Reading::port_of, crate::specs::walking::Reading::input_port, crate::specs::walking::Reading::output_port, crate::specs::walking::Reading::sync_port, crate::specs::walking::Readers::branch))]
+    #[tactic(auto, unfolding(crate::specs::internal::Reading::port_of, crate::specs::internal::Reading::input_port, crate::specs::internal::Reading::output_port, crate::specs::internal::Reading::sync_port, crate::specs::internal::Readers::branch))]
     fn read(&self, cursor: &mut Cursor<'_, '_>) -> Result<Port, Halt> {
         if cursor.sees(Kind::InputWord) {
             typed(cursor, Kind::InputWord)
@@ -139,7 +139,7 @@ impl Rule for PortRule {
 }
 
 /// `( port ; .. ; port )`, or nothing.
-#[tactic(auto, unfolding(crate::specs::walking::Reading::ports, crate::specs::walking::Reading::port_list, crate::specs::walking::Readers::branch, crate::specs::walking::Readers::bind, crate::specs::walking::Readers::pure))]
+#[tactic(auto, unfolding(crate::specs::internal::Reading::ports, crate::specs::internal::Reading::port_list, crate::specs::internal::Readers::branch, crate::specs::internal::Readers::bind, crate::specs::internal::Readers::pure))]
 fn ports(cursor: &mut Cursor<'_, '_>) -> Result<Items<Port>, Halt>
     ensures { Reads (reading.ports (place cursor.old)) result (place cursor.new) }
 {
@@ -176,7 +176,7 @@ impl Declared for Local {
 }
 
 /// `shared variable names : type`
-#[tactic(auto, unfolding(crate::specs::walking::Reading::shared_variables, crate::specs::walking::Readers::bind, crate::specs::walking::Readers::pure))]
+#[tactic(auto, unfolding(crate::specs::internal::Reading::shared_variables, crate::specs::internal::Readers::bind, crate::specs::internal::Readers::pure))]
 fn shared_variables(cursor: &mut Cursor<'_, '_>) -> Result<Local, Halt>
     ensures { Reads (reading.shared_variables (place cursor.old)) result (place cursor.new) }
 {
@@ -197,7 +197,7 @@ impl Rule for LocalRule {
 
     ghost reader = { λ _. reading.local_of };
 
-    #[tactic(auto, unfolding(crate::specs::walking::Reading::local_of, crate::specs::walking::Reading::variables, crate::specs::walking::Reading::channels, crate::specs::walking::Reading::syncs, crate::specs::walking::Readers::branch))]
+    #[tactic(auto, unfolding(crate::specs::internal::Reading::local_of, crate::specs::internal::Reading::variables, crate::specs::internal::Reading::channels, crate::specs::internal::Reading::syncs, crate::specs::internal::Readers::branch))]
     fn read(&self, cursor: &mut Cursor<'_, '_>) -> Result<Local, Halt> {
         if cursor.sees(Kind::VariableWord) {
             typed(cursor, Kind::VariableWord)
@@ -220,7 +220,7 @@ const LOCAL_WORDS: [Kind; 4] = [
 ];
 
 /// `begin command end`
-#[tactic(auto, unfolding(crate::specs::walking::Reading::block, crate::specs::walking::Reading::command, crate::specs::walking::Readers::bind, crate::specs::walking::Readers::pure))]
+#[tactic(auto, unfolding(crate::specs::internal::Reading::block, crate::specs::internal::Reading::command, crate::specs::internal::Readers::bind, crate::specs::internal::Readers::pure))]
 fn block(cursor: &mut Cursor<'_, '_>) -> Result<Command, Halt>
     ensures { Reads (reading.block most_levels (place cursor.old)) result (place cursor.new) }
 {
@@ -231,7 +231,7 @@ fn block(cursor: &mut Cursor<'_, '_>) -> Result<Command, Halt>
 }
 
 /// The ports, locals and body of the procedure `name`.
-#[tactic(auto, unfolding(crate::specs::walking::Reading::procedure_of, crate::specs::walking::Readers::bind, crate::specs::walking::Readers::pure))]
+#[tactic(auto, unfolding(crate::specs::internal::Reading::procedure_of, crate::specs::internal::Readers::bind, crate::specs::internal::Readers::pure))]
 fn procedure_of(cursor: &mut Cursor<'_, '_>, name: Identifier) -> Result<Procedure, Halt>
     ensures { Reads (reading.procedure_of most_levels name (place cursor.old)) result (place cursor.new) }
 {
@@ -257,7 +257,7 @@ impl Rule for ProcedureRule {
 
     ghost reader = { λ _. reading.procedure most_levels };
 
-    #[tactic(auto, unfolding(crate::specs::walking::Reading::procedure, crate::specs::walking::Readers::bind, crate::specs::walking::Readers::pure))]
+    #[tactic(auto, unfolding(crate::specs::internal::Reading::procedure, crate::specs::internal::Readers::bind, crate::specs::internal::Readers::pure))]
     fn read(&self, cursor: &mut Cursor<'_, '_>) -> Result<Procedure, Halt> {
         cursor.take(Kind::ProcedureWord)?;
         let name = cursor.identifier()?;
@@ -266,7 +266,7 @@ impl Rule for ProcedureRule {
 }
 
 /// Declarations of types, and one procedure or more.
-#[tactic(auto, unfolding(crate::specs::walking::Reading::description, crate::specs::walking::Reading::procedures, crate::specs::walking::Readers::bind, crate::specs::walking::Readers::pure))]
+#[tactic(auto, unfolding(crate::specs::internal::Reading::description, crate::specs::internal::Reading::procedures, crate::specs::internal::Readers::bind, crate::specs::internal::Readers::pure))]
 fn description(cursor: &mut Cursor<'_, '_>) -> Result<Description, Halt>
     ensures { Reads (reading.description most_levels (place cursor.old)) result (place cursor.new) }
 {
@@ -277,7 +277,7 @@ fn description(cursor: &mut Cursor<'_, '_>) -> Result<Description, Halt>
 }
 
 /// A description, and nothing behind it.
-#[tactic(auto, unfolding(crate::specs::walking::Readers::whole))]
+#[tactic(auto, unfolding(crate::specs::internal::Readers::whole))]
 pub fn whole(cursor: &mut Cursor<'_, '_>) -> Result<Description, Halt>
     ensures { Reads (readers.whole (reading.description most_levels) (place cursor.old)) result (place cursor.new) }
 {

@@ -3,10 +3,10 @@
 
 ghost use Rattle.std.specs.Prelude.{◌≡◌};
 ghost use Rattle.parser.specs.Grammar.{expression_words};
-ghost use Rattle.parser.specs.walking.Nests.{ReadsAt, factor_in, expression_in};
-ghost use Rattle.parser.specs.walking.Readers.{read};
-ghost use Rattle.parser.specs.walking.Reading as reading;
-ghost use Rattle.parser.specs.walking.Reads.{place, Reads};
+ghost use Rattle.parser.specs.internal.Nests.{ReadsAt, factor_in, expression_in};
+ghost use Rattle.parser.specs.internal.Readers.{read};
+ghost use Rattle.parser.specs.internal.Reading as reading;
+ghost use Rattle.parser.specs.internal.Reads.{place, Reads};
 ghost use Rattle.parser.specs.Trees as trees;
 
 use crate::cursor::Cursor;
@@ -58,7 +58,7 @@ fn new_expression(cursor: &Cursor<'_, '_>, span: Span, shape: Shape) -> Result<E
     Ok(Expr::new(cursor.alloc(), span, shape)?)
 }
 
-#[tactic(auto, unfolding(crate::specs::walking::Reading::number, crate::specs::walking::Readers::bind, crate::specs::walking::Readers::pure))]
+#[tactic(auto, unfolding(crate::specs::internal::Reading::number, crate::specs::internal::Readers::bind, crate::specs::internal::Readers::pure))]
 fn number(cursor: &mut Cursor<'_, '_>) -> Result<Expr, Halt>
     ensures { Reads (reading.number (place cursor.old)) result (place cursor.new) }
 {
@@ -67,7 +67,7 @@ fn number(cursor: &mut Cursor<'_, '_>) -> Result<Expr, Halt>
     new_expression(cursor, token.span, shape)
 }
 
-#[tactic(auto, unfolding(crate::specs::walking::Reading::variable_name, crate::specs::walking::Readers::bind, crate::specs::walking::Readers::pure))]
+#[tactic(auto, unfolding(crate::specs::internal::Reading::variable_name, crate::specs::internal::Readers::bind, crate::specs::internal::Readers::pure))]
 fn named(cursor: &mut Cursor<'_, '_>) -> Result<Expr, Halt>
     ensures { Reads (reading.variable_name (place cursor.old)) result (place cursor.new) }
 {
@@ -86,7 +86,7 @@ fn binary(cursor: &Cursor<'_, '_>, sign: &Token<'_>, left: Expr, right: Expr) ->
 }
 
 /// One of `signs` and the operand behind it, behind `left`.
-#[tactic(auto, unfolding(crate::specs::walking::Reading::operation, crate::specs::walking::Readers::bind, crate::specs::walking::Readers::pure))]
+#[tactic(auto, unfolding(crate::specs::internal::Reading::operation, crate::specs::internal::Readers::bind, crate::specs::internal::Readers::pure))]
 fn operation<R: Rule<Tree = Expr>>(
     operand: &R,
     cursor: &mut Cursor<'_, '_>,
@@ -118,7 +118,7 @@ impl<R: Rule<Tree = Expr>> Rule for Grouped<'_, R> {
 
     ghost reader = { λ grouped. reading.grouped grouped.depth grouped.signs.now (R.reader grouped.operand.now) };
 
-    #[tactic(auto, unfolding(crate::specs::walking::Reading::grouped, crate::specs::walking::Readers::bind))]
+    #[tactic(auto, unfolding(crate::specs::internal::Reading::grouped, crate::specs::internal::Readers::bind))]
     fn read(&self, cursor: &mut Cursor<'_, '_>) -> Result<Expr, Halt> {
         let mut left = self.operand.read(cursor)?;
         for _turn in 0..cursor.rest().len() {
@@ -145,7 +145,7 @@ impl<R: Rule<Tree = Expr>> Rule for Compared<'_, R> {
 
     ghost reader = { λ compared. reading.compared compared.depth (R.reader compared.operand.now) };
 
-    #[tactic(auto, unfolding(crate::specs::walking::Reading::compared, crate::specs::walking::Readers::branch, crate::specs::walking::Readers::bind, crate::specs::walking::Readers::pure))]
+    #[tactic(auto, unfolding(crate::specs::internal::Reading::compared, crate::specs::internal::Readers::branch, crate::specs::internal::Readers::bind, crate::specs::internal::Readers::pure))]
     fn read(&self, cursor: &mut Cursor<'_, '_>) -> Result<Expr, Halt> {
         let left = self.operand.read(cursor)?;
         if cursor.sees_any(&COMPARISON_SIGNS) {
@@ -166,7 +166,7 @@ struct Operands<R> {
 
 impl<R: Rule<Tree = Expr>> Operands<R> {
     /// Factors with operators between them, a rule for each rank. It closes the levels of its operators.
-    #[tactic(auto, using(crate::proofs::Closed::closes), unfolding(crate::specs::walking::Reading::expression_of, crate::specs::walking::Reading::sum_of, crate::specs::walking::Reading::comparison_of, crate::specs::walking::Reading::conjunct_of, crate::specs::walking::Readers::inside))]
+    #[tactic(auto, using(crate::proofs::Closed::closes), unfolding(crate::specs::internal::Reading::expression_of, crate::specs::internal::Reading::sum_of, crate::specs::internal::Reading::comparison_of, crate::specs::internal::Reading::conjunct_of, crate::specs::internal::Readers::inside))]
     fn expression(&self, cursor: &mut Cursor<'_, '_>) -> Result<Expr, Halt>
         requires { R.can_read self.now.factor }
         ensures { Reads (reading.expression_of self.now.depth (R.reader self.now.factor) (place cursor.old)) result
@@ -199,7 +199,7 @@ impl<R: Rule<Tree = Expr>> Operands<R> {
     }
 
     /// `not factor`
-    #[tactic(auto, unfolding(crate::specs::walking::Reading::negation, crate::specs::walking::Readers::bind, crate::specs::walking::Readers::pure))]
+    #[tactic(auto, unfolding(crate::specs::internal::Reading::negation, crate::specs::internal::Readers::bind, crate::specs::internal::Readers::pure))]
     fn negated(&self, cursor: &mut Cursor<'_, '_>) -> Result<Expr, Halt>
         requires { R.can_read self.now.factor }
         ensures { Reads
@@ -214,7 +214,7 @@ impl<R: Rule<Tree = Expr>> Operands<R> {
     }
 
     /// `( expression )` or `( expression as type )`
-    #[tactic(auto, unfolding(crate::specs::walking::Reading::parenthesised, crate::specs::walking::Readers::branch, crate::specs::walking::Readers::bind, crate::specs::walking::Readers::pure))]
+    #[tactic(auto, unfolding(crate::specs::internal::Reading::parenthesised, crate::specs::internal::Readers::branch, crate::specs::internal::Readers::bind, crate::specs::internal::Readers::pure))]
     fn parenthesised(&self, cursor: &mut Cursor<'_, '_>) -> Result<Expr, Halt>
         requires { R.can_read self.now.factor }
         ensures { Reads
@@ -232,7 +232,7 @@ impl<R: Rule<Tree = Expr>> Operands<R> {
     }
 
     /// What stands between operators.
-    #[tactic(auto, unfolding(crate::specs::walking::Reading::any_factor, crate::specs::walking::Readers::branch))]
+    #[tactic(auto, unfolding(crate::specs::internal::Reading::any_factor, crate::specs::internal::Readers::branch))]
     fn choice(&self, cursor: &mut Cursor<'_, '_>) -> Result<Expr, Halt>
         requires { R.can_read self.now.factor }
         ensures { Reads
@@ -252,7 +252,7 @@ impl<R: Rule<Tree = Expr>> Operands<R> {
     }
 
     /// The same, and closes the levels that it opened.
-    #[tactic(auto, using(crate::proofs::Closed::closes), unfolding(crate::specs::walking::Reading::factor_of, crate::specs::walking::Readers::inside))]
+    #[tactic(auto, using(crate::proofs::Closed::closes), unfolding(crate::specs::internal::Reading::factor_of, crate::specs::internal::Readers::inside))]
     fn whole(&self, cursor: &mut Cursor<'_, '_>) -> Result<Expr, Halt>
         requires { R.can_read self.now.factor }
         ensures { Reads
@@ -268,7 +268,7 @@ impl<R: Rule<Tree = Expr>> Operands<R> {
 }
 
 /// `as type )`, behind what begins at `start`.
-#[tactic(auto, unfolding(crate::specs::walking::Reading::cast, crate::specs::walking::Reading::closing, crate::specs::walking::Readers::bind, crate::specs::walking::Readers::pure))]
+#[tactic(auto, unfolding(crate::specs::internal::Reading::cast, crate::specs::internal::Reading::closing, crate::specs::internal::Readers::bind, crate::specs::internal::Readers::pure))]
 fn cast(cursor: &mut Cursor<'_, '_>, start: Span, operand: Expr) -> Result<Expr, Halt>
     ensures { Reads (reading.cast start operand (place cursor.old)) result (place cursor.new) }
 {
@@ -279,7 +279,7 @@ fn cast(cursor: &mut Cursor<'_, '_>, start: Span, operand: Expr) -> Result<Expr,
 }
 
 /// `)`, behind what begins at `start`.
-#[tactic(auto, unfolding(crate::specs::walking::Reading::closing, crate::specs::walking::Readers::bind, crate::specs::walking::Readers::pure))]
+#[tactic(auto, unfolding(crate::specs::internal::Reading::closing, crate::specs::internal::Readers::bind, crate::specs::internal::Readers::pure))]
 fn closing(cursor: &mut Cursor<'_, '_>, start: Span, operand: Expr) -> Result<Expr, Halt>
     ensures { Reads (reading.closing start operand (place cursor.old)) result (place cursor.new) }
 {
@@ -297,7 +297,8 @@ struct Inside<F> {
 impl<F: Fn(&mut Cursor<'_, '_>, usize) -> Result<Expr, Halt>> Rule for Inside<F> {
     type Tree = Expr;
 
-    ghost can_read = { λ inside. ReadsAt inside.depth (factor_in inside.depth) (F.pre inside.factor) (F.post inside.factor) };
+    ghost can_read = { λ inside.
+        ReadsAt inside.depth (factor_in inside.depth) (F.pre inside.factor) (F.post inside.factor) };
 
     ghost reader = { λ inside. factor_in inside.depth };
 

@@ -3,7 +3,7 @@
 ghost use Rattle.std.specs.Prelude.{◌≡◌, ◌⊎◌, ◌++◌, List, MatchOption};
 ghost use Rattle.lexer.specs.declared.token.Token.{Token};
 ghost use Rattle.parser.specs.Accepted.{Begins, IsRefused};
-ghost use Rattle.parser.specs.walking.Answer as answer;
+ghost use Rattle.parser.specs.internal.Answer as answer;
 ghost use Rattle.refusals.specs.declared.parser.Fault.TheVariants.{Memory};
 
 use crate::Fault;

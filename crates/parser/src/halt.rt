@@ -1,6 +1,6 @@
 // Why reading stops, before it is known where.
 ghost use Rattle.std.specs.Prelude.{◌≡◌};
-ghost use Rattle.parser.specs.walking.Answer.{fault_at};
+ghost use Rattle.parser.specs.internal.Answer.{fault_at};
 
 use crate::Fault;
 use std::alloc::{AllocError, AllocFailed};

@@ -3,11 +3,11 @@
 
 ghost use Rattle.std.specs.Prelude.{◌≡◌, ◌⊎◌, IfOk, IfErr, MatchResult};
 ghost use Rattle.parser.specs.Accepted.{IsRefused, Parses, most_levels};
-ghost use Rattle.parser.specs.walking.Answer.{IsAnswer};
+ghost use Rattle.parser.specs.internal.Answer.{IsAnswer};
 ghost use Rattle.parser.specs.Input.{input};
 ghost use Rattle.parser.specs.Offsets as offsets;
-ghost use Rattle.parser.specs.walking.Readers as readers;
-ghost use Rattle.parser.specs.walking.Reading as reading;
+ghost use Rattle.parser.specs.internal.Readers as readers;
+ghost use Rattle.parser.specs.internal.Reading as reading;
 ghost use Rattle.refusals.specs.declared.parser.Fault.{Fault};
 ghost use Rattle.refusals.specs.declared.parser.Fault.TheVariants.{Memory};
 ghost use Rattle.syntax.specs.declared.declaration.Description.{Description};

@@ -2,9 +2,9 @@
 
 ghost use Rattle.std.specs.Prelude.{◌≡◌, ◌++◌, [], ◌∷◌, IfOk, IfErr};
 ghost use Rattle.parser.specs.Input.{Input};
-ghost use Rattle.parser.specs.walking.Readers.{read};
-ghost use Rattle.parser.specs.walking.Reading as reading;
-ghost use Rattle.parser.specs.walking.Reads.{place, Builds, Reads};
+ghost use Rattle.parser.specs.internal.Readers.{read};
+ghost use Rattle.parser.specs.internal.Reading as reading;
+ghost use Rattle.parser.specs.internal.Reads.{place, Builds, Reads};
 ghost use Rattle.parser.specs.declared.halt.Halt.TheVariants.{Memory};
 
 use crate::cursor::Cursor;
@@ -38,7 +38,7 @@ impl<R: Rule> Rule for Behind<'_, R> {
 
     ghost reader = { λ behind. reading.behind behind.sign (R.reader behind.item.now) };
 
-    #[tactic(auto, unfolding(crate::specs::walking::Reading::behind, crate::specs::walking::Readers::bind))]
+    #[tactic(auto, unfolding(crate::specs::internal::Reading::behind, crate::specs::internal::Readers::bind))]
     fn read(&self, cursor: &mut Cursor<'_, '_>) -> Result<R::Tree, Halt> {
         cursor.take(self.sign)?;
         self.item.read(cursor)
@@ -46,7 +46,7 @@ impl<R: Rule> Rule for Behind<'_, R> {
 }
 
 /// One more, behind `items`.
-#[tactic(auto, unfolding(crate::specs::walking::Reading::one_more, crate::specs::walking::Readers::bind, crate::specs::walking::Readers::pure))]
+#[tactic(auto, unfolding(crate::specs::internal::Reading::one_more, crate::specs::internal::Readers::bind, crate::specs::internal::Readers::pure))]
 pub fn next<R: Rule>(
     rule: &R,
     cursor: &mut Cursor<'_, '_>,
@@ -96,7 +96,7 @@ pub fn all<R: Rule>(
 }
 
 /// One as `first` reads it, and each that follows as `more` does.
-#[tactic(auto, unfolding(crate::specs::walking::Readers::bind, crate::specs::walking::Readers::pure))]
+#[tactic(auto, unfolding(crate::specs::internal::Readers::bind, crate::specs::internal::Readers::pure))]
 pub fn one_or_more<A: Rule, B: Rule<Tree = A::Tree>>(
     first: &A,
     more: &B,
@@ -115,7 +115,7 @@ pub fn one_or_more<A: Rule, B: Rule<Tree = A::Tree>>(
 }
 
 /// `item sign .. sign item`
-#[tactic(auto, unfolding(crate::specs::walking::Reading::separated))]
+#[tactic(auto, unfolding(crate::specs::internal::Reading::separated))]
 pub fn separated<R: Rule>(
     item: &R,
     cursor: &mut Cursor<'_, '_>,

@@ -1,5 +1,5 @@
-ghost use Rattle.parser.specs.walking.Reading as reading;
-ghost use Rattle.parser.specs.walking.Reads.{place, Reads};
+ghost use Rattle.parser.specs.internal.Reading as reading;
+ghost use Rattle.parser.specs.internal.Reads.{place, Reads};
 
 use crate::cursor::Cursor;
 use crate::halt::Halt;
@@ -24,7 +24,7 @@ impl Rule for NameRule {
 }
 
 /// `name, .., name`
-#[tactic(auto, unfolding(crate::specs::walking::Reading::names))]
+#[tactic(auto, unfolding(crate::specs::internal::Reading::names))]
 pub fn names(cursor: &mut Cursor<'_, '_>) -> Result<Items<Identifier>, Halt>
     ensures { Reads (reading.names (place cursor.old)) result (place cursor.new) }
 {
@@ -32,7 +32,7 @@ pub fn names(cursor: &mut Cursor<'_, '_>) -> Result<Items<Identifier>, Halt>
 }
 
 /// `number bits`
-#[tactic(auto, unfolding(crate::specs::walking::Reading::width, crate::specs::walking::Readers::bind, crate::specs::walking::Readers::pure))]
+#[tactic(auto, unfolding(crate::specs::internal::Reading::width, crate::specs::internal::Readers::bind, crate::specs::internal::Readers::pure))]
 pub fn width(cursor: &mut Cursor<'_, '_>) -> Result<Width, Halt>
     ensures { Reads (reading.width (place cursor.old)) result (place cursor.new) }
 {
@@ -45,7 +45,7 @@ pub fn width(cursor: &mut Cursor<'_, '_>) -> Result<Width, Halt>
 }
 
 /// `number bits` or a type's name
-#[tactic(auto, unfolding(crate::specs::walking::Reading::type_name_of, crate::specs::walking::Reading::type_by_width, crate::specs::walking::Reading::type_by_name, crate::specs::walking::Readers::branch, crate::specs::walking::Readers::bind, crate::specs::walking::Readers::pure))]
+#[tactic(auto, unfolding(crate::specs::internal::Reading::type_name_of, crate::specs::internal::Reading::type_by_width, crate::specs::internal::Reading::type_by_name, crate::specs::internal::Readers::branch, crate::specs::internal::Readers::bind, crate::specs::internal::Readers::pure))]
 pub fn type_name(cursor: &mut Cursor<'_, '_>) -> Result<TypeName, Halt>
     ensures { Reads (reading.type_name_of (place cursor.old)) result (place cursor.new) }
 {
@@ -59,7 +59,7 @@ pub fn type_name(cursor: &mut Cursor<'_, '_>) -> Result<TypeName, Halt>
 }
 
 /// `: type`
-#[tactic(auto, unfolding(crate::specs::walking::Reading::type_behind, crate::specs::walking::Readers::bind, crate::specs::walking::Readers::pure))]
+#[tactic(auto, unfolding(crate::specs::internal::Reading::type_behind, crate::specs::internal::Readers::bind, crate::specs::internal::Readers::pure))]
 pub fn type_behind(cursor: &mut Cursor<'_, '_>) -> Result<TypeName, Halt>
     ensures { Reads (reading.type_behind (place cursor.old)) result (place cursor.new) }
 {
@@ -78,7 +78,7 @@ impl Rule for LabelRule {
 
     ghost reader = { λ _. reading.label_of };
 
-    #[tactic(auto, unfolding(crate::specs::walking::Reading::label_of, crate::specs::walking::Reading::label_by_number, crate::specs::walking::Reading::label_by_name, crate::specs::walking::Readers::branch, crate::specs::walking::Readers::bind, crate::specs::walking::Readers::pure))]
+    #[tactic(auto, unfolding(crate::specs::internal::Reading::label_of, crate::specs::internal::Reading::label_by_number, crate::specs::internal::Reading::label_by_name, crate::specs::internal::Readers::branch, crate::specs::internal::Readers::bind, crate::specs::internal::Readers::pure))]
     fn read(&self, cursor: &mut Cursor<'_, '_>) -> Result<Label, Halt> {
         if cursor.sees(Kind::Number) {
             let number = cursor.take(Kind::Number)?;
@@ -97,7 +97,7 @@ impl Rule for LabelRule {
 }
 
 /// `label, .., label`
-#[tactic(auto, unfolding(crate::specs::walking::Reading::labels))]
+#[tactic(auto, unfolding(crate::specs::internal::Reading::labels))]
 pub fn labels(cursor: &mut Cursor<'_, '_>) -> Result<Items<Label>, Halt>
     ensures { Reads (reading.labels (place cursor.old)) result (place cursor.new) }
 {

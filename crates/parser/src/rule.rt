@@ -1,7 +1,7 @@
 //! A rule of the grammar, as what reads it.
 
-ghost use Rattle.parser.specs.walking.Readers.{Reader};
-ghost use Rattle.parser.specs.walking.Reads.{place, Reads};
+ghost use Rattle.parser.specs.internal.Readers.{Reader};
+ghost use Rattle.parser.specs.internal.Reads.{place, Reads};
 
 use crate::cursor::Cursor;
 use crate::halt::Halt;

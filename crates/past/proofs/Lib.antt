@@ -1,2 +1,2 @@
-pub mod ListedPast
-pub mod Sweeping
+mod ListedPast
+mod Sweeping

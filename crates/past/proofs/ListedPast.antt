@@ -6,12 +6,12 @@ use Rattle.syntax.specs.Lists.{In, Every}
 use Rattle.runs.specs.InOrder.{InOrder}
 use Rattle.runs.specs.Live.{Live, IsLive, Rising}
 use Rattle.runs.specs.declared.event.Event.{Event}
-use Rattle.runs.proofs.Lists.{every-of}
-use Rattle.runs.proofs.Options.{none-some}
-use Rattle.runs.proofs.Tickets.{rising-in, rising-one}
-use Rattle.dependence.proofs.ListPlaces.{in-at, at-one}
+use Rattle.runs.proofs.public.Lists.{every-of}
+use Rattle.runs.proofs.public.Options.{none-some}
+use Rattle.runs.proofs.public.Tickets.{rising-in, rising-one}
+use Rattle.dependence.proofs.public.ListPlaces.{in-at, at-one}
 use Rattle.past.specs.Past.{is_told, tickets_of, ListsPast, ListsTickets}
-use Rattle.past.specs.walking.Marked.{MarksPast, told_tickets, untold, ListsMarked}
+use Rattle.past.specs.internal.Marked.{MarksPast, told_tickets, untold, ListsMarked}
 use Rattle.past.specs.declared.past.Past.{Past}
 
 -- ---- one entry of a list that may be there

@@ -6,14 +6,14 @@ use Rattle.syntax.specs.Lists.{In}
 use Rattle.runs.specs.Live.{Live, Rising, DependsOn, same}
 use Rattle.runs.specs.declared.event.Event.{Event}
 use Rattle.dependence.specs.Followers.{Follower, ListsLeads, Reached, here, along}
-use Rattle.dependence.specs.walking.Marking.{MarkedAt}
-use Rattle.dependence.proofs.ListPlaces.{in-at, at-one, at-within, got-here}
-use Rattle.dependence.proofs.Linking.{one-index}
-use Rattle.dependence.proofs.Standing.{lesser-stands}
-use Rattle.dependence.proofs.Following.{follows-on}
-use Rattle.dependence.proofs.FollowerLaws.{direct-follows, reached-through-followers}
-use Rattle.dependence.proofs.Markings.{set-marked}
-use Rattle.past.specs.walking.Marked.{MarkedFrom, MarksPast}
+use Rattle.dependence.specs.internal.Marking.{MarkedAt}
+use Rattle.dependence.proofs.public.ListPlaces.{in-at, at-one, at-within, got-here}
+use Rattle.dependence.proofs.public.Linking.{one-index}
+use Rattle.dependence.proofs.public.Standing.{lesser-stands}
+use Rattle.dependence.proofs.public.Following.{follows-on}
+use Rattle.dependence.proofs.public.FollowerLaws.{direct-follows, reached-through-followers}
+use Rattle.dependence.proofs.public.Markings.{set-marked}
+use Rattle.past.specs.internal.Marked.{MarkedFrom, MarksPast}
 
 -- nothing was marked, and now t alone is
 pub marked-first : (low next : ℕ) (l : Live) (marks : List Bool) (t index : ℕ) (e : Event) → Rising low l next → length marks ≡ length l → slice_get l index ≡ Some (t, e) →

@@ -1,2 +1,2 @@
 pub mod Past
-pub mod walking
+pub mod internal

@@ -12,8 +12,8 @@ use Rattle.past.specs.declared.past.PastEvent.{PastEvent}
 abbrev pub carries : Event → Bool
 carries e = is_some e.value
 
--- whether an event of ticket u is told in the past of that of ticket t: each is where all are asked for, else one that carried a
--- value, and that of t itself
+-- whether an event of ticket u is told in the past of that of ticket t: each is where all are asked for, else one that
+-- carried a value, and that of t itself
 abbrev pub is_told : Bool → ℕ → ℕ → Event → Bool
 is_told all t u e = (all || carries e) || (u == t)
 
@@ -34,8 +34,8 @@ LeavesOut l t tickets count = (whole : List ℕ) × ListsTickets true l t whole 
 abbrev pub tickets_of : List PastEvent → List ℕ
 tickets_of events = map (λ p. p.ticket) events
 
--- exactly the told events in the past of the live one of ticket t, in order of tickets, each with the tickets of those that it follows, and
--- how many are left out
+-- exactly the told events in the past of the live one of ticket t, in order of tickets, each with the tickets of those
+-- that it follows, and how many are left out
 pub record ListsPast (all : Bool) (l : Live) (t : ℕ) (past : Past) : Type 0 where
   pub live : IsLive l t
   pub tickets : ListsTickets all l t (tickets_of past.events)

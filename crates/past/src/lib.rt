@@ -1,8 +1,9 @@
-//! Why an event could happen: the live events that it depends on, directly or by way of others, each with those that it follows.
+//! Why an event could happen: the live events that it depends on, directly or by way of others, each with those that it
+//! follows.
 #![tactic(auto)]
 
-mod listing;
-mod marking;
+mod list;
+mod mark;
 mod past;
 mod text;
 

@@ -4,8 +4,8 @@ ghost use Rattle.runs.specs.Live.{LastWriter, NoneAt, NoWriter, IsLive};
 ghost use Rattle.std.specs.Prelude.{ℕ};
 ghost use Rattle.past.specs.Past.{ListsPast};
 
-use crate::listing::list_marked;
-use crate::marking::mark_past;
+use crate::list::list_marked;
+use crate::mark::mark_past;
 use dependence::Live;
 use std::alloc::{AllocError, Global};
 use syntax::Items;
@@ -14,7 +14,8 @@ use syntax::Items;
 #[derive(Drop)]
 pub struct PastEvent {
     pub ticket: u64,
-    /// the tickets of the live events that it follows, falling: of those on which it depends directly with no live event between
+    /// the tickets of the live events that it follows, falling: of those on which it depends directly with no live
+    /// event between
     pub follows: Items<u64>,
 }
 
@@ -27,16 +28,18 @@ pub struct Past {
     pub left_out: usize,
 }
 
-/// Exactly the live events on which the one of this ticket depends, itself among them, in order of tickets, each with those that
-/// it follows; where not `all` are asked for, of them those that carried a value, and the one of this ticket. `None` where no live event has the ticket. It
-/// takes one sweep over the live events, and is an error if there is no memory.
+/// Exactly the live events on which the one of this ticket depends, itself among them, in order of tickets, each with
+/// those that it follows; where not `all` are asked for, of them those that carried a value, and the one of this
+/// ticket. `None` where no live event has the ticket. It takes one sweep over the live events, and is an error if there
+/// is no memory.
 pub fn past_of_event(
     alloc: Global,
     live: &Live,
     ticket: u64,
     all: bool,
 ) -> Result<Option<Past>, AllocError>
-    ensures { IfOk result (λ told. MatchOption told (NoneAt live.now.live ticket) (λ past. ListsPast all live.now.live ticket past)) }
+    ensures { IfOk result (λ told.
+        MatchOption told (NoneAt live.now.live ticket) (λ past. ListsPast all live.now.live ticket past)) }
 {
     match live.index_of(ticket) {
         Some(_) => Ok(Some(past_of(alloc, live, ticket, all)?)),
@@ -51,7 +54,9 @@ pub fn past_of_variable(
     variable: u32,
     all: bool,
 ) -> Result<Option<Past>, AllocError>
-    ensures { IfOk result (λ told. MatchOption told (NoWriter live.now.live variable) (λ past. (t : ℕ) × LastWriter live.now.live variable t × ListsPast all live.now.live t past)) }
+    ensures { IfOk result (λ told.
+        MatchOption told (NoWriter live.now.live variable) (λ past. (t : ℕ) × LastWriter live.now.live variable t
+        × ListsPast all live.now.live t past)) }
 {
     match live.last_writer(variable) {
         Some(ticket) => Ok(Some(past_of(alloc, live, ticket, all)?)),

@@ -9,8 +9,9 @@ use std::io::Write;
 use system::System;
 use value::Value;
 
-/// Adds a line for each of the events, which are live: its ticket, its line in the source, what it did, the values of the variables
-/// that it read, and the tickets that it follows. Then a line for those that are left out, if there are any. Without memory a part of it may be there.
+/// Adds a line for each of the events, which are live: its ticket, its line in the source, what it did, the values of
+/// the variables that it read, and the tickets that it follows. Then a line for those that are left out, if there are
+/// any. Without memory a part of it may be there.
 pub fn write_past(
     alloc: Global,
     out: &mut Vec<u8>,

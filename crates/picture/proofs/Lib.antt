@@ -1,1 +1,1 @@
-pub mod Refusing
+mod Refusing

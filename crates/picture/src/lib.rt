@@ -25,8 +25,8 @@ use typed_source::typed_source;
 pub enum Drawing {
     /// a page with its own style, script and data, which needs no other file
     Page,
-    /// a drawing for a document (SVG), with the causes and the consequences of the step of this number, if one is given; where it is
-    /// `quiet` without turns and tests
+    /// a drawing for a document (SVG), with the causes and the consequences of the step of this number, if one is
+    /// given; where it is `quiet` without turns and tests
     Sheet { event: Option<u64>, quiet: bool },
     /// a value change dump over logical time, for viewers of waves
     Waves,
@@ -43,10 +43,11 @@ pub enum Pictured {
     NoSuchStep(Vec<u8>),
 }
 
-/// The picture of the run that the trace stands for, where the source is the one that was accepted as this system. `names` are the names of
-/// the three files, as they are shown. Steps are numbered from 1 as they stand in the trace.
+/// The picture of the run that the trace stands for, where the source is the one that was accepted as this system.
+/// `names` are the names of the three files, as they are shown. Steps are numbered from 1 as they stand in the trace.
 ///
-/// It is an error if the text is no trace of the system, or if there is no memory; the fault says which, as that of `replay`.
+/// It is an error if the text is no trace of the system, or if there is no memory; the fault says which, as that of
+/// `replay`.
 pub fn picture_text(
     alloc: Global,
     checked: Checked,
@@ -76,8 +77,9 @@ pub fn run_picture(
     Ok(drawn(alloc, &machine, source, names, drawing)?)
 }
 
-/// Writes the same; the lines where there is no such step, of which nothing is written. At `WriteFailed`, which comes exactly where the
-/// writer counts a failure, a beginning is out; at every other fault the writer was not asked for anything.
+/// Writes the same; the lines where there is no such step, of which nothing is written. At `WriteFailed`, which comes
+/// exactly where the writer counts a failure, a beginning is out; at every other fault the writer was not asked for
+/// anything.
 pub fn write_picture<W: Write>(
     alloc: Global,
     checked: Checked,

@@ -4,14 +4,14 @@ use Rattle.std.specs.Prelude.{slice_get}
 use Rattle.std.proofs.lemmas.Option.{slice_get-get_or}
 use Rattle.runs.specs.Live.{Live, events}
 use Rattle.runs.specs.declared.event.Event.{Event}
-use Rattle.dependence.proofs.ListPlaces.{take-next}
+use Rattle.dependence.proofs.public.ListPlaces.{take-next}
 use Rattle.machine.specs.AtMachine.{AtMachine}
 use Rattle.picture_data.specs.declared.lane.Lane.{Lane}
-use Rattle.picture_data.specs.declared.sides.Sides.{Sides}
+use Rattle.picture_data.specs.declared.actions.Actions.{Actions}
 use Rattle.picture_data.specs.Shown.{EachStandsIn, StandsIn}
 
 -- one more event
-one-more-stands : (m : AtMachine) (lanes : List Lane) (es : List Event) (e : Event) (ss : List Sides) (s : Sides) →
+one-more-stands : (m : AtMachine) (lanes : List Lane) (es : List Event) (e : Event) (ss : List Actions) (s : Actions) →
     EachStandsIn m lanes es ss → StandsIn m lanes e s → EachStandsIn m lanes (es ++ e ∷ []) (ss ++ s ∷ [])
 one-more-stands m lanes [] e [] s each one = (one, tt)
 one-more-stands m lanes [] e (t ∷ ss) s each one = absurd each
@@ -28,18 +28,18 @@ one-more {X} xs i x less here =
     ap (λ (k : ℕ). take k xs) (add-one i)
     ∙ take-next xs i x (slice_get-get_or xs i x less ∙ ap (λ (y : X). Some y) (sym here))
 
-pub next-stands : (m : AtMachine) (lanes : List Lane) (es : List Event) (i : ℕ) (e : Event) (ss new : List Sides) (s : Sides) →
+pub next-stands : (m : AtMachine) (lanes : List Lane) (es : List Event) (i : ℕ) (e : Event) (ss new : List Actions) (s : Actions) →
     i < length es → e ≡ get_or es i e → EachStandsIn m lanes (take i es) ss → StandsIn m lanes e s → new ≡ ss ++ s ∷ [] →
     EachStandsIn m lanes (take (i + 1) es) new
 next-stands m lanes es i e ss new s less here each one is =
     subst (λ (xs : List Event). EachStandsIn m lanes xs new) (sym (one-more es i e less here))
-    (subst (λ (ns : List Sides). EachStandsIn m lanes (take i es ++ e ∷ []) ns) (sym is)
+    (subst (λ (ns : List Actions). EachStandsIn m lanes (take i es ++ e ∷ []) ns) (sym is)
     (one-more-stands m lanes (take i es) e ss s each one))
 
-pub next-live-stands : (m : AtMachine) (lanes : List Lane) (l : Live) (i : ℕ) (x : ℕ × Event) (ss new : List Sides) (s : Sides) →
+pub next-live-stands : (m : AtMachine) (lanes : List Lane) (l : Live) (i : ℕ) (x : ℕ × Event) (ss new : List Actions) (s : Actions) →
     i < length l → x ≡ get_or l i x → EachStandsIn m lanes (events (take i l)) ss → StandsIn m lanes x.1 s → new ≡ ss ++ s ∷ [] →
     EachStandsIn m lanes (events (take (i + 1) l)) new
 next-live-stands m lanes l i x ss new s less here each one is =
     subst (λ (xs : List Event). EachStandsIn m lanes xs new) (sym (ap events (one-more l i x less here) ∙ events-more (take i l) x))
-    (subst (λ (ns : List Sides). EachStandsIn m lanes (events (take i l) ++ x.1 ∷ []) ns) (sym is)
+    (subst (λ (ns : List Actions). EachStandsIn m lanes (events (take i l) ++ x.1 ∷ []) ns) (sym is)
     (one-more-stands m lanes (events (take i l)) x.1 ss s each one))

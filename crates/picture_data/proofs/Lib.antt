@@ -1,3 +1,3 @@
-pub mod EachStands
-pub mod SpotLaws
-pub mod WaitLaws
+mod EachStands
+mod SpotLaws
+mod WaitLaws

@@ -11,11 +11,11 @@ use Rattle.runs.specs.Moves.{Place}
 use Rattle.runs.specs.Steps.{State}
 use Rattle.runs.specs.Tests.{same_place}
 use Rattle.runs.specs.declared.event.Event.{Event}
-use Rattle.runs.proofs.Lists.{every-left, every-right}
-use Rattle.dependence.proofs.ListPlaces.{take-all}
+use Rattle.runs.proofs.public.Lists.{every-left, every-right}
+use Rattle.dependence.proofs.public.ListPlaces.{take-all}
 use Rattle.machine.specs.AtMachine.{AtMachine}
-use Rattle.offered_sides.proofs.PlacedSides.{told-same}
-use Rattle.offered_sides.specs.declared.side.OfferedSide.{OfferedSide}
+use Rattle.local_actions.proofs.public.PlacedActions.{told-same}
+use Rattle.local_actions.specs.declared.action.LocalAction.{LocalAction}
 use Rattle.rings.specs.Rings.{places_at}
 use Rattle.rings.specs.declared.partner.Partner.{Partner}
 use Rattle.waiting.specs.Rings.{NamesRing}
@@ -25,10 +25,10 @@ use Rattle.picture_data.specs.declared.lane.Lane.{Lane}
 use Rattle.picture_data.specs.declared.places.Place.{Place as Shown}
 use Rattle.picture_data.specs.declared.places.Role.{Role}
 use Rattle.picture_data.specs.declared.places.Wanted.{Wanted}
-use Rattle.picture_data.specs.walking.SpotsSoFar.{AddsSpots, SpotsOf, TakenFor, side_place}
+use Rattle.picture_data.specs.internal.SpotsSoFar.{AddsSpots, SpotsOf, TakenFor, side_place}
 use Rattle.picture_data.proofs.EachStands.{one-more}
 
--- ---- one more side
+-- ---- one more action
 
 every-join : {X : Type 0} (P : X → Type 0) (xs ys : List X) → Every P xs → Every P ys → Every P (xs ++ ys)
 every-join P [] ys h k = k
@@ -42,7 +42,7 @@ last-of (p ∷ ps) =
       | inr more ↦ inr (p ∷ more.0, more.1, ap (λ (k : List Shown). p ∷ k) more.2)
     ]
 
-beside-last : (m : AtMachine) (spots : List Spot) (s : Spot) (x : OfferedSide) (p : Option Partner) →
+beside-last : (m : AtMachine) (spots : List Spot) (s : Spot) (x : LocalAction) (p : Option Partner) →
     with_side m (spots ++ s ∷ []) x p ≡ spots ++ with_side m (s ∷ []) x p
 beside-last m [] s x p = refl
 beside-last m (t ∷ []) s x p = refl
@@ -57,38 +57,38 @@ not-same a b not = sym (told-same a b false ((λ on. absurd (off on)), (λ e. ab
     off : false ≡ true → ⊥
     off e = cc
 
-stays-at : (m : AtMachine) (spots : List Spot) (s : Spot) (x : OfferedSide) (p : Option Partner) → s.place ≡ x.place →
+stays-at : (m : AtMachine) (spots : List Spot) (s : Spot) (x : LocalAction) (p : Option Partner) → s.place ≡ x.place →
     with_side m (spots ++ s ∷ []) x p ≡ spots ++ waiting_with s x p ∷ []
 stays-at m spots s x p is =
     beside-last m spots s x p
-    ∙ ap (λ (b : Bool). spots ++ cond b (waiting_with s x p ∷ []) (s ∷ waiting_with (spot_at m x.place (role_of x.side)) x p ∷ [])) (is-same s.place x.place is)
+    ∙ ap (λ (b : Bool). spots ++ cond b (waiting_with s x p ∷ []) (s ∷ waiting_with (spot_at m x.place (role_of x.action)) x p ∷ [])) (is-same s.place x.place is)
 
-comes-behind : (m : AtMachine) (spots : List Spot) (s : Spot) (x : OfferedSide) (p : Option Partner) → (s.place ≡ x.place → ⊥) →
-    with_side m (spots ++ s ∷ []) x p ≡ (spots ++ s ∷ []) ++ waiting_with (spot_at m x.place (role_of x.side)) x p ∷ []
+comes-behind : (m : AtMachine) (spots : List Spot) (s : Spot) (x : LocalAction) (p : Option Partner) → (s.place ≡ x.place → ⊥) →
+    with_side m (spots ++ s ∷ []) x p ≡ (spots ++ s ∷ []) ++ waiting_with (spot_at m x.place (role_of x.action)) x p ∷ []
 comes-behind m spots s x p not =
     beside-last m spots s x p
-    ∙ ap (λ (b : Bool). spots ++ cond b (waiting_with s x p ∷ []) (s ∷ waiting_with (spot_at m x.place (role_of x.side)) x p ∷ [])) (not-same s.place x.place not)
-    ∙ sym (append_assoc spots (s ∷ []) (waiting_with (spot_at m x.place (role_of x.side)) x p ∷ []))
+    ∙ ap (λ (b : Bool). spots ++ cond b (waiting_with s x p ∷ []) (s ∷ waiting_with (spot_at m x.place (role_of x.action)) x p ∷ [])) (not-same s.place x.place not)
+    ∙ sym (append_assoc spots (s ∷ []) (waiting_with (spot_at m x.place (role_of x.action)) x p ∷ []))
 
 map-end : (ps : List Shown) (p : Shown) → map spot_of (ps ++ p ∷ []) ≡ map spot_of ps ++ spot_of p ∷ []
 map-end ps p = map-append spot_of ps (p ∷ [])
 
-new-place : (m : AtMachine) (x : OfferedSide) (partner : Option Partner) (old : List Shown) →
+new-place : (m : AtMachine) (x : LocalAction) (partner : Option Partner) (old : List Shown) →
     ((front : List Shown) (q : Shown) → old ≡ front ++ q ∷ [] → q.place ≡ x.place → ⊥) →
-    with_side m (map spot_of old) x partner ≡ map spot_of old ++ waiting_with (spot_at m x.place (role_of x.side)) x partner ∷ []
+    with_side m (map spot_of old) x partner ≡ map spot_of old ++ waiting_with (spot_at m x.place (role_of x.action)) x partner ∷ []
 new-place m x partner old elsewhere =
     elim (last-of old) [
       | inl none ↦
-          subst (λ (ps : List Shown). with_side m (map spot_of ps) x partner ≡ map spot_of ps ++ waiting_with (spot_at m x.place (role_of x.side)) x partner ∷ [])
+          subst (λ (ps : List Shown). with_side m (map spot_of ps) x partner ≡ map spot_of ps ++ waiting_with (spot_at m x.place (role_of x.action)) x partner ∷ [])
           (sym none) refl
       | inr more ↦
           let spots = map spot_of more.0 in
           let is : map spot_of old ≡ map spot_of more.0 ++ spot_of more.1 ∷ [] = ap (map spot_of) more.2 ∙ map-end more.0 more.1 in
-          subst (λ (ss : List Spot). with_side m ss x partner ≡ ss ++ waiting_with (spot_at m x.place (role_of x.side)) x partner ∷ []) (sym is)
+          subst (λ (ss : List Spot). with_side m ss x partner ≡ ss ++ waiting_with (spot_at m x.place (role_of x.action)) x partner ∷ []) (sym is)
           (comes-behind m (map spot_of more.0) (spot_of more.1) x partner (elsewhere more.0 more.1 more.2))
     ]
 
-pub added-spots : (m : AtMachine) (lanes : List Lane) (x : OfferedSide) (partner : Option Partner) (old rest new : List Shown) (p q : Shown) →
+pub added-spots : (m : AtMachine) (lanes : List Lane) (x : LocalAction) (partner : Option Partner) (old rest new : List Shown) (p q : Shown) →
     TakenFor m lanes x old rest p → spot_of q ≡ waiting_with (spot_of p) x partner → new ≡ rest ++ q ∷ [] →
     map spot_of new ≡ with_side m (map spot_of old) x partner
 added-spots m lanes x partner old rest new p q taken waits is =
@@ -102,7 +102,7 @@ added-spots m lanes x partner old rest new p q taken waits is =
       | inr made ↦
           whole
           ∙ ap (λ (s : Spot). map spot_of rest ++ waiting_with s x partner ∷ []) made.2
-          ∙ ap (λ (ps : List Shown). map spot_of ps ++ waiting_with (spot_at m x.place (role_of x.side)) x partner ∷ []) made.0
+          ∙ ap (λ (ps : List Shown). map spot_of ps ++ waiting_with (spot_at m x.place (role_of x.action)) x partner ∷ []) made.0
           ∙ sym (new-place m x partner old made.1)
     ]
 
@@ -111,7 +111,7 @@ moved-lane lanes p q lane place h =
     subst (λ (l : Option ℕ). IfSome l (λ k. IsLaneOf lanes k q.place)) (sym lane)
     (subst (λ (a : Place). IfSome p.lane (λ k. IsLaneOf lanes k a)) (sym place) h)
 
-pub added-lanes : (m : AtMachine) (lanes : List Lane) (x : OfferedSide) (old rest new : List Shown) (p q : Shown) →
+pub added-lanes : (m : AtMachine) (lanes : List Lane) (x : LocalAction) (old rest new : List Shown) (p q : Shown) →
     TakenFor m lanes x old rest p → q.lane ≡ p.lane → q.place ≡ p.place → new ≡ rest ++ q ∷ [] → Every (LiesInLane lanes) old →
     Every (LiesInLane lanes) new
 added-lanes m lanes x old rest new p q taken lane place is each =
@@ -147,7 +147,7 @@ kept-left ps qs k a h =
     ∙ ap (λ (ys : List Place). slice_get ys k) (map-append place_of ps qs)
     ∙ at-left (map place_of ps) (map place_of qs) k a (by-map ps k ∙ h)
 
-pub added-kept : (m : AtMachine) (lanes : List Lane) (x : OfferedSide) (old rest new : List Shown) (p q : Shown) →
+pub added-kept : (m : AtMachine) (lanes : List Lane) (x : LocalAction) (old rest new : List Shown) (p q : Shown) →
     TakenFor m lanes x old rest p → q.place ≡ p.place → new ≡ rest ++ q ∷ [] → (k : ℕ) (a : Place) → place_at old k ≡ Some a →
     place_at new k ≡ Some a
 added-kept m lanes x old rest new p q taken place is k a h =
@@ -168,7 +168,7 @@ length-map : (ps : List Shown) → length (map place_of ps) ≡ length ps
 length-map [] = refl
 length-map (p ∷ ps) = ap suc (length-map ps)
 
-pub added-last : (m : AtMachine) (lanes : List Lane) (x : OfferedSide) (old rest new : List Shown) (p q : Shown) →
+pub added-last : (m : AtMachine) (lanes : List Lane) (x : LocalAction) (old rest new : List Shown) (p q : Shown) →
     TakenFor m lanes x old rest p → q.place ≡ p.place → new ≡ rest ++ q ∷ [] → place_at new (length new - 1) ≡ Some x.place
 added-last m lanes x old rest new p q taken place is =
     let size : length new ≡ length (rest ++ q ∷ []) = ap (λ (ps : List Shown). length ps) is in
@@ -181,19 +181,19 @@ added-last m lanes x old rest new p q taken place is =
     ∙ at-end (map place_of rest) q.place
     ∙ ap (λ (b : Place). Some b) (place ∙ own)
 
--- ---- the sides so far
+-- ---- the actions so far
 
-with-sides-more : (m : AtMachine) (spots : List Spot) (ps : List Partner) (n : ℕ) (xs : List OfferedSide) (x : OfferedSide) →
+with-actions-more : (m : AtMachine) (spots : List Spot) (ps : List Partner) (n : ℕ) (xs : List LocalAction) (x : LocalAction) →
     with_sides m spots ps n (xs ++ x ∷ []) ≡ with_side m (with_sides m spots ps n xs) x (slice_get ps (n + length xs))
-with-sides-more m spots ps n [] x =
+with-actions-more m spots ps n [] x =
     let at : n ≡ n + 0 = omega arith in ap (λ (k : ℕ). with_side m spots x (slice_get ps k)) at
-with-sides-more m spots ps n (y ∷ xs) x =
+with-actions-more m spots ps n (y ∷ xs) x =
     let next : List Spot = with_side m spots y (slice_get ps n) in
     let at : n + 1 + length xs ≡ n + suc (length xs) = omega arith in
-    with-sides-more m next ps (n + 1) xs x
+    with-actions-more m next ps (n + 1) xs x
     ∙ ap (λ (k : ℕ). with_side m (with_sides m next ps (n + 1) xs) x (slice_get ps k)) at
 
-found-kept : (old new : List Shown) → ((k : ℕ) (a : Place) → place_at old k ≡ Some a → place_at new k ≡ Some a) → (found : List ℕ) (xs : List OfferedSide) →
+found-kept : (old new : List Shown) → ((k : ℕ) (a : Place) → place_at old k ≡ Some a → place_at new k ≡ Some a) → (found : List ℕ) (xs : List LocalAction) →
     map (place_at old) found ≡ map side_place xs → map (place_at new) found ≡ map side_place xs
 found-kept old new keeps [] xs is = is
 found-kept old new keeps (k ∷ found) [] is = cc
@@ -207,29 +207,29 @@ found-kept old new keeps (k ∷ found) (x ∷ xs) is =
 pub spots-none : (m : AtMachine) (lanes : List Lane) (ps : List Partner) → SpotsOf m lanes ps [] [] []
 spots-none m lanes ps = record { spots = refl; lanes_told = tt; found_places = refl }
 
-pub spots-next : (m : AtMachine) (lanes : List Lane) (ps : List Partner) (sides : List OfferedSide) (i : ℕ) (x : OfferedSide) (partner : Option Partner)
-    (old new : List Shown) (found upto : List ℕ) → i < length sides → x ≡ get_or sides i x → partner ≡ slice_get ps i →
-    SpotsOf m lanes ps (take i sides) old found → map spot_of new ≡ with_side m (map spot_of old) x partner →
+pub spots-next : (m : AtMachine) (lanes : List Lane) (ps : List Partner) (actions : List LocalAction) (i : ℕ) (x : LocalAction) (partner : Option Partner)
+    (old new : List Shown) (found upto : List ℕ) → i < length actions → x ≡ get_or actions i x → partner ≡ slice_get ps i →
+    SpotsOf m lanes ps (take i actions) old found → map spot_of new ≡ with_side m (map spot_of old) x partner →
     (Every (LiesInLane lanes) old → Every (LiesInLane lanes) new) →
     ((k : ℕ) (a : Place) → place_at old k ≡ Some a → place_at new k ≡ Some a) → place_at new (length new - 1) ≡ Some x.place →
-    upto ≡ found ++ (length new - 1) ∷ [] → SpotsOf m lanes ps (take (i + 1) sides) new upto
-spots-next m lanes ps sides i x partner old new found upto less here with_partner h spots told keeps last is =
-    let next : take (i + 1) sides ≡ take i sides ++ x ∷ [] = one-more sides i x less here in
-    let size : 0 + length (take i sides) ≡ i = let long = length-take-le i sides (let within : i ≤ length sides = omega arith in within) in omega arith in
-    subst (λ (xs : List OfferedSide). SpotsOf m lanes ps xs new upto) (sym next)
+    upto ≡ found ++ (length new - 1) ∷ [] → SpotsOf m lanes ps (take (i + 1) actions) new upto
+spots-next m lanes ps actions i x partner old new found upto less here with_partner h spots told keeps last is =
+    let next : take (i + 1) actions ≡ take i actions ++ x ∷ [] = one-more actions i x less here in
+    let size : 0 + length (take i actions) ≡ i = let long = length-take-le i actions (let within : i ≤ length actions = omega arith in within) in omega arith in
+    subst (λ (xs : List LocalAction). SpotsOf m lanes ps xs new upto) (sym next)
     (record {
       spots =
           spots
           ∙ ap (λ (ss : List Spot). with_side m ss x partner) h.spots
-          ∙ ap (λ (o : Option Partner). with_side m (with_sides m [] ps 0 (take i sides)) x o) (with_partner ∙ ap (λ (k : ℕ). slice_get ps k) (sym size))
-          ∙ sym (with-sides-more m [] ps 0 (take i sides) x);
+          ∙ ap (λ (o : Option Partner). with_side m (with_sides m [] ps 0 (take i actions)) x o) (with_partner ∙ ap (λ (k : ℕ). slice_get ps k) (sym size))
+          ∙ sym (with-actions-more m [] ps 0 (take i actions) x);
       lanes_told = told h.lanes_told;
       found_places =
           ap (map (place_at new)) is
           ∙ map-append (place_at new) found ((length new - 1) ∷ [])
-          ∙ ap (λ (ys : List (Option Place)). ys ++ place_at new (length new - 1) ∷ []) (found-kept old new keeps found (take i sides) h.found_places)
-          ∙ ap (λ (a : Option Place). map side_place (take i sides) ++ a ∷ []) last
-          ∙ sym (map-append side_place (take i sides) (x ∷ []));
+          ∙ ap (λ (ys : List (Option Place)). ys ++ place_at new (length new - 1) ∷ []) (found-kept old new keeps found (take i actions) h.found_places)
+          ∙ ap (λ (a : Option Place). map side_place (take i actions) ++ a ∷ []) last
+          ∙ sym (map-append side_place (take i actions) (x ∷ []));
     })
 
 -- ---- those of events that can be taken
@@ -290,21 +290,21 @@ ready-all m lanes es i old new past h = subst (λ (k : List Event). AddsSpots la
 
 -- ---- all of them
 
-pub spots-all : (m : AtMachine) (lanes : List Lane) (ps : List Partner) (sides : List OfferedSide) (i : ℕ) (places : List Shown) (found : List ℕ) →
-    length sides ≤ i → SpotsOf m lanes ps (take i sides) places found → SpotsOf m lanes ps sides places found
-spots-all m lanes ps sides i places found past h = subst (λ (xs : List OfferedSide). SpotsOf m lanes ps xs places found) (take-all sides i past) h
+pub spots-all : (m : AtMachine) (lanes : List Lane) (ps : List Partner) (actions : List LocalAction) (i : ℕ) (places : List Shown) (found : List ℕ) →
+    length actions ≤ i → SpotsOf m lanes ps (take i actions) places found → SpotsOf m lanes ps actions places found
+spots-all m lanes ps actions i places found past h = subst (λ (xs : List LocalAction). SpotsOf m lanes ps xs places found) (take-all actions i past) h
 
-pub all-spots : (m : AtMachine) (lanes : List Lane) (ps : List Partner) (sides : List OfferedSide) (old new : List Shown) (found : List ℕ) (ss : List Spot) →
-    SpotsOf m lanes ps sides old found → AddsSpots lanes old new ss → map spot_of new ≡ with_sides m [] ps 0 sides ++ ss
-all-spots m lanes ps sides old new found ss h more =
+pub all-spots : (m : AtMachine) (lanes : List Lane) (ps : List Partner) (actions : List LocalAction) (old new : List Shown) (found : List ℕ) (ss : List Spot) →
+    SpotsOf m lanes ps actions old found → AddsSpots lanes old new ss → map spot_of new ≡ with_sides m [] ps 0 actions ++ ss
+all-spots m lanes ps actions old new found ss h more =
     ap (map spot_of) more.joined
     ∙ map-append spot_of old more.more
     ∙ ap (λ (k : List Spot). k ++ map spot_of more.more) h.spots
-    ∙ ap (λ (k : List Spot). with_sides m [] ps 0 sides ++ k) more.shown
+    ∙ ap (λ (k : List Spot). with_sides m [] ps 0 actions ++ k) more.shown
 
-pub all-lanes : (m : AtMachine) (lanes : List Lane) (ps : List Partner) (sides : List OfferedSide) (old new : List Shown) (found : List ℕ) (ss : List Spot) →
-    SpotsOf m lanes ps sides old found → AddsSpots lanes old new ss → Every (LiesInLane lanes) new
-all-lanes m lanes ps sides old new found ss h more =
+pub all-lanes : (m : AtMachine) (lanes : List Lane) (ps : List Partner) (actions : List LocalAction) (old new : List Shown) (found : List ℕ) (ss : List Spot) →
+    SpotsOf m lanes ps actions old found → AddsSpots lanes old new ss → Every (LiesInLane lanes) new
+all-lanes m lanes ps actions old new found ss h more =
     subst (Every (LiesInLane lanes)) (sym more.joined) (every-join (LiesInLane lanes) old more.more h.lanes_told more.lanes_told)
 
 -- ---- a ring
@@ -312,53 +312,53 @@ all-lanes m lanes ps sides old new found ss h more =
 abbrev look : List ℕ → ℕ → List ℕ
 look found i = option_to_list (slice_get found i)
 
--- the index of the place of a side
-place-found : (places : List Shown) (found : List ℕ) (sides : List OfferedSide) (i : ℕ) (a : Place) → map (place_at places) found ≡ map side_place sides →
-    option_map (λ (x : OfferedSide). x.place) (slice_get sides i) ≡ Some a → (k : ℕ) × (slice_get found i ≡ Some k) × (place_at places k ≡ Some a)
+-- the index of the place of an action
+place-found : (places : List Shown) (found : List ℕ) (actions : List LocalAction) (i : ℕ) (a : Place) → map (place_at places) found ≡ map side_place actions →
+    option_map (λ (x : LocalAction). x.place) (slice_get actions i) ≡ Some a → (k : ℕ) × (slice_get found i ≡ Some k) × (place_at places k ≡ Some a)
 place-found places [] [] i a is h = cc
-place-found places [] (x ∷ sides) i a is h = cc
+place-found places [] (x ∷ actions) i a is h = cc
 place-found places (k ∷ found) [] i a is h = cc
-place-found places (k ∷ found) (x ∷ sides) zero a is h = let here : place_at places k ≡ Some x.place = cc in (k, refl, here ∙ h)
-place-found places (k ∷ found) (x ∷ sides) (suc i) a is h =
-    let rest : map (place_at places) found ≡ map side_place sides = cc in place-found places found sides i a rest h
+place-found places (k ∷ found) (x ∷ actions) zero a is h = let here : place_at places k ≡ Some x.place = cc in (k, refl, here ∙ h)
+place-found places (k ∷ found) (x ∷ actions) (suc i) a is h =
+    let rest : map (place_at places) found ≡ map side_place actions = cc in place-found places found actions i a rest h
 
-ring-rest : (places : List Shown) (found : List ℕ) (sides : List OfferedSide) (is : List ℕ) (ring : List Place) →
-    map (place_at places) found ≡ map side_place sides → places_at sides is ≡ map (λ (a : Place). Some a) ring →
+ring-rest : (places : List Shown) (found : List ℕ) (actions : List LocalAction) (is : List ℕ) (ring : List Place) →
+    map (place_at places) found ≡ map side_place actions → places_at actions is ≡ map (λ (a : Place). Some a) ring →
     map (place_at places) (flat_map (look found) is) ≡ map (λ (a : Place). Some a) ring
-ring-rest places found sides [] ring told h = h
-ring-rest places found sides (i ∷ is) [] told h = cc
-ring-rest places found sides (i ∷ is) (a ∷ ring) told h =
-    let here : option_map (λ (x : OfferedSide). x.place) (slice_get sides i) ≡ Some a = cc in
-    let rest : places_at sides is ≡ map (λ (b : Place). Some b) ring = cc in
-    let one = place-found places found sides i a told here in
+ring-rest places found actions [] ring told h = h
+ring-rest places found actions (i ∷ is) [] told h = cc
+ring-rest places found actions (i ∷ is) (a ∷ ring) told h =
+    let here : option_map (λ (x : LocalAction). x.place) (slice_get actions i) ≡ Some a = cc in
+    let rest : places_at actions is ≡ map (λ (b : Place). Some b) ring = cc in
+    let one = place-found places found actions i a told here in
     ap (λ (o : Option ℕ). map (place_at places) (option_to_list o ++ flat_map (look found) is)) one.1
     ∙ ap (λ (o : Option Place). o ∷ map (place_at places) (flat_map (look found) is)) one.2
-    ∙ ap (λ (os : List (Option Place)). Some a ∷ os) (ring-rest places found sides is ring told rest)
+    ∙ ap (λ (os : List (Option Place)). Some a ∷ os) (ring-rest places found actions is ring told rest)
 
-ring-first : (m : AtMachine) (S : State) (places : List Shown) (found : List ℕ) (sides : List OfferedSide) (i : ℕ) (is : List ℕ) →
-    map (place_at places) found ≡ map side_place sides → NamesRing m S sides (i ∷ is) → (ring : List Place) →
-    places_at sides (i ∷ is) ≡ map (λ (a : Place). Some a) ring → (k : ℕ) × (flat_map (look found) (i ∷ is) ≡ k ∷ flat_map (look found) is)
-ring-first m S places found sides i is told h [] at = cc
-ring-first m S places found sides i is told h (a ∷ ring) at =
-    let here : option_map (λ (x : OfferedSide). x.place) (slice_get sides i) ≡ Some a = cc in
-    let one = place-found places found sides i a told here in
+ring-first : (m : AtMachine) (S : State) (places : List Shown) (found : List ℕ) (actions : List LocalAction) (i : ℕ) (is : List ℕ) →
+    map (place_at places) found ≡ map side_place actions → NamesRing m S actions (i ∷ is) → (ring : List Place) →
+    places_at actions (i ∷ is) ≡ map (λ (a : Place). Some a) ring → (k : ℕ) × (flat_map (look found) (i ∷ is) ≡ k ∷ flat_map (look found) is)
+ring-first m S places found actions i is told h [] at = cc
+ring-first m S places found actions i is told h (a ∷ ring) at =
+    let here : option_map (λ (x : LocalAction). x.place) (slice_get actions i) ≡ Some a = cc in
+    let one = place-found places found actions i a told here in
     (one.0, ap (λ (o : Option ℕ). option_to_list o ++ flat_map (look found) is) one.1)
 
-pub ring-shown : (m : AtMachine) (S : State) (places : List Shown) (found : List ℕ) (sides : List OfferedSide) (is ring : List ℕ) →
-    map (place_at places) found ≡ map side_place sides → NamesRing m S sides is → ring ≡ flat_map (look found) is → ShowsRing m S places ring
-ring-shown m S places found sides [] ring told h made = subst (ShowsRing m S places) (sym made) h
-ring-shown m S places found sides (i ∷ is) ring told h made =
-    let first = ring-first m S places found sides i is told h h.0 h.1 in
-    let all : map (place_at places) (flat_map (look found) (i ∷ is)) ≡ map (λ (a : Place). Some a) h.0 = ring-rest places found sides (i ∷ is) h.0 told h.1 in
+pub ring-shown : (m : AtMachine) (S : State) (places : List Shown) (found : List ℕ) (actions : List LocalAction) (is ring : List ℕ) →
+    map (place_at places) found ≡ map side_place actions → NamesRing m S actions is → ring ≡ flat_map (look found) is → ShowsRing m S places ring
+ring-shown m S places found actions [] ring told h made = subst (ShowsRing m S places) (sym made) h
+ring-shown m S places found actions (i ∷ is) ring told h made =
+    let first = ring-first m S places found actions i is told h h.0 h.1 in
+    let all : map (place_at places) (flat_map (look found) (i ∷ is)) ≡ map (λ (a : Place). Some a) h.0 = ring-rest places found actions (i ∷ is) h.0 told h.1 in
     let all_first : map (place_at places) (first.0 ∷ flat_map (look found) is) ≡ map (λ (a : Place). Some a) h.0 =
     ap (map (place_at places)) (sym first.1) ∙ all in
     subst (ShowsRing m S places) (sym (made ∙ first.1)) (h.0, all_first, h.2, h.3)
 
-pub all-found : (m : AtMachine) (lanes : List Lane) (ps : List Partner) (sides : List OfferedSide) (old new : List Shown) (found : List ℕ) (ss : List Spot) →
-    SpotsOf m lanes ps sides old found → AddsSpots lanes old new ss → map (place_at new) found ≡ map side_place sides
-all-found m lanes ps sides old new found ss h more =
+pub all-found : (m : AtMachine) (lanes : List Lane) (ps : List Partner) (actions : List LocalAction) (old new : List Shown) (found : List ℕ) (ss : List Spot) →
+    SpotsOf m lanes ps actions old found → AddsSpots lanes old new ss → map (place_at new) found ≡ map side_place actions
+all-found m lanes ps actions old new found ss h more =
     found-kept old new
-    (λ k a at. subst (λ (qs : List Shown). place_at qs k ≡ Some a) (sym more.joined) (kept-left old more.more k a at)) found sides h.found_places
+    (λ k a at. subst (λ (qs : List Shown). place_at qs k ≡ Some a) (sym more.joined) (kept-left old more.more k a at)) found actions h.found_places
 
 -- ---- what a place is made of
 
@@ -399,16 +399,16 @@ pub other-last : (old rest : List Shown) (p : Shown) (a : Place) → old ≡ res
 other-last old rest p a is not front q same at =
     let one : p ≡ q = last-one rest front p q (sym is ∙ same) in not (ap (λ (x : Shown). x.place) one ∙ at)
 
--- ---- the place of a side
+-- ---- the place of an action
 
-pub taken_last : (m : AtMachine) (lanes : List Lane) (x : OfferedSide) (old new : List Shown) (p : Shown) → old ≡ new ++ p ∷ [] → p.place ≡ x.place →
+pub taken_last : (m : AtMachine) (lanes : List Lane) (x : LocalAction) (old new : List Shown) (p : Shown) → old ≡ new ++ p ∷ [] → p.place ≡ x.place →
     TakenFor m lanes x old new p
 taken_last m lanes x old new p is at = inl (is, at)
 
-pub taken_first : (m : AtMachine) (lanes : List Lane) (x : OfferedSide) (old new : List Shown) (p : Shown) → old ≡ [] → new ≡ old →
-    spot_of p ≡ spot_at m x.place (role_of x.side) → LiesInLane lanes p → TakenFor m lanes x old new p
+pub taken_first : (m : AtMachine) (lanes : List Lane) (x : LocalAction) (old new : List Shown) (p : Shown) → old ≡ [] → new ≡ old →
+    spot_of p ≡ spot_at m x.place (role_of x.action) → LiesInLane lanes p → TakenFor m lanes x old new p
 taken_first m lanes x old new p none same spot lies = inr (same, none-last old new x.place none, spot, lies)
 
-pub taken_behind : (m : AtMachine) (lanes : List Lane) (x : OfferedSide) (old rest new : List Shown) (q p : Shown) → old ≡ rest ++ q ∷ [] →
-    (q.place ≡ x.place → ⊥) → new ≡ rest ++ q ∷ [] → spot_of p ≡ spot_at m x.place (role_of x.side) → LiesInLane lanes p → TakenFor m lanes x old new p
+pub taken_behind : (m : AtMachine) (lanes : List Lane) (x : LocalAction) (old rest new : List Shown) (q p : Shown) → old ≡ rest ++ q ∷ [] →
+    (q.place ≡ x.place → ⊥) → new ≡ rest ++ q ∷ [] → spot_of p ≡ spot_at m x.place (role_of x.action) → LiesInLane lanes p → TakenFor m lanes x old new p
 taken_behind m lanes x old rest new q p is not back spot lies = inr (back ∙ sym is, other-last old rest q x.place is not, spot, lies)

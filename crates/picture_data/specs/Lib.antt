@@ -1,4 +1,4 @@
 pub mod Lines
 pub mod Shown
 pub mod Spots
-pub mod walking
+pub mod internal

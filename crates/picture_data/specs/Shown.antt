@@ -16,27 +16,27 @@ use Rattle.waiting.specs.declared.waiting.Waiting.{Waiting}
 use Rattle.picture_data.specs.Lines.{IsLaneOf, line_of}
 use Rattle.picture_data.specs.Spots.{AreSpots, LiesInLane, ShowsRing}
 use Rattle.picture_data.specs.declared.lane.Lane.{Lane}
-use Rattle.picture_data.specs.declared.sides.Sides.{Sides}
+use Rattle.picture_data.specs.declared.actions.Actions.{Actions}
 use Rattle.picture_data.specs.declared.steps.Steps.{Steps}
 use Rattle.picture_data.specs.declared.end.End.{End}
 use Rattle.picture_data.specs.declared.picture.Picture.{Picture}
 
 -- where a second place stands, if there is one: its lane, where one is told, and its line
-abbrev pub SecondStandsIn : AtMachine → List Lane → Option Place → Sides → Type 0
+abbrev pub SecondStandsIn : AtMachine → List Lane → Option Place → Actions → Type 0
 SecondStandsIn m lanes None s = (s.second_lane ≡ None) × (s.second_line ≡ 0)
 SecondStandsIn m lanes (Some place) s =
     IfSome s.second_lane (λ k. IsLaneOf lanes k place) × (s.second_line ≡ line_of m place)
 
 -- where an event stands: of each of its places the lane, where one is told, and the line
-pub record StandsIn (m : AtMachine) (lanes : List Lane) (e : Event) (s : Sides) : Type 0 where
+pub record StandsIn (m : AtMachine) (lanes : List Lane) (e : Event) (s : Actions) : Type 0 where
   pub lane : IfSome s.first_lane (λ k. IsLaneOf lanes k e.first)
   pub line : s.first_line ≡ line_of m e.first
   pub second : SecondStandsIn m lanes e.second s
 
 -- the same of each of these events
-abbrev pub EachStandsIn : AtMachine → List Lane → List Event → List Sides → Type 0
+abbrev pub EachStandsIn : AtMachine → List Lane → List Event → List Actions → Type 0
 EachStandsIn m lanes [] [] = Unit {0}
-EachStandsIn m lanes (e ∷ es) (s ∷ sides) = StandsIn m lanes e s × EachStandsIn m lanes es sides
+EachStandsIn m lanes (e ∷ es) (s ∷ actions) = StandsIn m lanes e s × EachStandsIn m lanes es actions
 EachStandsIn m lanes _ _ = ⊥
 
 -- the rows of the live events, who needs whom among them, where each stands, and the orders that only a shared
@@ -44,7 +44,7 @@ EachStandsIn m lanes _ _ = ⊥
 pub record ShowsSteps (m : AtMachine) (lanes : List Lane) (steps : Steps) : Type 0 where
   pub depths : AreDepths m.live steps.depths.items
   pub ahead : AreAhead m.live steps.ahead
-  pub sides : EachStandsIn m lanes (events m.live) steps.sides.items
+  pub actions : EachStandsIn m lanes (events m.live) steps.actions.items
   pub races : AreRaces m.live steps.races.items
 
 -- who waits, as it is told of the state: the places with what they wait on, in their lanes, and behind them those of
@@ -59,7 +59,7 @@ pub record ShowsWaits (m : AtMachine) (lanes : List Lane) (end : End) : Type 0 w
 -- the events that can be taken and where each stands, how the run stands, and who waits
 pub record ShowsEnd (m : AtMachine) (lanes : List Lane) (end : End) : Type 0 where
   pub ready : (S : State) × Reaches (object m) S × ReadyList S end.ready
-  pub sides : EachStandsIn m lanes end.ready end.ready_sides.items
+  pub actions : EachStandsIn m lanes end.ready end.ready_actions.items
   pub progress : (S : State) × Reaches (object m) S × StandsLike S end.progress
   pub waits : ShowsWaits m lanes end
 

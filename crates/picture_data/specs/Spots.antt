@@ -11,9 +11,9 @@ use Rattle.runs.specs.declared.event.Event.{Event}
 use Rattle.runs.specs.declared.event.Kind.{Kind}
 use Rattle.runs.specs.declared.event.Kind.TheVariants as kind
 use Rattle.machine.specs.AtMachine.{AtMachine}
-use Rattle.offered_sides.specs.declared.side.OfferedSide.{OfferedSide}
-use Rattle.offered_sides.specs.declared.side.Side.{Side}
-use Rattle.offered_sides.specs.declared.side.Side.TheVariants as side
+use Rattle.local_actions.specs.declared.action.LocalAction.{LocalAction}
+use Rattle.local_actions.specs.declared.action.ActionKind.{ActionKind}
+use Rattle.local_actions.specs.declared.action.ActionKind.TheVariants as action
 use Rattle.rings.specs.declared.partner.Partner.{Partner}
 use Rattle.rings.specs.declared.partner.Partner.TheVariants as partner
 use Rattle.rings.specs.Rings.{EachOnce}
@@ -48,29 +48,29 @@ spot_at m a what = record { place = a; line = line_of m a; role = what; wanted =
 
 -- ---- the places that wait
 
--- what a side does
-abbrev pub role_of : Side → Role
-role_of (side.Sends c v xs) = role.Sends
-role_of (side.Receives c x) = role.Receives
-role_of (side.Syncs c) = role.Syncs
-role_of (side.Opens c k) = role.Opens
-role_of (side.Releases c) = role.Held
-role_of (side.Closes c) = role.Closes
-role_of (side.Assigns x v xs) = role.Goes
-role_of (side.Tests k xs) = role.Goes
-role_of side.Turns = role.Goes
+-- what an action does
+abbrev pub role_of : ActionKind → Role
+role_of (action.Sends c v xs) = role.Sends
+role_of (action.Receives c x) = role.Receives
+role_of (action.Syncs c) = role.Syncs
+role_of (action.Opens c k) = role.Opens
+role_of (action.Releases c) = role.Held
+role_of (action.Closes c) = role.Closes
+role_of (action.Assigns x v xs) = role.Goes
+role_of (action.Tests k xs) = role.Goes
+role_of action.Turns = role.Goes
 
 -- the channel that it is on
-abbrev pub channel_of : Side → Option ℕ
-channel_of (side.Sends c v xs) = Some c
-channel_of (side.Receives c x) = Some c
-channel_of (side.Syncs c) = Some c
-channel_of (side.Opens c k) = Some c
-channel_of (side.Releases c) = Some c
-channel_of (side.Closes c) = Some c
-channel_of (side.Assigns x v xs) = None
-channel_of (side.Tests k xs) = None
-channel_of side.Turns = None
+abbrev pub channel_of : ActionKind → Option ℕ
+channel_of (action.Sends c v xs) = Some c
+channel_of (action.Receives c x) = Some c
+channel_of (action.Syncs c) = Some c
+channel_of (action.Opens c k) = Some c
+channel_of (action.Releases c) = Some c
+channel_of (action.Closes c) = Some c
+channel_of (action.Assigns x v xs) = None
+channel_of (action.Tests k xs) = None
+channel_of action.Turns = None
 
 -- whether the partner can still come
 abbrev pub can_come : Option Partner → Bool
@@ -84,26 +84,26 @@ abbrev pub waiting_on : Spot → Option ℕ → Bool → Spot
 waiting_on s None comes = s
 waiting_on s (Some c) comes = record s { wanted = s.wanted ++ (c, comes) ∷ [] }
 
--- and for what the side waits for, which has this partner
-abbrev pub waiting_with : Spot → OfferedSide → Option Partner → Spot
-waiting_with s x p = waiting_on s (channel_of x.side) (can_come p)
+-- and for what the action waits for, which has this partner
+abbrev pub waiting_with : Spot → LocalAction → Option Partner → Spot
+waiting_with s x p = waiting_on s (channel_of x.action) (can_come p)
 
--- the places with one more side, which has this partner: it stands at the last of them, or is a place of its own
+-- the places with one more action, which has this partner: it stands at the last of them, or is a place of its own
 -- behind them
-abbrev pub with_side : AtMachine → List Spot → OfferedSide → Option Partner → List Spot
-with_side m [] x p = waiting_with (spot_at m x.place (role_of x.side)) x p ∷ []
+abbrev pub with_side : AtMachine → List Spot → LocalAction → Option Partner → List Spot
+with_side m [] x p = waiting_with (spot_at m x.place (role_of x.action)) x p ∷ []
 with_side m (s ∷ []) x p =
     cond (same_place s.place x.place) (waiting_with s x p ∷ [])
-    (s ∷ waiting_with (spot_at m x.place (role_of x.side)) x p ∷ [])
+    (s ∷ waiting_with (spot_at m x.place (role_of x.action)) x p ∷ [])
 with_side m (s ∷ t ∷ spots) x p = s ∷ with_side m (t ∷ spots) x p
 
--- with these sides, of which the first has the partner of number n
-abbrev pub with_sides : AtMachine → List Spot → List Partner → ℕ → List OfferedSide → List Spot
+-- with these actions, of which the first has the partner of number n
+abbrev pub with_sides : AtMachine → List Spot → List Partner → ℕ → List LocalAction → List Spot
 with_sides m spots partners n [] = spots
 with_sides m spots partners n (x ∷ xs) = with_sides m (with_side m spots x (slice_get partners n)) partners (n + 1) xs
 
 abbrev pub waiting_spots : AtMachine → Waiting → List Spot
-waiting_spots m w = with_sides m [] w.partners.items 0 w.sides
+waiting_spots m w = with_sides m [] w.partners.items 0 w.actions
 
 -- ---- the places of the events that can be taken
 

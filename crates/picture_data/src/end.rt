@@ -8,9 +8,9 @@ ghost use Rattle.runs.specs.Steps.{State};
 ghost use Rattle.machine.specs.AtMachine.{object};
 ghost use Rattle.picture_data.specs.Shown.{ShowsEnd};
 
+use crate::actions::{Actions, all_actions};
 use crate::partners::Now;
 use crate::places::{Place, add_ready_places, waiting_places};
-use crate::sides::{Sides, all_sides};
 use crate::standing::Standing;
 use crate::table::LaneTable;
 use crate::walk::ChannelUse;
@@ -28,10 +28,11 @@ pub struct End {
     /// the events that can be taken, in order
     pub ready: Items<Event>,
     /// where each of these stands
-    pub ready_sides: Vec<Sides>,
+    pub ready_actions: Vec<Actions>,
     /// the places that wait, in order, and behind them those of the events that can be taken
     pub places: Vec<Place>,
-    /// the indexes of places of which each waits for the next, and the last for the first; empty where no such ring was found
+    /// the indexes of places of which each waits for the next, and the last for the first; empty where no such ring was
+    /// found
     pub ring: Vec<usize>,
 }
 
@@ -48,23 +49,23 @@ pub(crate) fn end_of(
     let ready = ready_events(machine)?;
     let waiting = who_waits(alloc, machine)?;
     let events = ready.as_slice();
-    let ready_sides = all_sides(alloc, machine, table, events)?;
+    let ready_actions = all_actions(alloc, machine, table, events)?;
     let now = Now {
         table,
         uses,
-        sides: waiting.sides.as_slice(),
+        actions: waiting.actions.as_slice(),
         ready: events,
     };
     let shown = waiting_places(alloc, machine, &now, &waiting, standing)?;
     let ring_sides = waiting.ring.as_slice();
-    let place_of_side = shown.place_of_side.as_slice();
-    let ring = ring_of(alloc, ring_sides, place_of_side)?;
+    let place_of_action = shown.place_of_action.as_slice();
+    let ring = ring_of(alloc, ring_sides, place_of_action)?;
     let mut places = shown.places;
     add_ready_places(alloc, machine, &now, events, standing, &mut places)?;
     Ok(End {
         progress: waiting.progress,
         ready,
-        ready_sides,
+        ready_actions,
         places,
         ring,
     })
@@ -81,27 +82,27 @@ fn ready_events(machine: &Machine) -> Result<Items<Event>, AllocError>
     }
 }
 
-/// The ring of sides that wait as one of their places.
+/// The ring of actions that wait as one of their places.
 fn ring_of(
     alloc: Global,
-    sides: &[usize],
-    place_of_side: &[usize],
+    actions: &[usize],
+    place_of_action: &[usize],
 ) -> Result<Vec<usize>, AllocError>
     ensures { IfOk result (λ ring. ring.items
-        ≡ flat_map (λ (i : ℕ). option_to_list (slice_get place_of_side.now i)) sides.now) }
+        ≡ flat_map (λ (i : ℕ). option_to_list (slice_get place_of_action.now i)) actions.now) }
 {
     let mut ring = Vec::new(alloc);
-    for side in sides {
-        add_place(place_at(place_of_side, *side), &mut ring)?;
+    for action in actions {
+        add_place(place_at(place_of_action, *action), &mut ring)?;
     }
     Ok(ring)
 }
 
-/// The place of the side of this index.
-fn place_at(place_of_side: &[usize], side: usize) -> Option<usize>
-    ensures { result ≡ slice_get place_of_side.now side }
+/// The place of the action of this index.
+fn place_at(place_of_action: &[usize], action: usize) -> Option<usize>
+    ensures { result ≡ slice_get place_of_action.now action }
 {
-    match place_of_side.get(side) {
+    match place_of_action.get(action) {
         Some(place) => Some(*place),
         None => None,
     }

@@ -1,22 +1,23 @@
-//! What the picture of a run shows, as plain data: the lanes, which block each belongs to, the row of each event, who needs whom, the
-//! steps that can be taken, and who waits for whom.
+//! What the picture of a run shows, as plain data: the lanes, which block each belongs to, the row of each event, who
+//! needs whom, the steps that can be taken, and who waits for whom.
 #![tactic(auto)]
 
+mod actions;
 mod end;
-mod entering;
+mod enter;
 mod ground;
 mod lane;
 mod partners;
 mod picture;
 mod places;
 mod prefix;
-mod sides;
 mod standing;
 mod steps;
 mod table;
-mod visiting;
+mod visit;
 mod walk;
 
+pub use actions::Actions;
 pub use end::End;
 pub use ground::Feed;
 pub use lane::{Instance, Lane, LaneKind};
@@ -24,5 +25,4 @@ pub use picture::{Picture, picture_of};
 pub use places::{Place, Role, Wanted};
 pub use prefix::prefix_length;
 pub use run_depths::Race;
-pub use sides::Sides;
 pub use steps::Steps;

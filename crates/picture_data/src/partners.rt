@@ -1,24 +1,24 @@
-// The lanes from which the partner of a side that waits can come.
+// The lanes from which the partner of an action that waits can come.
 use crate::places::Role;
 use crate::table::LaneTable;
 use crate::walk::{ChannelUse, Way};
 use address::Address;
-use offered_sides::OfferedSide;
+use local_actions::LocalAction;
 use runs::Event;
 use std::alloc::{AllocError, Global};
 use waiting::Partner;
 
-/// What stands now: the sides that wait and the events that can be taken.
+/// What stands now: the actions that wait and the events that can be taken.
 #[derive(Clone, Copy)]
 pub(crate) struct Now<'a> {
     pub(crate) table: &'a LaneTable,
     pub(crate) uses: &'a [ChannelUse],
-    pub(crate) sides: &'a [OfferedSide],
+    pub(crate) actions: &'a [LocalAction],
     pub(crate) ready: &'a [Event],
 }
 
-/// The lanes for which a side in the lane waits: of what stands at the place behind which its partner is, and where that is nothing, of all
-/// that could be its partner.
+/// The lanes for which an action in the lane waits: of what stands at the place behind which its partner is, and where
+/// that is nothing, of all that could be its partner.
 pub(crate) fn wanted_lanes(
     alloc: Global,
     now: &Now<'_>,
@@ -29,7 +29,7 @@ pub(crate) fn wanted_lanes(
 ) -> Result<Vec<usize>, AllocError> {
     let mut lanes = Vec::new(alloc);
     if let Some(Partner::Behind(place)) = partner {
-        add_sides_below(alloc, now, place, &mut lanes)?;
+        add_actions_below(alloc, now, place, &mut lanes)?;
         add_ready_below(alloc, now, place, &mut lanes)?;
     }
     if lanes.is_empty() {
@@ -39,16 +39,16 @@ pub(crate) fn wanted_lanes(
     Ok(lanes)
 }
 
-/// Adds the lanes of the sides that wait at the place or below it.
-fn add_sides_below(
+/// Adds the lanes of the actions that wait at the place or below it.
+fn add_actions_below(
     alloc: Global,
     now: &Now<'_>,
     place: &Address,
     lanes: &mut Vec<usize>,
 ) -> Result<(), AllocError> {
-    for side in now.sides {
-        if side.place.entries().starts_with(place.entries()) {
-            add_lane(now.table.lane(alloc, &side.place)?, lanes)?;
+    for action in now.actions {
+        if action.place.entries().starts_with(place.entries()) {
+            add_lane(now.table.lane(alloc, &action.place)?, lanes)?;
         }
     }
     Ok(())
@@ -93,7 +93,7 @@ fn add_uses(
     Ok(())
 }
 
-/// Whether what uses a channel in this way can be the partner of a side of this role.
+/// Whether what uses a channel in this way can be the partner of an action of this role.
 fn is_partner(role: Role, way: Way) -> bool {
     match role {
         Role::Sends => matches!(way, Way::Receives | Way::Opens),

@@ -24,8 +24,8 @@ pub struct Picture {
     pub end: End,
 }
 
-/// The picture of the run of the machine, whose system these procedures were elaborated to. It takes about as long as to load the
-/// run, and is an error if there is no memory.
+/// The picture of the run of the machine, whose system these procedures were elaborated to. It takes about as long as
+/// to load the run, and is an error if there is no memory.
 pub fn picture_of(
     alloc: Global,
     machine: &Machine,

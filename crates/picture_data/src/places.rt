@@ -7,14 +7,14 @@ ghost use Rattle.picture_data.specs.Lines as lines;
 ghost use Rattle.picture_data.specs.Spots as spots;
 ghost use Rattle.picture_data.specs.Spots.{LiesInLane, channel_of, event_spots, on_channel, place_at};
 ghost use Rattle.picture_data.specs.Spots.{ready_spot, ready_spots, role_of, spot_at, spot_of, want_of, with_side, waiting_with};
-ghost use Rattle.picture_data.specs.walking.SpotsSoFar.{AddsSpots, SpotsOf, TakenFor};
+ghost use Rattle.picture_data.specs.internal.SpotsSoFar.{AddsSpots, SpotsOf, TakenFor};
 
+use crate::actions::line_of;
 use crate::partners::{Now, wanted_lanes};
-use crate::sides::line_of;
 use crate::standing::Standing;
 use address::Address;
+use local_actions::{ActionKind, LocalAction};
 use machine::Machine;
-use offered_sides::{OfferedSide, Side};
 use runs::{Event, Kind};
 use std::alloc::{AllocError, Global};
 use value::Value;
@@ -61,14 +61,14 @@ pub struct Place {
     pub since: usize,
 }
 
-/// The places that wait, in order, each once, and for each side that waits the index of its place.
+/// The places that wait, in order, each once, and for each action that waits the index of its place.
 #[derive(Drop)]
 pub(crate) struct Standings {
     pub(crate) places: Vec<Place>,
-    pub(crate) place_of_side: Vec<usize>,
+    pub(crate) place_of_action: Vec<usize>,
 }
 
-/// The places of the sides that wait.
+/// The places of the actions that wait.
 pub(crate) fn waiting_places(
     alloc: Global,
     machine: &Machine,
@@ -77,19 +77,19 @@ pub(crate) fn waiting_places(
     standing: &Standing,
 ) -> Result<Standings, AllocError>
     ensures { IfOk result (λ made. SpotsOf machine.now now.now.table.now.lanes.items waiting.now.partners.items
-        waiting.now.sides made.places.items made.place_of_side.items) }
+        waiting.now.actions made.places.items made.place_of_action.items) }
 {
     let partners = waiting.partners.as_slice();
     let mut places = Vec::new(alloc);
-    let mut place_of_side = Vec::new(alloc);
-    for (index, side) in waiting.sides.as_slice().iter().enumerate() {
+    let mut place_of_action = Vec::new(alloc);
+    for (index, action) in waiting.actions.as_slice().iter().enumerate() {
         let partner = partner_at(partners, index);
-        add_side(alloc, machine, now, side, partner, standing, &mut places)?;
-        place_of_side.push(last_index(places.as_slice()))?;
+        add_action(alloc, machine, now, action, partner, standing, &mut places)?;
+        place_of_action.push(last_index(places.as_slice()))?;
     }
     Ok(Standings {
         places,
-        place_of_side,
+        place_of_action,
     })
 }
 
@@ -110,74 +110,75 @@ fn partner_at<'a>(partners: &'a [Partner], index: usize) -> Option<&'a Partner>
     }
 }
 
-/// Adds a side that waits, which has this partner: to the last of the places, if it stands there, or as a place of its
-/// own.
-fn add_side(
+/// Adds an action that waits, which has this partner: to the last of the places, if it stands there, or as a place of
+/// its own.
+fn add_action(
     alloc: Global,
     machine: &Machine,
     now: &Now<'_>,
-    side: &OfferedSide,
+    action: &LocalAction,
     partner: Option<&Partner>,
     standing: &Standing,
     places: &mut Vec<Place>,
 ) -> Result<(), AllocError>
     ensures spots { OnOk result (map spot_of places.new.items
-        ≡ with_side machine.now (map spot_of places.old.items) side.now (option_copied partner.entry)) }
+        ≡ with_side machine.now (map spot_of places.old.items) action.now (option_copied partner.entry)) }
     ensures lanes { OnOk result (Every (LiesInLane now.now.table.now.lanes.items) places.old.items →
         Every (LiesInLane now.now.table.now.lanes.items) places.new.items) }
     ensures kept { OnOk result ((k : ℕ) (a : moves.Place) →
         place_at places.old.items k ≡ Some a → place_at places.new.items k ≡ Some a) }
-    ensures last { OnOk result (place_at places.new.items (length places.new.items - 1) ≡ Some side.now.place) }
+    ensures last { OnOk result (place_at places.new.items (length places.new.items - 1) ≡ Some action.now.place) }
 {
-    let mut place = place_for(alloc, machine, now, side, standing, places)?;
-    add_wanted(alloc, now, side, partner, &mut place)?;
+    let mut place = place_for(alloc, machine, now, action, standing, places)?;
+    add_wanted(alloc, now, action, partner, &mut place)?;
     places.push(place)?;
     Ok(())
 }
 
-/// The place of the side: the last of the places, which is taken out, or else a new one.
+/// The place of the action: the last of the places, which is taken out, or else a new one.
 #[tactic(auto, using(crate::proofs::SpotLaws::taken_last, crate::proofs::SpotLaws::taken_first, crate::proofs::SpotLaws::taken_behind))]
 fn place_for(
     alloc: Global,
     machine: &Machine,
     now: &Now<'_>,
-    side: &OfferedSide,
+    action: &LocalAction,
     standing: &Standing,
     places: &mut Vec<Place>,
 ) -> Result<Place, AllocError>
-    ensures { IfOk result (λ place. TakenFor machine.now now.now.table.now.lanes.items side.now
+    ensures { IfOk result (λ place. TakenFor machine.now now.now.table.now.lanes.items action.now
         places.old.items places.new.items place) }
 {
     let Some(last) = places.pop() else {
-        let made = new_place(alloc, machine, now, side, standing)?;
+        let made = new_place(alloc, machine, now, action, standing)?;
         return Ok(made);
     };
-    if last.place.equals(&side.place) {
+    if last.place.equals(&action.place) {
         return Ok(last);
     }
     places.push(last)?;
-    let made = new_place(alloc, machine, now, side, standing)?;
+    let made = new_place(alloc, machine, now, action, standing)?;
     Ok(made)
 }
 
-/// A place of the side, which waits on nothing yet.
+/// A place of the action, which waits on nothing yet.
 fn new_place(
     alloc: Global,
     machine: &Machine,
     now: &Now<'_>,
-    side: &OfferedSide,
+    action: &LocalAction,
     standing: &Standing,
 ) -> Result<Place, AllocError>
-    ensures spot { IfOk result (λ made. spot_of made ≡ spot_at machine.now side.now.place (role_of side.now.side)) }
+    ensures spot { IfOk result (λ made.
+        spot_of made ≡ spot_at machine.now action.now.place (role_of action.now.action)) }
     ensures lane { IfOk result (LiesInLane now.now.table.now.lanes.items) }
 {
-    let role = side_role(&side.side);
+    let role = action_role(&action.action);
     let wanted = Vec::new(alloc);
     let made = place_of(
         alloc,
         machine,
         now,
-        &side.place,
+        &action.place,
         role,
         wanted,
         false,
@@ -222,11 +223,11 @@ fn place_of(
     })
 }
 
-/// Adds what the side waits on to its place.
+/// Adds what the action waits on to its place.
 fn add_wanted(
     alloc: Global,
     now: &Now<'_>,
-    offered: &OfferedSide,
+    offered: &LocalAction,
     partner: Option<&Partner>,
     place: &mut Place,
 ) -> Result<(), AllocError>
@@ -235,10 +236,10 @@ fn add_wanted(
     ensures lane { OnOk result (place.new.lane ≡ place.old.lane) }
     ensures place { OnOk result (place.new.place ≡ place.old.place) }
 {
-    let Some(channel) = side_channel(&offered.side) else {
+    let Some(channel) = action_channel(&offered.action) else {
         return Ok(());
     };
-    let role = side_role(&offered.side);
+    let role = action_role(&offered.action);
     let lanes = wanted_lanes(alloc, now, partner, place.lane, channel, role)?;
     let can_come = can_come(partner);
     place.wanted.push(Wanted {
@@ -259,33 +260,33 @@ fn can_come(partner: Option<&Partner>) -> bool
     }
 }
 
-/// What the side does.
-fn side_role(side: &Side) -> Role
-    ensures { result ≡ role_of side.now }
+/// What the action does.
+fn action_role(action: &ActionKind) -> Role
+    ensures { result ≡ role_of action.now }
 {
-    match side {
-        Side::Sends(_, _, _) => Role::Sends,
-        Side::Receives(_, _) => Role::Receives,
-        Side::Syncs(_) => Role::Syncs,
-        Side::Opens(_, _) => Role::Opens,
-        Side::Releases(_) => Role::Held,
-        Side::Closes(_) => Role::Closes,
-        Side::Assigns(_, _, _) | Side::Tests(_, _) | Side::Turns => Role::Goes,
+    match action {
+        ActionKind::Sends(_, _, _) => Role::Sends,
+        ActionKind::Receives(_, _) => Role::Receives,
+        ActionKind::Syncs(_) => Role::Syncs,
+        ActionKind::Opens(_, _) => Role::Opens,
+        ActionKind::Releases(_) => Role::Held,
+        ActionKind::Closes(_) => Role::Closes,
+        ActionKind::Assigns(_, _, _) | ActionKind::Tests(_, _) | ActionKind::Turns => Role::Goes,
     }
 }
 
-/// The channel of the side, if it has one.
-fn side_channel(side: &Side) -> Option<u32>
-    ensures { result ≡ channel_of side.now }
+/// The channel of the action, if it has one.
+fn action_channel(action: &ActionKind) -> Option<u32>
+    ensures { result ≡ channel_of action.now }
 {
-    match side {
-        Side::Sends(channel, _, _)
-        | Side::Receives(channel, _)
-        | Side::Syncs(channel)
-        | Side::Opens(channel, _)
-        | Side::Releases(channel)
-        | Side::Closes(channel) => Some(*channel),
-        Side::Assigns(_, _, _) | Side::Tests(_, _) | Side::Turns => None,
+    match action {
+        ActionKind::Sends(channel, _, _)
+        | ActionKind::Receives(channel, _)
+        | ActionKind::Syncs(channel)
+        | ActionKind::Opens(channel, _)
+        | ActionKind::Releases(channel)
+        | ActionKind::Closes(channel) => Some(*channel),
+        ActionKind::Assigns(_, _, _) | ActionKind::Tests(_, _) | ActionKind::Turns => None,
     }
 }
 

@@ -1,4 +1,5 @@
-// From which depth on a place may be stood at: the greatest depth of an event before it, in a tree of the places of events.
+// From which depth on a place may be stood at: the greatest depth of an event before it, in a tree of the places of
+// events.
 use address::{Address, Entry};
 use std::alloc::{AllocError, Global};
 

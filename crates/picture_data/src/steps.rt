@@ -2,7 +2,7 @@
 ghost use Rattle.std.specs.Prelude.{IfOk};
 ghost use Rattle.picture_data.specs.Shown.{ShowsSteps};
 
-use crate::sides::{Sides, live_sides};
+use crate::actions::{Actions, live_actions};
 use crate::standing::Standing;
 use crate::table::LaneTable;
 use dependence::Live;
@@ -20,8 +20,8 @@ pub struct Steps {
     /// how many events further on each follower of the event stands
     pub ahead: Items<Items<usize>>,
     /// where each event stands
-    pub sides: Vec<Sides>,
-    /// from which depth on the two sides of the event stood there
+    pub actions: Vec<Actions>,
+    /// from which depth on the two actions of the event stood there
     pub since: Vec<(usize, usize)>,
     /// the orders that only a shared variable makes
     pub races: Vec<Race>,
@@ -39,19 +39,19 @@ pub(crate) fn steps_of(
     let live = machine.live_events();
     let depths = depths_of(alloc, live)?;
     let ahead = all_ahead(alloc, live)?;
-    let sides = live_sides(alloc, machine, table)?;
+    let actions = live_actions(alloc, machine, table)?;
     let since = all_since(alloc, live, depths.as_slice(), standing)?;
     let races = races_of(alloc, live)?;
     Ok(Steps {
         depths,
         ahead,
-        sides,
+        actions,
         since,
         races,
     })
 }
 
-/// From which depth on the two sides of each event stood there.
+/// From which depth on the two actions of each event stood there.
 fn all_since(
     alloc: Global,
     live: &Live,
@@ -69,7 +69,8 @@ fn all_since(
     Ok(since)
 }
 
-/// From which depth on the two sides of an event of this depth stood there. Its places are put behind those that are noted.
+/// From which depth on the two actions of an event of this depth stood there. Its places are put behind those that are
+/// noted.
 fn since_of(
     event: &Event,
     depth: usize,

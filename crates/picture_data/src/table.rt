@@ -1,5 +1,5 @@
-// The lanes by their paths: the ports of the environment that give at the left, then the branches of the body in order, and the ports that
-// take at the right.
+// The lanes by their paths: the ports of the environment that give at the left, then the branches of the body in order,
+// and the ports that take at the right.
 ghost use Rattle.std.specs.Prelude.{◌≡◌, ◌≤◌, ◌↔◌, length, IfSome, IfOk, IsTrue};
 ghost use Rattle.picture_data.specs.Lines.{HasPath, IsLaneOf};
 
@@ -85,7 +85,8 @@ fn port_lane(alloc: Global, index: usize, kind: LaneKind) -> Result<Lane, AllocE
 }
 
 impl LaneTable {
-    /// The index of the lane of this path; none where no lane has it, which is so only where the source is not that of the system.
+    /// The index of the lane of this path; none where no lane has it, which is so only where the source is not that of
+    /// the system.
     pub(crate) fn find(&self, path: &[u32]) -> Option<usize>
         ensures { IfSome result (λ k. HasPath self.now.lanes.items k path.now) }
     {

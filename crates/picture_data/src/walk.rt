@@ -1,7 +1,7 @@
-// The blocks, lanes and uses of channels of a system: a walk through the commands as they are written and as they were made, side by
-// side. A call is written where the system has the body of the procedure.
+// The blocks, lanes and uses of channels of a system: a walk through the commands as they are written and as they were
+// made, action by action. A call is written where the system has the body of the procedure.
 use crate::lane::{Instance, Lane};
-use crate::visiting::take_visit;
+use crate::visit::take_visit;
 use std::alloc::{AllocError, Global};
 use system::System;
 use typed::Procedure;
@@ -53,7 +53,8 @@ pub(crate) struct Visit<'a> {
     pub(crate) block: usize,
 }
 
-/// What there is in the system, which these procedures were elaborated to. Where they were not, only a part of it is found.
+/// What there is in the system, which these procedures were elaborated to. Where they were not, only a part of it is
+/// found.
 pub(crate) fn walk(
     alloc: Global,
     procedures: &[Procedure],

@@ -5,8 +5,8 @@ use Rattle.past.specs.Past.{ListsTickets}
 use Rattle.picture_drawing.specs.declared.cones.Asked.{Asked}
 use Rattle.picture_drawing.specs.declared.cones.Cones.{Cones}
 
--- the causes of the live event of ticket t are exactly the live events on which it depends, and its consequences those that depend on
--- it, in order, itself among both
+-- the causes of the live event of ticket t are exactly the live events on which it depends, and its consequences those
+-- that depend on it, in order, itself among both
 pub record AreCones (l : Live) (t : ℕ) (cones : Cones) : Type 0 where
   pub live : IsLive l t
   pub ticket : cones.ticket ≡ t

@@ -27,8 +27,8 @@ pub(crate) fn draw_bars(
 ) -> Result<(), AllocError> {
     let bars = bars_of(alloc, figure)?;
     for bar in bars.as_slice() {
-        draw_side(sheet, figure, *bar, bar.opened, bar.opened_level, true)?;
-        draw_side(sheet, figure, *bar, bar.held, bar.held_level, false)?;
+        draw_action(sheet, figure, *bar, bar.opened, bar.opened_level, true)?;
+        draw_action(sheet, figure, *bar, bar.held, bar.held_level, false)?;
     }
     Ok(())
 }
@@ -40,7 +40,7 @@ fn bars_of(alloc: Global, figure: &Figure<'_>) -> Result<Vec<Bar>, AllocError> {
     let mut levels = vec![in alloc; 0; figure.columns.len()]?;
     for (index, entry) in figure.scene.live.as_slice().iter().enumerate() {
         let event = entry.1.get();
-        let ends = ends_of(figure.columns, figure.scene.sides(index), event);
+        let ends = ends_of(figure.columns, figure.scene.actions(index), event);
         match event.kind {
             Kind::Open => {
                 if let Some(bar) = opened_bar(levels.as_mut_slice(), index, ends) {
@@ -132,7 +132,7 @@ fn close_bar(
 }
 
 /// Draws the bar in one of its columns.
-fn draw_side(
+fn draw_action(
     sheet: &mut Sheet,
     figure: &Figure<'_>,
     bar: Bar,

@@ -2,7 +2,7 @@
 use crate::figure::{Ends, Scene, ends_of, is_quiet};
 use crate::labels::{Words, group_title};
 use crate::sheet::{LETTER, SMALL_LETTER};
-use picture_data::{Lane, LaneKind, Picture, Place, Sides};
+use picture_data::{Actions, Lane, LaneKind, Picture, Place};
 use runs::Event;
 use std::alloc::{AllocError, Global};
 
@@ -65,8 +65,8 @@ pub(crate) fn block_of(lane: &Lane) -> Option<usize> {
 pub(crate) fn columns_of(alloc: Global, picture: &Picture) -> Result<Columns, AllocError> {
     let mut used = vec![in alloc; false; picture.lanes.len()]?;
     mark_first(used.as_mut_slice(), picture.lanes.as_slice());
-    mark_sides(used.as_mut_slice(), picture.steps.sides.as_slice());
-    mark_sides(used.as_mut_slice(), picture.end.ready_sides.as_slice());
+    mark_actions(used.as_mut_slice(), picture.steps.actions.as_slice());
+    mark_actions(used.as_mut_slice(), picture.end.ready_actions.as_slice());
     mark_places(used.as_mut_slice(), picture.end.places.as_slice());
     let mut of_lane = Vec::with_capacity(alloc, used.len())?;
     let mut lanes = Vec::new(alloc);
@@ -107,8 +107,8 @@ fn mark_first(used: &mut [bool], lanes: &[Lane]) {
 }
 
 /// Marks the lanes of events.
-fn mark_sides(used: &mut [bool], sides: &[Sides]) {
-    for one in sides {
+fn mark_actions(used: &mut [bool], actions: &[Actions]) {
+    for one in actions {
         mark(used, one.first_lane);
         mark(used, one.second_lane);
     }
@@ -133,9 +133,9 @@ pub(crate) fn set_apart(
     for (index, entry) in scene.live.as_slice().iter().enumerate() {
         let event = entry.1.get();
         if scene.shows(event) {
-            let sides = scene.sides(index);
-            words.tell(scene, event, sides)?;
-            if let Some(ends) = ends_of(columns, sides, event) {
+            let actions = scene.actions(index);
+            words.tell(scene, event, actions)?;
+            if let Some(ends) = ends_of(columns, actions, event) {
                 let number = digits_width(entry.0);
                 want(
                     needs.as_mut_slice(),

@@ -97,9 +97,9 @@ fn reaches_of(
     let mut words = Words::new(alloc);
     for (index, entry) in scene.live.as_slice().iter().enumerate() {
         let event = entry.1.get();
-        let sides = scene.sides(index);
-        words.tell(scene, event, sides)?;
-        let reach = match ends_of(columns, sides, event) {
+        let actions = scene.actions(index);
+        words.tell(scene, event, actions)?;
+        let reach = match ends_of(columns, actions, event) {
             Some(ends) => reach_of(columns, ends, event, &words, digits_width(entry.0)),
             None => (0, 0),
         };

@@ -5,7 +5,7 @@ use crate::depth_rows::Rows;
 use crate::ink::Ink;
 use crate::sheet::Point;
 use dependence::Live;
-use picture_data::{Picture, Sides};
+use picture_data::{Actions, Picture};
 use runs::{Event, Kind};
 use std::alloc::{AllocError, Global};
 use system::System;
@@ -22,10 +22,10 @@ pub(crate) struct Scene<'a> {
 
 impl Scene<'_> {
     /// Where the event at an index stands.
-    pub(crate) fn sides(&self, index: usize) -> Sides {
-        match self.picture.steps.sides.get(index) {
-            Some(sides) => *sides,
-            None => Sides {
+    pub(crate) fn actions(&self, index: usize) -> Actions {
+        match self.picture.steps.actions.get(index) {
+            Some(actions) => *actions,
+            None => Actions {
                 first_lane: None,
                 second_lane: None,
                 first_line: 0,
@@ -61,15 +61,15 @@ pub(crate) fn is_quiet(event: &Event) -> bool {
 pub(crate) struct Ends {
     pub(crate) first: usize,
     pub(crate) second: Option<usize>,
-    /// the one under which its label stands: that of the side that takes
+    /// the one under which its label stands: that of the action that takes
     pub(crate) own: usize,
 }
 
 /// The columns of an event with these lanes; none where the source is not that of the system.
-pub(crate) fn ends_of(columns: &Columns, sides: Sides, event: &Event) -> Option<Ends> {
-    let first = columns.of(sides.first_lane)?;
+pub(crate) fn ends_of(columns: &Columns, actions: Actions, event: &Event) -> Option<Ends> {
+    let first = columns.of(actions.first_lane)?;
     let second = match event.second {
-        Some(_) => columns.of(sides.second_lane),
+        Some(_) => columns.of(actions.second_lane),
         None => None,
     };
     let own = match (event.kind, second) {
@@ -79,10 +79,10 @@ pub(crate) fn ends_of(columns: &Columns, sides: Sides, event: &Event) -> Option<
     Some(Ends { first, second, own })
 }
 
-/// The lane of the side that takes, or of the only one.
-pub(crate) fn own_lane(sides: Sides, event: &Event) -> Option<usize> {
-    match (event.kind, sides.second_lane) {
-        (Kind::Sync, _) | (_, None) => sides.first_lane,
+/// The lane of the action that takes, or of the only one.
+pub(crate) fn own_lane(actions: Actions, event: &Event) -> Option<usize> {
+    match (event.kind, actions.second_lane) {
+        (Kind::Sync, _) | (_, None) => actions.first_lane,
         (_, second) => second,
     }
 }

@@ -21,9 +21,9 @@ pub(crate) enum Ink {
     Ready,
     /// the edge of what a handshake encloses
     Enclosed,
-    /// within it, on the side that opened the arm
+    /// within it, on the action that opened the arm
     Opened,
-    /// within it, on the side that is held
+    /// within it, on the action that is held
     Held,
     /// within it, where it has nothing to do with the event that is asked for
     Pale,

@@ -1,7 +1,7 @@
 // What is written beside events, and over the columns.
 use crate::figure::{Scene, own_lane};
 use itoa::Buffer;
-use picture_data::{LaneKind, Sides, prefix_length};
+use picture_data::{Actions, LaneKind, prefix_length};
 use runs::{Event, Kind};
 use std::alloc::{AllocError, Global};
 use system::QualifiedName;
@@ -31,11 +31,11 @@ impl Words {
         &mut self,
         scene: &Scene<'_>,
         event: &Event,
-        sides: Sides,
+        actions: Actions,
     ) -> Result<(), AllocError> {
         self.label.clear();
         self.stored.clear();
-        let lane = own_lane(sides, event);
+        let lane = own_lane(actions, event);
         match event.kind {
             Kind::Assign => self.tell_assignment(scene, event, lane),
             Kind::Turn => self.label.extend_from_slice(b"turn"),
@@ -113,8 +113,8 @@ fn add_value(event: &Event, out: &mut Vec<u8>) -> Result<(), AllocError> {
     }
 }
 
-/// Adds a name: its own alone where it is declared in the block of the lane or in one around it, and else the whole. `whole` is written
-/// anew.
+/// Adds a name: its own alone where it is declared in the block of the lane or in one around it, and else the whole.
+/// `whole` is written anew.
 pub(crate) fn add_own_name(
     scene: &Scene<'_>,
     name: Option<&QualifiedName>,

@@ -1,12 +1,12 @@
-//! A run as a drawing (SVG 1.1) for a document: no script, no style sheet, no outside resource. A row is a depth, a column a lane, as on
-//! the page.
+//! A run as a drawing (SVG 1.1) for a document: no script, no style sheet, no outside resource. A row is a depth, a
+//! column a lane, as on the page.
 #![tactic(auto)]
 
 mod bars;
 mod columns;
 mod cones;
 mod depth_rows;
-mod drawing;
+mod draw;
 mod figure;
 mod heads;
 mod ink;
@@ -19,4 +19,4 @@ mod tracks;
 mod trails;
 
 pub use cones::Cones;
-pub use drawing::drawing_text;
+pub use draw::drawing_text;

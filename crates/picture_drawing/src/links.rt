@@ -108,11 +108,11 @@ fn draw_found(
 /// The columns of the event at an index.
 fn ends_at(figure: &Figure<'_>, index: usize) -> Option<Ends> {
     let (_, event) = figure.scene.live.pair_at(index as u64)?;
-    ends_of(figure.columns, figure.scene.sides(index), event)
+    ends_of(figure.columns, figure.scene.actions(index), event)
 }
 
-/// Where an order of two events is drawn that have no column in common: between places of which the one is before the other, where there
-/// are such, and else where it is shortest.
+/// Where an order of two events is drawn that have no column in common: between places of which the one is before the
+/// other, where there are such, and else where it is shortest.
 fn joint_of(figure: &Figure<'_>, earlier: usize, later: usize) -> Option<Joint> {
     let from = ends_at(figure, earlier)?;
     let to = ends_at(figure, later)?;

@@ -54,11 +54,11 @@ fn draw_event(
     ticket: u64,
     event: &Event,
 ) -> Result<(), AllocError> {
-    let sides = figure.scene.sides(index);
-    let Some(ends) = ends_of(figure.columns, sides, event) else {
+    let actions = figure.scene.actions(index);
+    let Some(ends) = ends_of(figure.columns, actions, event) else {
         return Ok(());
     };
-    scratch.words.tell(&figure.scene, event, sides)?;
+    scratch.words.tell(&figure.scene, event, actions)?;
     scratch.number.clear();
     add_number(&mut scratch.number, ticket)?;
     let look = look_of(figure, index);
@@ -125,7 +125,7 @@ fn words_style(ink: Ink, is_small: bool, right: bool, under: Ink) -> Style {
     }
 }
 
-/// Draws an event with one side, whose ticket is so wide.
+/// Draws an event with one action, whose ticket is so wide.
 fn draw_single(
     sheet: &mut Sheet,
     figure: &Figure<'_>,
@@ -171,7 +171,7 @@ fn draw_single(
     )
 }
 
-/// Draws an event with two sides, whose ticket is so wide.
+/// Draws an event with two actions, whose ticket is so wide.
 fn draw_pair(
     sheet: &mut Sheet,
     figure: &Figure<'_>,

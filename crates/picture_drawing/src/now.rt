@@ -103,8 +103,8 @@ fn tell_ready(
     event: &Event,
 ) -> Result<(), AllocError> {
     text.clear();
-    if let Some(sides) = figure.scene.picture.end.ready_sides.get(index) {
-        words.tell(&figure.scene, event, *sides)?;
+    if let Some(actions) = figure.scene.picture.end.ready_actions.get(index) {
+        words.tell(&figure.scene, event, *actions)?;
         text.extend_from_slice(verb(event.kind))?;
         add_cut(text, words.label.as_slice(), 2400, LETTER)?;
     }
@@ -124,8 +124,8 @@ fn verb(kind: Kind) -> &'static [u8] {
 
 /// The columns of the event at an index of those that can be taken.
 fn ready_ends(figure: &Figure<'_>, index: usize, event: &Event) -> Option<Ends> {
-    let sides = figure.scene.picture.end.ready_sides.get(index)?;
-    ends_of(figure.columns, *sides, event)
+    let actions = figure.scene.picture.end.ready_actions.get(index)?;
+    ends_of(figure.columns, *actions, event)
 }
 
 /// Draws an event that can be taken, at this height.

@@ -36,7 +36,7 @@ pub(crate) struct Bend {
     pub(crate) to: Point,
 }
 
-/// On which side of its point a text stands.
+/// On which action of its point a text stands.
 #[derive(Clone, Copy, Debug, PartialEq, Eq)]
 pub(crate) enum Anchor {
     Start,

@@ -36,7 +36,7 @@ pub(crate) fn draw_trails(
     let mut trails = vec![in alloc; start; figure.columns.len()]?;
     for (index, entry) in figure.scene.live.as_slice().iter().enumerate() {
         let event = entry.1.get();
-        if let Some(ends) = ends_of(figure.columns, figure.scene.sides(index), event) {
+        if let Some(ends) = ends_of(figure.columns, figure.scene.actions(index), event) {
             follow(
                 sheet,
                 figure,
@@ -98,7 +98,7 @@ fn follow(
 
 /// Whether the event at an index, which stands at the place, goes on from the last one of the trail.
 fn goes_on(figure: &Figure<'_>, trail: Trail, index: usize, place: &Address) -> bool {
-    let Some((earlier, side)) = trail.last else {
+    let Some((earlier, action)) = trail.last else {
         return is_from_start(branch_turn(place.entries()));
     };
     if figure
@@ -110,7 +110,7 @@ fn goes_on(figure: &Figure<'_>, trail: Trail, index: usize, place: &Address) -> 
     }
     match figure.scene.live.pair_at(earlier as u64) {
         Some((_, event)) => {
-            branch_turn(place_of(event, side).entries()) == branch_turn(place.entries())
+            branch_turn(place_of(event, action).entries()) == branch_turn(place.entries())
         }
         None => false,
     }
@@ -199,12 +199,12 @@ fn stands_in(figure: &Figure<'_>, trails: &[Trail], column: usize, place: &Addre
     let Some(trail) = trails.get(column) else {
         return false;
     };
-    let Some((last, side)) = trail.last else {
+    let Some((last, action)) = trail.last else {
         return true;
     };
     match figure.scene.live.pair_at(last as u64) {
         Some((_, event)) => {
-            branch_turn(place_of(event, side).entries()) == branch_turn(place.entries())
+            branch_turn(place_of(event, action).entries()) == branch_turn(place.entries())
         }
         None => false,
     }

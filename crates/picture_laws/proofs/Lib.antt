@@ -1,4 +1,4 @@
-pub mod OneOrder
-pub mod OneRun
-pub mod SameLines
-pub mod SameShown
+mod OneOrder
+mod OneRun
+mod SameLines
+mod SameShown

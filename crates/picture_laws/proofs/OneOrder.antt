@@ -3,8 +3,8 @@ use Rattle.std.proofs.Common.{◌≡◌, inl, inr, ℕ, zero, suc, List, [], ◌
 use Rattle.std.specs.Prelude.{slice_get}
 use Rattle.syntax.specs.Lists.{In}
 use Rattle.runs.specs.InOrder.{InOrder}
-use Rattle.runs.proofs.Lists.{every-in}
-use Rattle.runs.proofs.Options.{none-some, some-injective}
+use Rattle.runs.proofs.public.Lists.{every-in}
+use Rattle.runs.proofs.public.Options.{none-some, some-injective}
 
 -- of two elements not each comes before the other
 abbrev pub NeverBoth : {X : Type 0} → (X → X → Type 0) → Type 0

@@ -8,14 +8,14 @@ use Rattle.runs.specs.InOrder.{InOrder}
 use Rattle.runs.specs.Live.{Live, Rising}
 use Rattle.runs.specs.Steps.{State}
 use Rattle.runs.specs.declared.event.Event.{Event}
-use Rattle.dependence.proofs.ListPlaces.{at-within}
+use Rattle.dependence.proofs.public.ListPlaces.{at-within}
 use Rattle.run_depths.specs.Depths.{AreAhead, AreDepths, ListsAhead, StandsAt}
 use Rattle.run_depths.specs.Races.{AreRaces, IsEarlierRace, OrdersBy}
 use Rattle.run_depths.specs.declared.races.Race.{Race}
-use Rattle.run_depths.proofs.Deepening.{one-place}
+use Rattle.run_depths.proofs.public.Deepening.{one-place}
 use Rattle.depth_laws.specs.Laws.{IsLongest}
-use Rattle.depth_laws.proofs.Chains.{depth-is-longest}
-use Rattle.depth_laws.proofs.EqualRaces.{orders-one, same-event}
+use Rattle.depth_laws.proofs.public.Chains.{depth-is-longest}
+use Rattle.depth_laws.proofs.public.EqualRaces.{orders-one, same-event}
 use Rattle.waiting.specs.Progress.{StandsLike}
 use Rattle.waiting.specs.declared.progress.Progress.{Progress}
 use Rattle.waiting.specs.declared.progress.Progress.TheVariants.{GoesOn, Done, Stuck}

@@ -7,7 +7,7 @@ use Rattle.runs.specs.Moves.{Place}
 use Rattle.runs.specs.Tests.{same_place}
 use Rattle.runs.specs.declared.event.Event.{Event}
 use Rattle.machine.specs.AtMachine.{AtMachine}
-use Rattle.offered_sides.specs.declared.side.OfferedSide.{OfferedSide}
+use Rattle.local_actions.specs.declared.action.LocalAction.{LocalAction}
 use Rattle.rings.specs.declared.partner.Partner.{Partner}
 use Rattle.waiting.specs.declared.waiting.Waiting.{Waiting}
 use Rattle.picture_data.specs.Lines.{line_of}
@@ -22,19 +22,19 @@ same-spot : (m n : AtMachine) (a : Place) (r : Role) → SameLines m n → spot_
 same-spot m n a r same =
     let made : ℕ → Spot = λ line. record { place = a; line = line; role = r; wanted = []; is_ready = false } in ap made (same a)
 
-same-side : (m n : AtMachine) (spots : List Spot) (x : OfferedSide) (p : Option Partner) → SameLines m n → with_side m spots x p ≡ with_side n spots x p
-same-side m n [] x p same = ap (λ (s : Spot). waiting_with s x p ∷ []) (same-spot m n x.place (role_of x.side) same)
-same-side m n (s ∷ []) x p same =
+same-action : (m n : AtMachine) (spots : List Spot) (x : LocalAction) (p : Option Partner) → SameLines m n → with_side m spots x p ≡ with_side n spots x p
+same-action m n [] x p same = ap (λ (s : Spot). waiting_with s x p ∷ []) (same-spot m n x.place (role_of x.action) same)
+same-action m n (s ∷ []) x p same =
     ap (λ (t : Spot). cond (same_place s.place x.place) (waiting_with s x p ∷ []) (s ∷ waiting_with t x p ∷ []))
-    (same-spot m n x.place (role_of x.side) same)
-same-side m n (s ∷ t ∷ spots) x p same = ap (λ (k : List Spot). s ∷ k) (same-side m n (t ∷ spots) x p same)
+    (same-spot m n x.place (role_of x.action) same)
+same-action m n (s ∷ t ∷ spots) x p same = ap (λ (k : List Spot). s ∷ k) (same-action m n (t ∷ spots) x p same)
 
-same-sides : (m n : AtMachine) (spots : List Spot) (ps : List Partner) (k : ℕ) (xs : List OfferedSide) → SameLines m n →
+same-actions : (m n : AtMachine) (spots : List Spot) (ps : List Partner) (k : ℕ) (xs : List LocalAction) → SameLines m n →
     with_sides m spots ps k xs ≡ with_sides n spots ps k xs
-same-sides m n spots ps k [] same = refl
-same-sides m n spots ps k (x ∷ xs) same =
-    same-sides m n (with_side m spots x (slice_get ps k)) ps (k + 1) xs same
-    ∙ ap (λ (ss : List Spot). with_sides n ss ps (k + 1) xs) (same-side m n spots x (slice_get ps k) same)
+same-actions m n spots ps k [] same = refl
+same-actions m n spots ps k (x ∷ xs) same =
+    same-actions m n (with_side m spots x (slice_get ps k)) ps (k + 1) xs same
+    ∙ ap (λ (ss : List Spot). with_sides n ss ps (k + 1) xs) (same-action m n spots x (slice_get ps k) same)
 
 same-ready : (m n : AtMachine) (e : Event) (a : Place) (r : Role) → SameLines m n → ready_spot m e a r ≡ ready_spot n e a r
 same-ready m n e a r same =
@@ -56,5 +56,5 @@ same-events m n es same =
 pub same-places : (m n : AtMachine) (w : Waiting) (es : List Event) (places : List Shown) → SameLines m n → AreSpots n w es places → AreSpots m w es places
 same-places m n w es places same are =
     are
-    ∙ ap (λ (ss : List Spot). ss ++ ready_spots n es) (sym (same-sides m n [] w.partners.items 0 w.sides same))
+    ∙ ap (λ (ss : List Spot). ss ++ ready_spots n es) (sym (same-actions m n [] w.partners.items 0 w.actions same))
     ∙ ap (λ (ss : List Spot). waiting_spots m w ++ ss) (sym (same-events m n es same))

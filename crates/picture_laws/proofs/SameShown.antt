@@ -10,19 +10,19 @@ use Rattle.runs.specs.Object.{Reaches}
 use Rattle.runs.specs.Ready.{ReadyList}
 use Rattle.runs.specs.Steps.{Run, State, opening}
 use Rattle.runs.specs.declared.event.Event.{Event}
-use Rattle.runs.proofs.FromOpening.{one_state, respecting_orders}
-use Rattle.runs.proofs.Options.{none-some}
+use Rattle.runs.proofs.public.FromOpening.{one_state, respecting_orders}
+use Rattle.runs.proofs.public.Options.{none-some}
 use Rattle.dependence.specs.Followers.{Follower}
-use Rattle.dependence.proofs.ListPlaces.{in-at}
+use Rattle.dependence.proofs.public.ListPlaces.{in-at}
 use Rattle.event_places.specs.EventPlaces.{line_after}
 use Rattle.run_depths.specs.Depths.{StandsAt}
-use Rattle.run_depths.proofs.Deepening.{one-place}
+use Rattle.run_depths.proofs.public.Deepening.{one-place}
 use Rattle.depth_laws.specs.Laws.{AreEqualRuns}
-use Rattle.depth_laws.proofs.EqualRaces.{races-agree, same-event}
-use Rattle.depth_laws.proofs.EqualRuns.{depths-agree, followers-agree}
-use Rattle.depth_laws.proofs.OneState.{lines-agree, ready-agree, ready-lists}
+use Rattle.depth_laws.proofs.public.EqualRaces.{races-agree, same-event}
+use Rattle.depth_laws.proofs.public.EqualRuns.{depths-agree, followers-agree}
+use Rattle.depth_laws.proofs.public.OneState.{lines-agree, ready-agree, ready-lists}
 use Rattle.machine.specs.AtMachine.{AtMachine, object}
-use Rattle.offered_sides.specs.declared.side.OfferedSide.{OfferedSide}
+use Rattle.local_actions.specs.declared.action.LocalAction.{LocalAction}
 use Rattle.rings.specs.Partners.{partner_in}
 use Rattle.rings.specs.Rings.{Helped, IsRing}
 use Rattle.rings.specs.declared.partner.Partner.{Partner}
@@ -39,7 +39,7 @@ use Rattle.picture_data.specs.Spots.{AreSpots, ShowsRing}
 use Rattle.picture_data.specs.declared.lane.Lane.{Lane}
 use Rattle.picture_data.specs.declared.picture.Picture.{Picture}
 use Rattle.picture_data.specs.declared.places.Place.{Place as Shown}
-use Rattle.picture_data.specs.declared.sides.Sides.{Sides}
+use Rattle.picture_data.specs.declared.actions.Actions.{Actions}
 use Rattle.picture_laws.specs.EqualPictures.{IsAtOnePlace, IsOneEnd, IsOneLane, IsOneRun, ShowTheSame, StandsInBoth}
 use Rattle.picture_laws.proofs.OneRun.{one-ahead, one-depths, one-progress, one-races}
 use Rattle.picture_laws.proofs.SameLines.{SameLines, same-places}
@@ -60,14 +60,14 @@ event-at (x ∷ l) zero t e at = ap (λ (o : Option (ℕ × Event)). told o) at
     told (Some y) = Some y.1
 event-at (x ∷ l) (suc i) t e at = event-at l i t e at
 
-stands-at : (m : AtMachine) (lanes : List Lane) (es : List Event) (ss : List Sides) (i : ℕ) (e : Event) (s : Sides) → EachStandsIn m lanes es ss →
+stands-at : (m : AtMachine) (lanes : List Lane) (es : List Event) (ss : List Actions) (i : ℕ) (e : Event) (s : Actions) → EachStandsIn m lanes es ss →
     slice_get es i ≡ Some e → slice_get ss i ≡ Some s → StandsIn m lanes e s
 stands-at m lanes [] ss i e s each at told = none-some e at
 stands-at m lanes (f ∷ es) [] i e s each at told = none-some s told
 stands-at m lanes (f ∷ es) (r ∷ ss) zero e s each at told =
     let one : f ≡ e = cc in
     let two : r ≡ s = cc in
-    subst (λ (g : Event). StandsIn m lanes g s) one (subst (λ (q : Sides). StandsIn m lanes f q) two each.0)
+    subst (λ (g : Event). StandsIn m lanes g s) one (subst (λ (q : Actions). StandsIn m lanes f q) two each.0)
 stands-at m lanes (f ∷ es) (r ∷ ss) (suc i) e s each at told = stands-at m lanes es ss i e s each.1 at told
 
 one-lane : (lanes others : List Lane) (a : Place) (k l : Option ℕ) → IfSome k (λ i. IsLaneOf lanes i a) → IfSome l (λ i. IsLaneOf others i a) →
@@ -76,17 +76,17 @@ one-lane lanes others a None l here there = tt
 one-lane lanes others a (Some k) None here there = tt
 one-lane lanes others a (Some k) (Some l) here there = (lane_of a, here, there)
 
-second-lane : (m n : AtMachine) (lanes others : List Lane) (o : Option Place) (s r : Sides) → SecondStandsIn m lanes o s → SecondStandsIn n others o r →
+second-lane : (m n : AtMachine) (lanes others : List Lane) (o : Option Place) (s r : Actions) → SecondStandsIn m lanes o s → SecondStandsIn n others o r →
     IsOneLane lanes others s.second_lane r.second_lane
 second-lane m n lanes others None s r here there = subst (λ (k : Option ℕ). IsOneLane lanes others k r.second_lane) (sym here.0) tt
 second-lane m n lanes others (Some b) s r here there = one-lane lanes others b s.second_lane r.second_lane here.0 there.0
 
-second-line : (m n : AtMachine) (lanes others : List Lane) (o : Option Place) (s r : Sides) → SameLines m n → SecondStandsIn m lanes o s →
+second-line : (m n : AtMachine) (lanes others : List Lane) (o : Option Place) (s r : Actions) → SameLines m n → SecondStandsIn m lanes o s →
     SecondStandsIn n others o r → s.second_line ≡ r.second_line
 second-line m n lanes others None s r same here there = here.1 ∙ sym there.1
 second-line m n lanes others (Some b) s r same here there = here.1 ∙ same b ∙ sym there.1
 
-at-one-place : (m n : AtMachine) (lanes others : List Lane) (e : Event) (s r : Sides) → SameLines m n → StandsIn m lanes e s → StandsIn n others e r →
+at-one-place : (m n : AtMachine) (lanes others : List Lane) (e : Event) (s r : Actions) → SameLines m n → StandsIn m lanes e s → StandsIn n others e r →
     IsAtOnePlace lanes others s r
 at-one-place m n lanes others e s r same here there = record {
   first_lane = one-lane lanes others e.first s.first_lane r.first_lane here.lane there.lane;
@@ -103,14 +103,14 @@ both-reach m n S T one equal here there =
     let same : Run (opening m.checked) (events n.live) T = subst (λ (c : Checked). Run (opening c) (events n.live) T) (sym one) there in
     one_state m.checked (events n.live) T S same (respecting_orders m.checked (events m.live) (events n.live) S here equal.forth)
 
--- what helps a side is the same of both
-takes-agree : (m n : AtMachine) (x : OfferedSide) → m.checked ≡ n.checked → AreEqualRuns m.checked m.live n.live → takes_input m x ≡ takes_input n x
+-- what helps an action is the same of both
+takes-agree : (m n : AtMachine) (x : LocalAction) → m.checked ≡ n.checked → AreEqualRuns m.checked m.live n.live → takes_input m x ≡ takes_input n x
 takes-agree m n x one equal =
     ap₂ (λ (line channel : Option ℕ). is_some line && is_some channel)
     (lines-agree m.checked m.live n.live x.place equal ∙ ap (λ (c : Checked). line_after (events n.live) c x.place) one)
-    (ap (λ (c : Checked). fed_channel c x.side) one)
+    (ap (λ (c : Checked). fed_channel c x.action) one)
 
-starved-agree : (m n : AtMachine) (x : OfferedSide) (p : Option Partner) → m.checked ≡ n.checked → AreEqualRuns m.checked m.live n.live →
+starved-agree : (m n : AtMachine) (x : LocalAction) (p : Option Partner) → m.checked ≡ n.checked → AreEqualRuns m.checked m.live n.live →
     is_starved m x p ≡ is_starved n x p
 starved-agree m n x None one equal = refl
 starved-agree m n x (Some partner.Gone) one equal = takes-agree m n x one equal
@@ -119,7 +119,7 @@ starved-agree m n x (Some partner.Open) one equal = refl
 
 helped-agree : (m n : AtMachine) (S : State) → m.checked ≡ n.checked → AreEqualRuns m.checked m.live n.live → helped_in n S ≡ helped_in m S
 helped-agree m n S one equal =
-    λ i. λ (x : OfferedSide). ap (λ (b : Bool). is_outlet x.side || b) (sym (starved-agree m n x (Some (partner_in S.residual x)) one equal)) i
+    λ i. λ (x : LocalAction). ap (λ (b : Bool). is_outlet x.action || b) (sym (starved-agree m n x (Some (partner_in S.residual x)) one equal)) i
 
 no-ring : (m n : AtMachine) (S : State) (places others : List Shown) (ring other : List ℕ) → helped_in n S ≡ helped_in m S → ShowsRing m S places ring →
     ShowsRing n S others other → ring ≡ [] → other ≡ []
@@ -193,10 +193,10 @@ show-the-same m n p q one equal here there = record {
       there.steps.depths both.here both.there;
   followers = λ i j d b e f row other first second at-i at-j within.
       follower-too m n p q i j d b e f row other equal here there first second at-i at-j within;
-  sides = λ i j e s r both at-i at-j.
+  actions = λ i j e s r both at-i at-j.
       at-one-place m n p.lanes.items q.lanes.items e s r (same-lines m n one equal)
-      (stands-at m p.lanes.items (events m.live) p.steps.sides.items i e s here.steps.sides (event-at m.live i both.ticket e both.here) at-i)
-      (stands-at n q.lanes.items (events n.live) q.steps.sides.items j e r there.steps.sides (event-at n.live j both.other e both.there) at-j);
+      (stands-at m p.lanes.items (events m.live) p.steps.actions.items i e s here.steps.actions (event-at m.live i both.ticket e both.here) at-i)
+      (stands-at n q.lanes.items (events n.live) q.steps.actions.items j e r there.steps.actions (event-at n.live j both.other e both.there) at-j);
   races = λ race i j e f within first second.
       races-agree m.checked m.live n.live p.steps.races.items q.steps.races.items race i j first.ticket second.ticket first.other second.other e f equal
       here.steps.races there.steps.races within first.here second.here first.there second.there;

@@ -15,7 +15,7 @@ use Rattle.picture_data.specs.Shown.{Shows}
 use Rattle.picture_data.specs.Spots.{AreSpots}
 use Rattle.picture_data.specs.declared.lane.Lane.{Lane}
 use Rattle.picture_data.specs.declared.picture.Picture.{Picture}
-use Rattle.picture_data.specs.declared.sides.Sides.{Sides}
+use Rattle.picture_data.specs.declared.actions.Actions.{Actions}
 
 -- the live event e stands at the index i of the one and at j of the other
 pub record StandsInBoth (m n : AtMachine) (i j : ℕ) (e : Event) : Type 0 where
@@ -31,7 +31,7 @@ IsOneLane lanes others (Some k) None = Unit {0}
 IsOneLane lanes others (Some k) (Some l) = (path : List ℕ) × HasPath lanes k path × HasPath others l path
 
 -- an event stands in the same lanes and at the same lines
-pub record IsAtOnePlace (lanes others : List Lane) (s r : Sides) : Type 0 where
+pub record IsAtOnePlace (lanes others : List Lane) (s r : Actions) : Type 0 where
   pub first_lane : IsOneLane lanes others s.first_lane r.first_lane
   pub second_lane : IsOneLane lanes others s.second_lane r.second_lane
   pub first_line : s.first_line ≡ r.first_line
@@ -59,11 +59,14 @@ pub record ShowTheSame (m n : AtMachine) (p q : Picture) : Type 0 where
       slice_index p.steps.depths.items i ≡ slice_index q.steps.depths.items j
   -- the event e, and with it f, which stands d further on in the one and b in the other
   pub followers : (i j d b : ℕ) (e f : Event) (row other : List ℕ) → StandsInBoth m n i j e →
-      StandsInBoth m n (i + d) (j + b) f → slice_get p.steps.ahead i ≡ Some row → slice_get q.steps.ahead j ≡ Some other → In d row → In b other
-  pub sides : (i j : ℕ) (e : Event) (s r : Sides) → StandsInBoth m n i j e → slice_get p.steps.sides.items i ≡ Some s →
-      slice_get q.steps.sides.items j ≡ Some r → IsAtOnePlace p.lanes.items q.lanes.items s r
+      StandsInBoth m n (i + d) (j + b) f → slice_get p.steps.ahead i ≡ Some row →
+      slice_get q.steps.ahead j ≡ Some other → In d row → In b other
+  pub actions : (i j : ℕ) (e : Event) (s r : Actions) → StandsInBoth m n i j e →
+      slice_get p.steps.actions.items i ≡ Some s →
+      slice_get q.steps.actions.items j ≡ Some r → IsAtOnePlace p.lanes.items q.lanes.items s r
   pub races : (race : Race) (i j : ℕ) (e f : Event) → In race p.steps.races.items → StandsInBoth m n race.cause i e →
-      StandsInBoth m n race.event j f → In (record { cause = i; event = j; variable = race.variable }) q.steps.races.items
+      StandsInBoth m n race.event j f →
+      In (record { cause = i; event = j; variable = race.variable }) q.steps.races.items
   pub end : IsOneEnd m n p q
 
 -- the live events of two machines of one system are respecting orders of one another: so their pictures show the same

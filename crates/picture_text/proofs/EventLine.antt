@@ -8,7 +8,7 @@ use Rattle.system.specs.declared.system.System.{System}
 use Rattle.runs.specs.declared.event.Event.{Event}
 use Rattle.line_text.specs.AnswerText.{ending, entry_text}
 use Rattle.line_text.specs.EventText.{event_text, field}
-use Rattle.dependence.proofs.ListPlaces.{take-all}
+use Rattle.dependence.proofs.public.ListPlaces.{take-all}
 
 -- what stands between the first three bytes and the last
 inner-of : (line t : List ℕ) → line ≡ 32 ∷ 48 ∷ 32 ∷ (t ++ 10 ∷ []) → slice_range line 3 (length line - 1) ≡ t

@@ -1,3 +1,3 @@
-pub mod EventLine
-pub mod PageParts
-pub mod Rows
+mod EventLine
+mod PageParts
+mod Rows

@@ -3,11 +3,11 @@ use Rattle.std.proofs.Common.{◌≡◌, ◌∙◌, ℕ, ◌<◌, ◌≤◌, Opt
 use Rattle.runs.specs.Live.{Live}
 use Rattle.runs.specs.declared.event.Event.{Event}
 use Rattle.system.specs.declared.system.System.{System}
-use Rattle.dependence.proofs.ListPlaces.{drop-all}
+use Rattle.dependence.proofs.public.ListPlaces.{drop-all}
 use Rattle.std.specs.Fmt.{decimal}
 use Rattle.json_text.specs.Values.{Growing, closed, list_text, member_text, named, nothing_yet, object_text, opened, optional_text, string_text, with_value, with_values}
-use Rattle.json_text.proofs.Growing.{list_filled, member_added, object_filled, with_more_values}
-use Rattle.picture_data.specs.declared.sides.Sides.{Sides}
+use Rattle.json_text.proofs.public.Growing.{list_filled, member_added, object_filled, with_more_values}
+use Rattle.picture_data.specs.declared.actions.Actions.{Actions}
 use Rattle.picture_data.specs.declared.steps.Steps.{Steps}
 use Rattle.picture_data.specs.declared.places.Wanted.{Wanted}
 use Rattle.picture_text.specs.DataText.{event_rows, numbers_text, ready_rows, rings_text, wanted_text}
@@ -26,12 +26,12 @@ all-event-rows system steps l m k e b same past is =
     subst (λ (left : Live). with_values e (event_rows system steps k left) ≡ with_values b (event_rows system steps 0 m)) (drop-all m k past) is
     ∙ ap (λ (all : Live). with_values b (event_rows system steps 0 all)) same
 
-pub all-ready-rows : (system : System) (sides : List Sides) (es fs : List Event) (k : ℕ) (e b : Growing) → fs ≡ es → length fs ≤ k →
-    with_values e (ready_rows system sides k (drop k fs)) ≡ with_values b (ready_rows system sides 0 fs) →
-    e ≡ with_values b (ready_rows system sides 0 es)
-all-ready-rows system sides es fs k e b same past is =
-    subst (λ (left : List Event). with_values e (ready_rows system sides k left) ≡ with_values b (ready_rows system sides 0 fs)) (drop-all fs k past) is
-    ∙ ap (λ (all : List Event). with_values b (ready_rows system sides 0 all)) same
+pub all-ready-rows : (system : System) (actions : List Actions) (es fs : List Event) (k : ℕ) (e b : Growing) → fs ≡ es → length fs ≤ k →
+    with_values e (ready_rows system actions k (drop k fs)) ≡ with_values b (ready_rows system actions 0 fs) →
+    e ≡ with_values b (ready_rows system actions 0 es)
+all-ready-rows system actions es fs k e b same past is =
+    subst (λ (left : List Event). with_values e (ready_rows system actions k left) ≡ with_values b (ready_rows system actions 0 fs)) (drop-all fs k past) is
+    ∙ ap (λ (all : List Event). with_values b (ready_rows system actions 0 all)) same
 
 -- a list that was opened, filled and closed
 pub listed : (g b e z : Growing) (rows : List (List ℕ)) → b ≡ opened 91 g → e ≡ with_values b rows → z ≡ closed 93 e → z ≡ with_value g (list_text rows)
@@ -50,29 +50,29 @@ pub valued-member : (g a z : Growing) (name value : List ℕ) → a ≡ named g 
 valued-member g a z name value zero one = one ∙ (ap (λ (x : Growing). with_value x value) zero ∙ member_added g name value)
 
 -- the row of an event: its text, where it stands, its depth and what it writes, what it reads, who follows it, and since when it stood there
-pub event-row : (g a b c d e f h z : Growing) (text reads ahead : List ℕ) (sides two since : List (List ℕ)) → a ≡ opened 91 g →
-    b ≡ with_value a text → c ≡ with_values b sides → d ≡ with_values c two → e ≡ with_value d reads → f ≡ with_value e ahead →
-    h ≡ with_values f since → z ≡ closed 93 h → z ≡ with_value g (list_text (text ∷ (sides ++ (two ++ reads ∷ ahead ∷ since))))
-event-row g a b c d e f h z text reads ahead sides two since one second third fourth fifth sixth seventh last =
+pub event-row : (g a b c d e f h z : Growing) (text reads ahead : List ℕ) (actions two since : List (List ℕ)) → a ≡ opened 91 g →
+    b ≡ with_value a text → c ≡ with_values b actions → d ≡ with_values c two → e ≡ with_value d reads → f ≡ with_value e ahead →
+    h ≡ with_values f since → z ≡ closed 93 h → z ≡ with_value g (list_text (text ∷ (actions ++ (two ++ reads ∷ ahead ∷ since))))
+event-row g a b c d e f h z text reads ahead actions two since one second third fourth fifth sixth seventh last =
     let inner : h ≡ with_values c (two ++ reads ∷ ahead ∷ since) =
     seventh
     ∙ (ap (λ (x : Growing). with_values x since) (sixth ∙ ap (λ (x : Growing). with_value x ahead) (fifth ∙ ap (λ (x : Growing). with_value x reads) fourth))
     ∙ with_more_values c two (reads ∷ ahead ∷ since)) in
-    let whole : h ≡ with_values a (text ∷ (sides ++ (two ++ reads ∷ ahead ∷ since))) =
+    let whole : h ≡ with_values a (text ∷ (actions ++ (two ++ reads ∷ ahead ∷ since))) =
     inner
-    ∙ (ap (λ (x : Growing). with_values x (two ++ reads ∷ ahead ∷ since)) (third ∙ ap (λ (x : Growing). with_values x sides) second)
-    ∙ with_more_values (with_value a text) sides (two ++ reads ∷ ahead ∷ since)) in
-    listed g a h z (text ∷ (sides ++ (two ++ reads ∷ ahead ∷ since))) one whole last
+    ∙ (ap (λ (x : Growing). with_values x (two ++ reads ∷ ahead ∷ since)) (third ∙ ap (λ (x : Growing). with_values x actions) second)
+    ∙ with_more_values (with_value a text) actions (two ++ reads ∷ ahead ∷ since)) in
+    listed g a h z (text ∷ (actions ++ (two ++ reads ∷ ahead ∷ since))) one whole last
 
 -- the row of an event that can be taken
-pub ready-row : (g a b c d z : Growing) (text line : List ℕ) (sides : List (List ℕ)) → a ≡ opened 91 g → b ≡ with_value a text →
-    c ≡ with_values b sides → d ≡ with_value c line → z ≡ closed 93 d → z ≡ with_value g (list_text (text ∷ (sides ++ line ∷ [])))
-ready-row g a b c d z text line sides one second third fourth last =
-    let whole : d ≡ with_values a (text ∷ (sides ++ line ∷ [])) =
+pub ready-row : (g a b c d z : Growing) (text line : List ℕ) (actions : List (List ℕ)) → a ≡ opened 91 g → b ≡ with_value a text →
+    c ≡ with_values b actions → d ≡ with_value c line → z ≡ closed 93 d → z ≡ with_value g (list_text (text ∷ (actions ++ line ∷ [])))
+ready-row g a b c d z text line actions one second third fourth last =
+    let whole : d ≡ with_values a (text ∷ (actions ++ line ∷ [])) =
     fourth
-    ∙ (ap (λ (x : Growing). with_value x line) (third ∙ ap (λ (x : Growing). with_values x sides) second)
-    ∙ with_more_values (with_value a text) sides (line ∷ [])) in
-    listed g a d z (text ∷ (sides ++ line ∷ [])) one whole last
+    ∙ (ap (λ (x : Growing). with_value x line) (third ∙ ap (λ (x : Growing). with_values x actions) second)
+    ∙ with_more_values (with_value a text) actions (line ∷ [])) in
+    listed g a d z (text ∷ (actions ++ line ∷ [])) one whole last
 
 -- three members
 pub three-members : (g a b c d e z : Growing) (m n o u v w : List ℕ) → a ≡ named g m → b ≡ with_value a u → c ≡ named b n → d ≡ with_value c v →

@@ -24,7 +24,7 @@ use Rattle.picture_data.specs.declared.places.Place.{Place}
 use Rattle.picture_data.specs.declared.places.Role.{Role}
 use Rattle.picture_data.specs.declared.places.Wanted.{Wanted}
 use Rattle.run_depths.specs.declared.races.Race.{Race}
-use Rattle.picture_data.specs.declared.sides.Sides.{Sides}
+use Rattle.picture_data.specs.declared.actions.Actions.{Actions}
 use Rattle.picture_data.specs.declared.steps.Steps.{Steps}
 
 -- 1 for true, and 0 for false
@@ -65,11 +65,11 @@ abbrev pub block_of : LaneKind → Option ℕ
 block_of (LaneKind.Body block) = Some block
 block_of _ = None
 
-abbrev pub side_of : LaneKind → List ℕ
-side_of (LaneKind.Input c) = codes "in"
-side_of (LaneKind.Output c) = codes "out"
-side_of (LaneKind.Handshakes c) = codes "sync"
-side_of (LaneKind.Body block) = codes "body"
+abbrev pub action_of : LaneKind → List ℕ
+action_of (LaneKind.Input c) = codes "in"
+action_of (LaneKind.Output c) = codes "out"
+action_of (LaneKind.Handshakes c) = codes "sync"
+action_of (LaneKind.Body block) = codes "body"
 
 -- the channel of the port of a lane of the environment
 abbrev pub port_of : LaneKind → Option ℕ
@@ -81,7 +81,7 @@ port_of (LaneKind.Body block) = None
 abbrev pub lane_text : Lane → List ℕ
 lane_text l =
     list_text (string_text (path_text l.path.items) ∷ optional_text (block_of l.kind) ∷ decimal l.line
-    ∷ string_text (side_of l.kind) ∷ optional_text (port_of l.kind) ∷ [])
+    ∷ string_text (action_of l.kind) ∷ optional_text (port_of l.kind) ∷ [])
 
 -- a port's lane, and how much it has to give
 abbrev pub feed_text : Feed → List ℕ
@@ -102,9 +102,9 @@ abbrev pub tickets_text : Live → List ℕ
 tickets_text l = cond (are_counted 1 l) (decimal 1) (list_text (ticket_texts l))
 
 -- the lanes and the lines of an event
-abbrev pub sides_texts : Option Sides → List (List ℕ)
-sides_texts None = []
-sides_texts (Some s) =
+abbrev pub action_texts : Option Actions → List (List ℕ)
+action_texts None = []
+action_texts (Some s) =
     optional_text s.first_lane ∷ optional_text s.second_lane ∷ decimal s.first_line ∷ decimal s.second_line ∷ []
 
 -- how much further on its followers stand
@@ -126,7 +126,7 @@ since_texts (Some second) since = depths_texts since
 abbrev pub event_row : System → Steps → ℕ → Event → List ℕ
 event_row system steps n e =
     list_text (string_text (event_text system e)
-    ∷ (sides_texts (slice_get steps.sides.items n)
+    ∷ (action_texts (slice_get steps.actions.items n)
     ++ optional_text (slice_get steps.depths.items n)
     ∷ optional_text e.written
     ∷ numbers_text e.read
@@ -149,13 +149,14 @@ abbrev pub step_text : Event → List ℕ
 step_text e = codes "step " ++ text_of (acting e) ++ 32 ∷ decimal (choice_of e).arm
 
 -- the event of index n that can be taken
-abbrev pub ready_row : System → List Sides → ℕ → Event → List ℕ
-ready_row system sides n e =
-    list_text (string_text (event_text system e) ∷ (sides_texts (slice_get sides n) ++ string_text (step_text e) ∷ []))
+abbrev pub ready_row : System → List Actions → ℕ → Event → List ℕ
+ready_row system actions n e =
+    list_text (string_text (event_text system e)
+    ∷ (action_texts (slice_get actions n) ++ string_text (step_text e) ∷ []))
 
-abbrev pub ready_rows : System → List Sides → ℕ → List Event → List (List ℕ)
-ready_rows system sides n [] = []
-ready_rows system sides n (e ∷ es) = ready_row system sides n e ∷ ready_rows system sides (n + 1) es
+abbrev pub ready_rows : System → List Actions → ℕ → List Event → List (List ℕ)
+ready_rows system actions n [] = []
+ready_rows system actions n (e ∷ es) = ready_row system actions n e ∷ ready_rows system actions (n + 1) es
 
 abbrev pub role_text : Role → List ℕ
 role_text Role.Sends = codes "send"
@@ -203,7 +204,7 @@ run_members system l p =
     member_text (codes "tickets") (tickets_text l)
     ∷ member_text (codes "events") (list_text (event_rows system p.steps 0 l))
     ∷ member_text (codes "races") (list_text (map race_text p.steps.races.items))
-    ∷ member_text (codes "ready") (list_text (ready_rows system p.end.ready_sides.items 0 p.end.ready))
+    ∷ member_text (codes "ready") (list_text (ready_rows system p.end.ready_actions.items 0 p.end.ready))
     ∷ member_text (codes "places") (list_text (map place_row p.end.places.items))
     ∷ member_text (codes "rings") (rings_text p.end.ring.items)
     ∷ []

@@ -21,8 +21,8 @@ pub struct Names<'a> {
     pub trace: &'a str,
 }
 
-/// The picture of the run of the machine as one JSON text, in printable ASCII without `<`, whatever bytes source and names have. It is an
-/// error if there is no memory.
+/// The picture of the run of the machine as one JSON text, in printable ASCII without `<`, whatever bytes source and
+/// names have. It is an error if there is no memory.
 pub fn data_text(
     alloc: Global,
     machine: &Machine,
@@ -30,7 +30,8 @@ pub fn data_text(
     source: &[u8],
     names: Names<'_>,
 ) -> Result<Vec<u8>, AllocError>
-    ensures text { IfOk result (λ text. text.items ≡ model.data_text machine.now.checked machine.now.live picture.now source.now
+    ensures text { IfOk result (λ text.
+        text.items ≡ model.data_text machine.now.checked machine.now.live picture.now source.now
         names.entry.file.now names.entry.stimulus.now names.entry.trace.now) }
     ensures plain { IfOk result (λ text. All IsPlain text.items) }
 {
@@ -44,9 +45,10 @@ pub fn data_text(
 }
 
 /// Adds the version of the data, the names of the files and the source.
-#[tactic(auto, using(json_text::proofs::Growing::member_added))]
+#[tactic(auto, using(json_text::proofs::public::Growing::member_added))]
 fn add_head(json: &mut Json, source: &[u8], names: Names<'_>) -> Result<(), AllocError>
-    ensures { OnOk result (json.new ≡ with_values json.old (model.head_members names.entry.file.now names.entry.stimulus.now
+    ensures { OnOk result (json.new
+        ≡ with_values json.old (model.head_members names.entry.file.now names.entry.stimulus.now
         names.entry.trace.now source.now)) }
 {
     json.name("picture")?;

@@ -6,10 +6,10 @@ ghost use Rattle.json_text.specs.Values.{list_text, member_text, string_text, wi
 ghost use Rattle.picture_text.specs.DataText as model;
 
 use crate::ground::{flag, optional};
-use crate::steps::{add_event, add_indexes, add_sides};
+use crate::steps::{add_actions, add_event, add_indexes};
 use address::Address;
 use json_text::{Item, Json};
-use picture_data::{End, Place, Role, Sides, Wanted};
+use picture_data::{Actions, End, Place, Role, Wanted};
 use runs::Event;
 use std::alloc::AllocError;
 use system::System;
@@ -23,7 +23,7 @@ pub(crate) fn add_ready(
     scratch: &mut Vec<u8>,
 ) -> Result<(), AllocError>
     ensures { OnOk result (json.new ≡ with_value json.old (member_text (codes "ready")
-        (list_text (model.ready_rows system.now end.now.ready_sides.items 0 end.now.ready)))) }
+        (list_text (model.ready_rows system.now end.now.ready_actions.items 0 end.now.ready)))) }
 {
     json.name("ready")?;
     json.open_list()?;
@@ -42,20 +42,21 @@ fn add_ready_row(
     event: &Event,
     scratch: &mut Vec<u8>,
 ) -> Result<(), AllocError>
-    ensures { OnOk result (json.new ≡ with_value json.old (model.ready_row system.now end.now.ready_sides.items index event.now)) }
+    ensures { OnOk result (json.new
+        ≡ with_value json.old (model.ready_row system.now end.now.ready_actions.items index event.now)) }
 {
     json.open_list()?;
     add_event(json, system, event, scratch)?;
-    add_sides(json, sides_at(end, index))?;
+    add_actions(json, actions_at(end, index))?;
     add_line(json, event, scratch)?;
     json.close_list()
 }
 
 /// Where the event of this index that can be taken stands.
-fn sides_at(end: &End, index: usize) -> Option<&Sides>
-    ensures { option_copied result ≡ slice_get end.now.ready_sides.items index }
+fn actions_at(end: &End, index: usize) -> Option<&Actions>
+    ensures { option_copied result ≡ slice_get end.now.ready_actions.items index }
 {
-    end.ready_sides.get(index)
+    end.ready_actions.get(index)
 }
 
 /// Adds the line of a script that takes the event.
@@ -139,7 +140,8 @@ fn role_text(role: Role) -> &'static str
     }
 }
 
-/// Adds the channels that a place waits on: each with the lanes that it waits for, and whether a partner can still come.
+/// Adds the channels that a place waits on: each with the lanes that it waits for, and whether a partner can still
+/// come.
 fn add_wanted(json: &mut Json, wanted: &[Wanted]) -> Result<(), AllocError>
     ensures { OnOk result (json.new ≡ with_value json.old (list_text (map model.wanted_text wanted.now))) }
 {
@@ -162,7 +164,7 @@ fn add_one_wanted(json: &mut Json, wanted: &Wanted) -> Result<(), AllocError>
 }
 
 /// Adds the ring of places that wait for one another, if there is one.
-#[tactic(auto, using(json_text::proofs::Growing::member_added))]
+#[tactic(auto, using(json_text::proofs::public::Growing::member_added))]
 pub(crate) fn add_ring(json: &mut Json, ring: &[usize]) -> Result<(), AllocError>
     ensures { OnOk result (json.new ≡ with_value json.old (member_text (codes "rings") (model.rings_text ring.now))) }
 {

@@ -149,7 +149,7 @@ pub(crate) fn add_lanes(
     json.close_list()
 }
 
-/// Adds a lane: its path, its block, its line, its side, and the channel of its port.
+/// Adds a lane: its path, its block, its line, its action, and the channel of its port.
 fn add_lane(json: &mut Json, lane: &Lane, scratch: &mut Vec<u8>) -> Result<(), AllocError>
     ensures { OnOk result (json.new ≡ with_value json.old (model.lane_text lane.now)) }
 {
@@ -158,7 +158,7 @@ fn add_lane(json: &mut Json, lane: &Lane, scratch: &mut Vec<u8>) -> Result<(), A
         Item::Text(scratch.as_slice()),
         Item::Optional(block_of(lane.kind)),
         Item::Number(lane.line),
-        Item::Text(side_of(lane.kind).as_bytes()),
+        Item::Text(action_of(lane.kind).as_bytes()),
         Item::Optional(port_of(lane.kind)),
     ])
 }
@@ -173,9 +173,9 @@ fn block_of(kind: LaneKind) -> Option<u64>
     }
 }
 
-/// On which side a lane stands.
-fn side_of(kind: LaneKind) -> &'static str
-    ensures { result.now ≡ model.side_of kind }
+/// On which action a lane stands.
+fn action_of(kind: LaneKind) -> &'static str
+    ensures { result.now ≡ model.action_of kind }
 {
     match kind {
         LaneKind::Input(_) => "in",

@@ -11,16 +11,17 @@ use address::Address;
 use dependence::Live;
 use json_text::{Item, Json};
 use line_text::add_entry;
-use picture_data::{Race, Sides, Steps};
+use picture_data::{Actions, Race, Steps};
 use runs::Event;
 use std::alloc::AllocError;
 use syntax::Items;
 use system::System;
 
 /// Adds the tickets: 1 where they are those from 1 on, and else a list.
-#[tactic(auto, using(json_text::proofs::Growing::member_added))]
+#[tactic(auto, using(json_text::proofs::public::Growing::member_added))]
 pub(crate) fn add_tickets(json: &mut Json, live: &Live) -> Result<(), AllocError>
-    ensures { OnOk result (json.new ≡ with_value json.old (member_text (codes "tickets") (model.tickets_text live.now.live))) }
+    ensures { OnOk result (json.new
+        ≡ with_value json.old (member_text (codes "tickets") (model.tickets_text live.now.live))) }
 {
     json.name("tickets")?;
     if are_counted(live) {
@@ -85,7 +86,7 @@ fn add_row(
 {
     json.open_list()?;
     add_event(json, system, event, scratch)?;
-    add_sides(json, sides_at(steps, index))?;
+    add_actions(json, actions_at(steps, index))?;
     json.items(&[
         Item::Optional(depth_at(steps, index)),
         Item::Optional(number(event.written)),
@@ -147,22 +148,22 @@ fn depth_at(steps: &Steps, index: usize) -> Option<u64>
 }
 
 /// Where the event at an index stands.
-fn sides_at(steps: &Steps, index: usize) -> Option<&Sides>
-    ensures { option_copied result ≡ slice_get steps.now.sides.items index }
+fn actions_at(steps: &Steps, index: usize) -> Option<&Actions>
+    ensures { option_copied result ≡ slice_get steps.now.actions.items index }
 {
-    steps.sides.get(index)
+    steps.actions.get(index)
 }
 
 /// Adds the lanes and the lines of an event.
-pub(crate) fn add_sides(json: &mut Json, sides: Option<&Sides>) -> Result<(), AllocError>
-    ensures { OnOk result (json.new ≡ with_values json.old (model.sides_texts (option_copied sides.entry))) }
+pub(crate) fn add_actions(json: &mut Json, actions: Option<&Actions>) -> Result<(), AllocError>
+    ensures { OnOk result (json.new ≡ with_values json.old (model.action_texts (option_copied actions.entry))) }
 {
-    match sides {
-        Some(sides) => json.items(&[
-            Item::Optional(optional(sides.first_lane)),
-            Item::Optional(optional(sides.second_lane)),
-            Item::Number(sides.first_line),
-            Item::Number(sides.second_line),
+    match actions {
+        Some(actions) => json.items(&[
+            Item::Optional(optional(actions.first_lane)),
+            Item::Optional(optional(actions.second_lane)),
+            Item::Number(actions.first_line),
+            Item::Number(actions.second_line),
         ]),
         None => Ok(()),
     }
@@ -207,7 +208,7 @@ pub(crate) fn add_indexes(json: &mut Json, indexes: &[usize]) -> Result<(), Allo
     json.close_list()
 }
 
-/// From which depth on the sides of the event at an index stood there.
+/// From which depth on the actions of the event at an index stood there.
 fn since_at(steps: &Steps, index: usize) -> Option<&(usize, usize)>
     ensures { option_copied result ≡ slice_get steps.now.since.items index }
 {

@@ -67,7 +67,7 @@ pub(crate) fn changes_of(
     Ok(changes)
 }
 
-/// Adds the changes of an event of this depth, whose sides stood there from these depths on.
+/// Adds the changes of an event of this depth, whose actions stood there from these depths on.
 fn add_event(
     changes: &mut Vec<Change>,
     system: &System,
@@ -137,7 +137,7 @@ pub(crate) fn at_rest(system: &System, channel: u32) -> Level {
     }
 }
 
-/// Adds that a side stands at a place, to the end.
+/// Adds that an action stands at a place, to the end.
 fn add_place(changes: &mut Vec<Change>, system: &System, place: &Place) -> Result<(), AllocError> {
     for wanted in place.wanted.as_slice() {
         if let Some(signal) = standing_signal(system, place.role, wanted.channel) {
@@ -147,7 +147,7 @@ fn add_place(changes: &mut Vec<Change>, system: &System, place: &Place) -> Resul
     Ok(())
 }
 
-/// The signal of a side of this role on a channel, where it stands there and the handshake has not begun.
+/// The signal of an action of this role on a channel, where it stands there and the handshake has not begun.
 fn standing_signal(system: &System, role: Role, channel: u32) -> Option<u64> {
     match role {
         Role::Sends | Role::Syncs => Some(of_giver(system, channel)),

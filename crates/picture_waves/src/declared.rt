@@ -84,7 +84,7 @@ fn add_signals(
     Ok(declared.len().max(first))
 }
 
-/// Adds a signal, and those of the sides of a channel.
+/// Adds a signal, and those of the actions of a channel.
 fn add_signal(
     alloc: Global,
     out: &mut Vec<u8>,
@@ -136,7 +136,7 @@ fn add_line(
     kind: &[u8],
     signal: u64,
     name: &[u8],
-    side: &[u8],
+    action: &[u8],
 ) -> Result<(), AllocError> {
     let width = width_of(system, signal);
     out.extend_from_slice(b"$var ")?;
@@ -147,7 +147,7 @@ fn add_line(
     add_code(out, signal)?;
     out.push(b' ')?;
     out.extend_from_slice(name)?;
-    out.extend_from_slice(side)?;
+    out.extend_from_slice(action)?;
     if width > 1 {
         out.extend_from_slice(b" [")?;
         add_number(out, width - 1)?;

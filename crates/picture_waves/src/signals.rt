@@ -1,4 +1,4 @@
-// The signals by number: each variable, and for each channel its value and its two sides.
+// The signals by number: each variable, and for each channel its value and its two actions.
 use std::alloc::AllocError;
 use system::{ChannelKind, System};
 
@@ -12,12 +12,12 @@ pub(crate) fn of_channel(system: &System, channel: u32) -> u64 {
     (system.variables.len() as u64).saturating_add(u64::from(channel).saturating_mul(3))
 }
 
-/// The number of the signal of the side that sends, or of two that sync of the first.
+/// The number of the signal of the action that sends, or of two that sync of the first.
 pub(crate) fn of_giver(system: &System, channel: u32) -> u64 {
     of_channel(system, channel).saturating_add(1)
 }
 
-/// The number of the signal of the other side.
+/// The number of the signal of the other action.
 pub(crate) fn of_taker(system: &System, channel: u32) -> u64 {
     of_channel(system, channel).saturating_add(2)
 }

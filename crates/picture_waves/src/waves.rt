@@ -8,8 +8,8 @@ use picture_data::Picture;
 use std::alloc::{AllocError, Global};
 use system::System;
 
-/// The waves of the run of the machine: ten units of time a depth, so that all orders in which its events may have been taken have the same
-/// times. It is an error if there is no memory.
+/// The waves of the run of the machine: ten units of time a depth, so that all orders in which its events may have been
+/// taken have the same times. It is an error if there is no memory.
 pub fn waves_text(
     alloc: Global,
     machine: &Machine,

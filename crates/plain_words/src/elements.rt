@@ -35,7 +35,8 @@ pub struct Elements<'a> {
 }
 
 impl<'a> Elements<'a> {
-    /// Those of a source that the lexer accepts; none where it is longer than a megabyte. It is an error if there is no memory.
+    /// Those of a source that the lexer accepts; none where it is longer than a megabyte. It is an error if there is no
+    /// memory.
     pub fn of(alloc: Global, source: &'a [u8]) -> Result<Elements<'a>, AllocError> {
         let mut elements = Elements {
             source,
@@ -215,8 +216,8 @@ fn names_from(alloc: Global, tokens: &[Token<'_>]) -> Result<Vec<Span>, AllocErr
     Ok(names)
 }
 
-/// The name of the last procedure of a source that the lexer accepts; none where it is longer than a megabyte. It is an error
-/// if there is no memory.
+/// The name of the last procedure of a source that the lexer accepts; none where it is longer than a megabyte. It is an
+/// error if there is no memory.
 pub fn root_name<'a>(alloc: Global, source: &'a [u8]) -> Result<Option<&'a [u8]>, AllocError> {
     if source.len() > LONGEST {
         return Ok(None);

@@ -5,8 +5,8 @@ use dependence::Live;
 use machine::Machine;
 use std::alloc::{AllocError, Global};
 
-/// The tickets of the live events that depend on the one of this ticket, itself first, ascending: those that a rollback of it
-/// takes back. None where no live event has the ticket. It is an error if there is no memory.
+/// The tickets of the live events that depend on the one of this ticket, itself first, ascending: those that a rollback
+/// of it takes back. None where no live event has the ticket. It is an error if there is no memory.
 pub fn consequences_of(
     alloc: Global,
     machine: &Machine,

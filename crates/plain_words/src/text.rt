@@ -3,8 +3,8 @@ use std::alloc::{AllocError, Global};
 use std::io::Write;
 use system::{QualifiedName, System};
 
-/// A text that is put together piece by piece. Where there is no memory for a piece, that piece and all further ones are left
-/// out, and the text is refused when it is asked for.
+/// A text that is put together piece by piece. Where there is no memory for a piece, that piece and all further ones
+/// are left out, and the text is refused when it is asked for.
 #[derive(Drop)]
 pub struct Text {
     bytes: Vec<u8>,

@@ -2,17 +2,17 @@
 use Rattle.std.proofs.Common.{◌≡◌, ℕ, zero, suc, ◌+◌, ◌≤◌, ◌==◌, List, [], ◌∷◌, map, length, false, Option, Some, None, IsSome, option_map, refl, sym, ap, ◌∙◌, subst, arith}
 use Rattle.address.specs.declared.Entry.TheVariants.{Ordered, Branch}
 use Rattle.runs.specs.Moves.{Place}
-use Rattle.runs.proofs.Options.{none-some, some-injective}
+use Rattle.runs.proofs.public.Options.{none-some, some-injective}
 use Rattle.process_tree.specs.Code.{Code, continues, halts, moves_once, may_be_held, repeats, decides, awaits, in_turn, side_by_side, drains, Codes, no_code, code}
 use Rattle.process_tree.specs.Proc.{Proc, once, Procs, no_procs, proc, sequence, parallel, started, all_started}
 use Rattle.process_tree.specs.View.{proc_view, begun_of}
 use Rattle.process_tree.specs.declared.proc.Proc as made
 use Rattle.process_tree.specs.Children.{proc_at, with_proc, BackChild}
-use Rattle.process_tree.specs.walking.Retreated.{retreated, retreated_sequence, retreated_parallel}
-use Rattle.process_tree.specs.walking.Steps.{ordered_step, branch_step}
-use Rattle.process_tree.proofs.Asking.{cond-elim, here-elim, map-elim}
+use Rattle.process_tree.specs.internal.Retreated.{retreated, retreated_sequence, retreated_parallel}
+use Rattle.process_tree.specs.internal.Steps.{ordered_step, branch_step}
+use Rattle.process_tree.proofs.public.Asking.{cond-elim, here-elim, map-elim}
 use Rattle.process_tree.proofs.Children.{back-in-sequence, back-in-parallel, from-0}
-use Rattle.process_tree.proofs.Steps.{some-of, is-some, ordered_is, branch_is, IsChild}
+use Rattle.process_tree.proofs.public.Steps.{some-of, is-some, ordered_is, branch_is, IsChild}
 
 -- what was changed on its way was there
 pub mapped : {X Y : Type 0} (f : X → Y) (o : Option X) → IsSome (option_map f o) → IsSome o

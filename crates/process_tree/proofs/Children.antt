@@ -3,15 +3,15 @@ use Rattle.std.proofs.Common.{◌≡◌, ℕ, zero, suc, ◌+◌, ◌<◌, ◌==
 use Rattle.address.specs.declared.Entry.TheVariants.{Ordered, Branch}
 use Rattle.runs.specs.Moves.{Place}
 use Rattle.runs.specs.declared.ask.Ask.{Ask}
-use Rattle.runs.proofs.Options.{none-some, cond-some}
+use Rattle.runs.proofs.public.Options.{none-some, cond-some}
 use Rattle.process_tree.specs.Proc.{Proc, Procs, no_procs, proc, finished}
 use Rattle.runs.specs.ByPlace.{if_child}
 use Rattle.process_tree.specs.Places.{wrap}
 use Rattle.process_tree.specs.Advanced.{MovedIn, advanced, advanced_sequence, advanced_parallel}
-use Rattle.process_tree.specs.walking.Retreated.{retreated, retreated_sequence, retreated_parallel}
+use Rattle.process_tree.specs.internal.Retreated.{retreated, retreated_sequence, retreated_parallel}
 use Rattle.process_tree.specs.Children.{proc_at, MovedChild, BackChild}
-use Rattle.process_tree.proofs.Asking.{some-elim, cond-elim, wrap-elim, map-elim}
-use Rattle.process_tree.proofs.Swap.{sequence-behind}
+use Rattle.process_tree.proofs.public.Asking.{some-elim, cond-elim, wrap-elim, map-elim}
+use Rattle.process_tree.proofs.public.Swap.{sequence-behind}
 
 -- every process before this one is finished
 abbrev pub FinishedBefore : Procs → ℕ → Type 0

@@ -1,14 +1,5 @@
-pub mod Asking
-pub mod Back
-pub mod BackSteps
-pub mod Children
-pub mod Formed
-pub mod Ports
-pub mod Puts
-pub mod Rows
-pub mod Simulation
-pub mod Steps
-pub mod Swap
-pub mod Tidy
-pub mod Translated
-pub mod Views
+pub mod public
+mod BackSteps
+mod Children
+mod Ports
+mod Rows

@@ -10,7 +10,7 @@ use Rattle.runs.specs.declared.ask.Ask.TheVariants as ask
 use Rattle.process_tree.specs.Code.{assigning, receiving, sending, Code, continues, moves_once, may_be_held, repeats, decides, awaits, in_turn, side_by_side, drains, no_code, code}
 use Rattle.process_tree.specs.Proc.{Proc, once, turn, started, finished}
 use Rattle.process_tree.specs.Advanced.{Moved, advanced}
-use Rattle.process_tree.specs.Left.{left}
+use Rattle.process_tree.specs.Remaining.{remaining}
 
 -- the process after moves in turn
 made : Proc → List (Place × Ask) → Option Proc
@@ -20,7 +20,7 @@ made p (m ∷ ms) = option_and_then (λ (x : Moved). made x.0 ms) (advanced p m.
 -- what is left after moves in turn
 to_do : Proc → List (Place × Ask) → Option Residual
 unfolding made
-to_do p ms = option_and_then (λ q. Some (left [] q)) (made p ms)
+to_do p ms = option_and_then (λ q. Some (remaining [] q)) (made p ms)
 
 -- the buffer: channel 0 is i, channel 1 is o, variable 0 is x
 abbrev body : Code

@@ -12,8 +12,8 @@ use Rattle.runs.specs.WellFormed.{WellFormed}
 use Rattle.process_tree.specs.Code.{Code}
 use Rattle.process_tree.specs.Proc.{Proc, started, finished}
 use Rattle.process_tree.specs.Advanced.{Moved, advanced}
-use Rattle.process_tree.specs.walking.Retreated.{retreated}
-use Rattle.process_tree.specs.Left.{Received, puts, residual, left}
+use Rattle.process_tree.specs.internal.Retreated.{retreated}
+use Rattle.process_tree.specs.Remaining.{Received, puts, residual, remaining}
 use Rattle.process_tree.specs.Translation.{code_of, system_code}
 
 -- two moves made the other way round lead to the same, and each takes out what it took out
@@ -24,27 +24,27 @@ Swapped {Y = Y} step p a k x b l y =
 
 -- what is left of any process is well formed
 abbrev pub LeftIsFormed : Type 0
-LeftIsFormed = (p : Proc) (env : Received) → WellFormed (left env p)
+LeftIsFormed = (p : Proc) (env : Received) → WellFormed (remaining env p)
 
 -- a command that has made no move has all left, with the received values put
 abbrev pub StartedHasAllLeft : Type 0
-StartedHasAllLeft = (c : Code) (env : Received) → left env (started c) ≡ puts env (residual c)
+StartedHasAllLeft = (c : Code) (env : Received) → remaining env (started c) ≡ puts env (residual c)
 
 -- a process is finished exactly where nothing is left of it
 abbrev pub FinishedIsDone : Type 0
-FinishedIsDone = (p : Proc) (env : Received) → (finished p ≡ true) ↔ (left env p ≡ done)
+FinishedIsDone = (p : Proc) (env : Received) → (finished p ≡ true) ↔ (remaining env p ≡ done)
 
 -- a local move that what is left offers is made by the tree, and leaves what it leads to
 abbrev pub OffersAreMade : Type 0
 OffersAreMade =
-    (p : Proc) (env : Received) (a : Place) (m : Move) (q : Residual) → Local (left env p) a m q →
-    (x : Moved) × (advanced p a (ask_of m) ≡ Some x) × (left env x.0 ≡ q)
+    (p : Proc) (env : Received) (a : Place) (m : Move) (q : Residual) → Local (remaining env p) a m q →
+    (x : Moved) × (advanced p a (ask_of m) ≡ Some x) × (remaining env x.0 ≡ q)
 
 -- a move that the tree makes is a local move that what is left offers, and it answers to what was asked
 abbrev pub MadeAreOffered : Type 0
 MadeAreOffered =
     (p : Proc) (env : Received) (a : Place) (k : Ask) (x : Moved) → advanced p a k ≡ Some x →
-    (m : Move) × Local (left env p) a m (left env x.0) × (ask_of m ≡ k)
+    (m : Move) × Local (remaining env p) a m (remaining env x.0) × (ask_of m ≡ k)
 
 -- a move taken back, with what it took out, gives the same process, finished processes included
 abbrev pub MovesGoBack : Type 0
@@ -62,4 +62,4 @@ CommandsAgree = (c : Command) → residual (code_of c) ≡ residual_of c
 
 -- of the tree of a system that has made no move is left what the system opens with
 abbrev pub SystemsOpenAlike : Type 0
-SystemsOpenAlike = (system : System) → left [] (started (system_code system)) ≡ opening_residual system
+SystemsOpenAlike = (system : System) → remaining [] (started (system_code system)) ≡ opening_residual system

@@ -2,10 +2,10 @@ pub mod Advanced
 pub mod Children
 pub mod Code
 pub mod Laws
-pub mod Left
 pub mod Places
 pub mod Proc
+pub mod Remaining
 pub mod Tidy
 pub mod Translation
 pub mod View
-pub mod walking
+pub mod internal

@@ -5,9 +5,9 @@ ghost use Rattle.process_tree.specs.Code.{Sender, code_at};
 ghost use Rattle.process_tree.specs.Advanced.{advanced, again_after, test_after, open_after};
 ghost use Rattle.process_tree.specs.Translation.{row_of};
 ghost use Rattle.process_tree.specs.View.{code_view, repeat_view, decide_view, await_view, row_view, phase_view, proc_view, turn_of, opened_of, out_view, procs_of, begun_of};
-ghost use Rattle.process_tree.specs.walking.Parts.{turns_view, tested_view, gate_view};
+ghost use Rattle.process_tree.specs.internal.Parts.{turns_view, tested_view, gate_view};
 ghost use Rattle.process_tree.specs.Children.{proc_at};
-ghost use Rattle.process_tree.specs.walking.Steps.{takes_none};
+ghost use Rattle.process_tree.specs.internal.Steps.{takes_none};
 ghost use Rattle.runs.specs.Moves.{Place};
 
 use crate::code::{Await, Code, Decide, Repeat, Row};
@@ -136,7 +136,8 @@ fn first_turn(alloc: Global, repeat: &Repeat, ask: Ask) -> Result<Turns, AllocEr
     ensures { IfOk result (λ made.
         IsSome (again_after (repeat_view repeat.now).0 (repeat_view repeat.now).1 0
         (ended_at_once (repeat_view repeat.now).0 (repeat_view repeat.now).1) None ask) →
-        again_after (repeat_view repeat.now).0 (repeat_view repeat.now).1 0 (ended_at_once (repeat_view repeat.now).0 (repeat_view repeat.now).1) None ask
+        again_after (repeat_view repeat.now).0 (repeat_view repeat.now).1 0
+        (ended_at_once (repeat_view repeat.now).0 (repeat_view repeat.now).1) None ask
         ≡ Some (turns_view made (repeat_view repeat.now).0 (repeat_view repeat.now).1, None)) }
 {
     if takes_none(ask) {

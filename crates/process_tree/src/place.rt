@@ -1,6 +1,6 @@
 // The first step of a place.
 ghost use Rattle.std.specs.Prelude.{◌≡◌, ◌<◌, length, option_map, IfSome};
-ghost use Rattle.process_tree.specs.walking.Steps.{ordered_step, branch_step};
+ghost use Rattle.process_tree.specs.internal.Steps.{ordered_step, branch_step};
 
 use address::Entry;
 

@@ -3,8 +3,8 @@ ghost use Rattle.std.specs.Prelude.{◌≡◌, ℕ, Option, Some, map, cond, IsS
 ghost use Rattle.process_tree.specs.Code.{Sender, Code};
 ghost use Rattle.process_tree.specs.Proc.{sender, drained, fresh, untested, took, unopened, sequence, parallel};
 ghost use Rattle.process_tree.specs.View.{repeat_view, decide_view, await_view, row_view, phase_view, proc_view, turn_of, opened_of, out_view, procs_of, begun_of};
-ghost use Rattle.process_tree.specs.walking.Parts.{turns_view, tested_view, gate_view};
-ghost use Rattle.process_tree.specs.walking.Retreated.{retreated, before_turn};
+ghost use Rattle.process_tree.specs.internal.Parts.{turns_view, tested_view, gate_view};
+ghost use Rattle.process_tree.specs.internal.Retreated.{retreated, before_turn};
 ghost use Rattle.process_tree.specs.Proc as model;
 ghost use Rattle.system.specs.Expression.{Expression};
 
@@ -234,7 +234,8 @@ fn from_opened(
         (opened_of over.old (await_view waiting.now).0 (await_view waiting.now).1 channel value
         (proc_view body.old.value)) place.now (out_view out)
         ≡ Some (cond result (unopened (await_view waiting.now).0 (await_view waiting.now).1)
-        (opened_of over.new (await_view waiting.now).0 (await_view waiting.now).1 channel value (proc_view body.new.value))) }
+        (opened_of over.new (await_view waiting.now).0 (await_view waiting.now).1 channel value
+        (proc_view body.new.value))) }
 {
     if *over {
         *over = false;

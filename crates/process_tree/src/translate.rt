@@ -6,7 +6,7 @@ ghost use Rattle.system.specs.Translation.{expression_of, decision_of};
 ghost use Rattle.process_tree.specs.Code as model;
 ghost use Rattle.process_tree.specs.Translation as translation;
 ghost use Rattle.process_tree.specs.Translation.{row_of, row_with};
-ghost use Rattle.process_tree.specs.walking.Arms.{guarded_of, labelled_of, arm_of};
+ghost use Rattle.process_tree.specs.internal.Arms.{guarded_of, labelled_of, arm_of};
 ghost use Rattle.process_tree.specs.View.{once_view, sender_view, code_view};
 
 use crate::code::{Await, Code, Decide, Once, Repeat, Row, Sender};
@@ -136,7 +136,7 @@ fn with_last(
 }
 
 /// What makes one move.
-#[tactic(auto, using(crate::proofs::Views::code_once))]
+#[tactic(auto, using(crate::proofs::public::Views::code_once))]
 fn once(alloc: Global, once: Once) -> Result<Code, AllocError>
     ensures { IfOk result (λ made. code_view made ≡ model.moves_once (once_view once)) }
 {
@@ -158,7 +158,7 @@ fn assign(
 }
 
 /// What may be held.
-#[tactic(auto, using(crate::proofs::Views::code_sender))]
+#[tactic(auto, using(crate::proofs::public::Views::code_sender))]
 pub(crate) fn sender(alloc: Global, sender: Sender) -> Result<Code, AllocError>
     ensures { IfOk result (λ made. code_view made ≡ model.may_be_held (sender_view sender)) }
 {
@@ -175,7 +175,7 @@ fn send(alloc: Global, channel: u32, width: Width, value: &Expression) -> Result
 }
 
 /// A loop.
-#[tactic(auto, using(crate::proofs::Views::code_repeat))]
+#[tactic(auto, using(crate::proofs::public::Views::code_repeat))]
 fn repeat(alloc: Global, guard: Option<Expression>, body: Code) -> Result<Code, AllocError>
     ensures { IfOk result (λ made. code_view made ≡ model.repeats (option_map expression_of guard) (code_view body)) }
 {
@@ -220,7 +220,7 @@ fn labels_of(alloc: Global, arms: &[Labelled]) -> Result<Items<Items<u64>>, Allo
 }
 
 /// A test with these arms, the else last.
-#[tactic(auto, using(crate::proofs::Views::code_decide))]
+#[tactic(auto, using(crate::proofs::public::Views::code_decide))]
 fn decide(alloc: Global, decision: Decision, arms: Items<Code>) -> Result<Code, AllocError>
     ensures { IfOk result (λ made.
         code_view made ≡ model.decides (decision_of decision) (row_with (map code_view arms) None)) }
@@ -278,7 +278,7 @@ fn by_labels(
 }
 
 /// Arms that wait on these channels.
-#[tactic(auto, using(crate::proofs::Views::code_await))]
+#[tactic(auto, using(crate::proofs::public::Views::code_await))]
 fn wait(alloc: Global, channels: Items<u32>, arms: Items<Code>) -> Result<Code, AllocError>
     ensures { IfOk result (λ made. code_view made ≡ model.awaits channels (row_with (map code_view arms) None)) }
 {
@@ -318,7 +318,7 @@ fn channels_of(alloc: Global, arms: &[Arm]) -> Result<Items<u32>, AllocError>
 }
 
 /// Commands one after another.
-#[tactic(auto, using(crate::proofs::Views::code_in_turn))]
+#[tactic(auto, using(crate::proofs::public::Views::code_in_turn))]
 pub(crate) fn in_turn(alloc: Global, codes: Items<Code>) -> Result<Code, AllocError>
     ensures { IfOk result (λ made. code_view made ≡ model.in_turn (row_of (map code_view codes))) }
 {
@@ -326,7 +326,7 @@ pub(crate) fn in_turn(alloc: Global, codes: Items<Code>) -> Result<Code, AllocEr
 }
 
 /// Commands side by side.
-#[tactic(auto, using(crate::proofs::Views::code_parallel))]
+#[tactic(auto, using(crate::proofs::public::Views::code_parallel))]
 pub(crate) fn side_by_side(alloc: Global, codes: Items<Code>) -> Result<Code, AllocError>
     ensures { IfOk result (λ made. code_view made ≡ model.side_by_side (row_of (map code_view codes))) }
 {

@@ -2,7 +2,7 @@ ghost use Rattle.std.specs.Prelude.{◌≡◌, Some, IsSome, IfOk, OnErr};
 ghost use Rattle.process_tree.specs.Advanced.{advanced};
 ghost use Rattle.process_tree.specs.Proc.{started};
 ghost use Rattle.process_tree.specs.Translation as translation;
-ghost use Rattle.process_tree.specs.walking.Retreated.{retreated};
+ghost use Rattle.process_tree.specs.internal.Retreated.{retreated};
 ghost use Rattle.process_tree.specs.View.{out_view, proc_view, tree_view};
 
 use crate::advance::advance;

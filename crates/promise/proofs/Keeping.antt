@@ -2,15 +2,15 @@
 use Rattle.std.proofs.Common.{◌≡◌, ℕ, List, [], ◌∷◌, ◌++◌, Option, Some, Result, MatchResult, Ok, inl, inr, refl, sym, ap, subst}
 use Rattle.std.proofs.KnownBytes.{Consumes-whole}
 use Rattle.system.specs.declared.system.System.{System}
-use Rattle.runs.proofs.ObjectLaws.{begins-sound, stays-over-lists}
-use Rattle.machine.proofs.HeadlineLaws.{headline}
+use Rattle.runs.proofs.public.ObjectLaws.{begins-sound, stays-over-lists}
+use Rattle.machine.proofs.public.HeadlineLaws.{headline}
 use Rattle.locked_execution.specs.AtDesk.{AtDesk, execution}
 use Rattle.locked_execution.specs.Answered.{Answered}
 use Rattle.locked_execution.specs.Bridge.{commands_of}
 use Rattle.locked_execution.specs.declared.command.Command.{Command}
 use Rattle.locked_execution.specs.declared.command.Reply.{Reply}
-use Rattle.locked_execution.proofs.AskedLists.{answered-joins}
-use Rattle.locked_execution.proofs.BridgeLaws.{are-on-execution}
+use Rattle.locked_execution.proofs.public.AskedLists.{answered-joins}
+use Rattle.locked_execution.proofs.public.BridgeLaws.{are-on-execution}
 use Rattle.debug_session.specs.Accepting.{AcceptedAs}
 use Rattle.debug_session.specs.AtLine.{AtLine, first_line}
 use Rattle.debug_session.specs.Transcript.{Debugged, Completed, SaidAnswered, Transcript}

@@ -30,8 +30,8 @@ pub record Kept (source stimulus script answer : List ℕ) : Type 0 where
   -- the headline holds of what they leave
   pub headline : Headline (execution left.desk)
 
--- this is so whenever `debug` ends well on a reader that had the script and a writer that had nothing yet (what holds of
--- both where source and stimulus are refused does not matter here, and is left out)
+-- this is so whenever `debug` ends well on a reader that had the script and a writer that had nothing yet (what holds
+-- of both where source and stimulus are refused does not matter here, and is left out)
 abbrev pub PromiseIsKept : Type 0
 PromiseIsKept =
     (source stimulus script answer : List ℕ) (rest : Option (List ℕ)) →

@@ -1,2 +1,2 @@
-pub mod Handing
-pub mod WhyLemmas
+pub mod public
+mod WhyLemmas

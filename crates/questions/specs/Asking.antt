@@ -24,8 +24,8 @@ use Rattle.questions.specs.declared.why.Why.{Why}
 abbrev pub variable_of : System → List ℕ → Option ℕ
 variable_of system name = variable_from 0 system.variables name
 
--- a question about this subject is one about the live event of ticket t: the last that wrote the variable of this name, or,
--- where there is no such variable, the one with this ticket
+-- a question about this subject is one about the live event of ticket t: the last that wrote the variable of this name,
+-- or, where there is no such variable, the one with this ticket
 abbrev pub IsAbout : System → Live → List ℕ → ℕ → Type 0
 IsAbout system live subject t =
     ((x : ℕ) × (variable_of system subject ≡ Some x) × LastWriter live x t)

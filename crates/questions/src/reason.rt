@@ -23,8 +23,8 @@ pub enum Reason {
     Unknown,
 }
 
-/// Why the variable of this name has its value on the machine, or why the step of this ticket could be taken: by the steps that
-/// carried a value and the one that is asked for, or by `all`. It is an error if there is no memory.
+/// Why the variable of this name has its value on the machine, or why the step of this ticket could be taken: by the
+/// steps that carried a value and the one that is asked for, or by `all`. It is an error if there is no memory.
 pub fn reason_of(
     alloc: Global,
     machine: &Machine,

@@ -15,7 +15,8 @@ use waiting::who_waits;
 ///
 /// It is an error if the text is no trace of the system, or if there is no memory; the fault says which.
 pub fn waiting_text(alloc: Global, checked: Checked, trace: &[u8]) -> Result<Vec<u8>, Fault>
-    ensures { MatchResult result (λ text. IsWaitingText checked trace.now text.items) (λ fault. IsRefused checked trace.now fault) }
+    ensures { MatchResult result (λ text. IsWaitingText checked trace.now text.items)
+        (λ fault. IsRefused checked trace.now fault) }
 {
     let machine = load_text(alloc, checked, trace)?;
     Ok(waiting_on(alloc, &machine)?)
@@ -23,7 +24,8 @@ pub fn waiting_text(alloc: Global, checked: Checked, trace: &[u8]) -> Result<Vec
 
 /// The text that tells who waits on this machine.
 fn waiting_on(alloc: Global, machine: &Machine) -> Result<Vec<u8>, AllocError>
-    ensures { IfOk result (λ text. (w : told.Waiting) × TellsWaits machine.now w × (text.items ≡ model.waiting_text machine.now w)) }
+    ensures { IfOk result (λ text. (w : told.Waiting) × TellsWaits machine.now w
+        × (text.items ≡ model.waiting_text machine.now w)) }
 {
     let waiting = who_waits(alloc, machine)?;
     let mut text = Vec::new(alloc);

@@ -2,8 +2,8 @@ ghost use Rattle.std.specs.Prelude.{IfOk, MatchResult};
 ghost use Rattle.trace_file.specs.Loading.{IsRefused};
 ghost use Rattle.questions.specs.Asking.{IsAnswered, Tells};
 
-use crate::naming::unknown_text;
 use crate::reason::{Reason, reason_of};
+use crate::unknown_name::unknown_text;
 use machine::Machine;
 use past::{Past, write_past};
 use runs::Refusal;
@@ -21,10 +21,10 @@ pub enum Why {
     Refused(Refusal, Vec<u8>),
 }
 
-/// Why a variable has its value behind the trace, or why a step of the trace could be taken: `subject` is the name of the
-/// variable, or the ticket of the step. The steps that carried a value are told and the one that is asked for, or `all`. It is
-/// refused as `blame` is where no step wrote the variable, or there is no such variable, and as `undo` is where no step has
-/// the ticket.
+/// Why a variable has its value behind the trace, or why a step of the trace could be taken: `subject` is the name of
+/// the variable, or the ticket of the step. The steps that carried a value are told and the one that is asked for, or
+/// `all`. It is refused as `blame` is where no step wrote the variable, or there is no such variable, and as `undo` is
+/// where no step has the ticket.
 ///
 /// It is an error if the text is no trace of the system, or if there is no memory; the fault says which.
 pub fn why_text(
@@ -34,7 +34,8 @@ pub fn why_text(
     subject: &str,
     all: bool,
 ) -> Result<Why, Fault>
-    ensures { MatchResult result (IsAnswered checked trace.now subject.now) (λ fault. IsRefused checked trace.now fault) }
+    ensures { MatchResult result (IsAnswered checked trace.now subject.now) (λ fault.
+        IsRefused checked trace.now fault) }
 {
     let machine = load_text(alloc, checked, trace)?;
     let reason = reason_of(alloc, &machine, subject, all)?;

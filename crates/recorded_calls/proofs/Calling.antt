@@ -11,14 +11,14 @@ use Rattle.recorded_calls.specs.declared.view.Claimed.{Claimed}
 use Rattle.recorded_calls.specs.declared.board.Pass.{Pass}
 use Rattle.recorded_calls.specs.History.{calls_by, IsLegal}
 use Rattle.recorded_calls.specs.Kept.{Kept}
-use Rattle.recorded_calls.specs.Steps.{keeper_at, pass_at, one_more, newcomer_of, reads, hears, Announces, Records, Confirms, Adopts, Looks, Takes}
+use Rattle.recorded_calls.specs.Steps.{keeper_at, pass_at, one_more, new_pass_of, reads, hears, Announces, Records, Confirms, Adopts, Looks, Takes}
 use Rattle.recorded_calls.specs.Seats.{seen_in, own_in, told_in, number_in, IsPassOf}
-use Rattle.recorded_calls.proofs.Beginnings.{prefix_both, calls_prefix, calls_here}
+use Rattle.recorded_calls.proofs.public.Beginnings.{prefix_both, calls_prefix, calls_here}
 use Rattle.recorded_calls.proofs.StepLaws.{saying, hearing, makes, reads_letter, hears_claim, announces, records, confirms, adopts, looks, takes}
 
 module _ {O C R : Type 0} (performs : O → ℕ → C → R → O → Type 0) (opening : O) where
-  pub makes_at : (id : ℕ) (v : View O C R) (o : O) (made : ℕ) (noted : List (Entry C R)) → v ≡ keeper_at o made noted → Splits (Kept performs opening) id v (one_more v) (newcomer_of v)
-  makes_at id v o made noted is = subst (λ (u : View O C R). Splits (Kept performs opening) id u (one_more u) (newcomer_of u)) (sym is) (makes performs opening id (record { opening = o; made = made; noted = noted; claim = record { number = 0; seen = []; own = []; says = [] } }))
+  pub makes_at : (id : ℕ) (v : View O C R) (o : O) (made : ℕ) (noted : List (Entry C R)) → v ≡ keeper_at o made noted → Splits (Kept performs opening) id v (one_more v) (new_pass_of v)
+  makes_at id v o made noted is = subst (λ (u : View O C R). Splits (Kept performs opening) id u (one_more u) (new_pass_of u)) (sym is) (makes performs opening id (record { opening = o; made = made; noted = noted; claim = record { number = 0; seen = []; own = []; says = [] } }))
 
   pub reads_at : (id : ℕ) (v : View O C R) (o : O) (n : ℕ) (seen own said told : List (Entry C R)) (other : ℕ) (u : View O C R) (letter : List (Entry C R)) → v ≡ saying performs opening o n seen own said told → u ≡ Letter letter
       → Joins (Kept performs opening) id v other u (reads v u) Nobody

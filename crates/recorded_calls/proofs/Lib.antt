@@ -1,4 +1,3 @@
-pub mod Beginnings
-pub mod Seating
-pub mod StepLaws
-pub mod Calling
+pub mod public
+mod StepLaws
+mod Calling

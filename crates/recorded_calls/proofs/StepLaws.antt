@@ -16,9 +16,9 @@ use Rattle.recorded_calls.specs.declared.view.Passing.{Passing}
 use Rattle.recorded_calls.specs.declared.view.Claimed.{Claimed}
 use Rattle.recorded_calls.specs.History.{calls_by, IsLegal}
 use Rattle.recorded_calls.specs.Kept.{Account, SpeakerFits, Fits, Kept}
-use Rattle.recorded_calls.specs.Steps.{no_claim, keeper_at, pass_at, one_more, newcomer_of, letter_of, with_letter, claim_of, with_claim, Announces, Records, Confirms, Adopts, Looks, Takes}
-use Rattle.recorded_calls.proofs.Beginnings.{prefix_same, prefix_trans, prefix_more, prefix_length, prefix_both, calls_prefix, calls_here, calls_else, changed, changed_here, changed_else, next_said}
-use Rattle.recorded_calls.proofs.Seating.{at_below, set_length, at_one, all_set, all_more}
+use Rattle.recorded_calls.specs.Steps.{no_claim, keeper_at, pass_at, one_more, new_pass_of, letter_of, with_letter, claim_of, with_claim, Announces, Records, Confirms, Adopts, Looks, Takes}
+use Rattle.recorded_calls.proofs.public.Beginnings.{prefix_same, prefix_trans, prefix_more, prefix_length, prefix_both, calls_prefix, calls_here, calls_else, changed, changed_here, changed_else, next_said}
+use Rattle.recorded_calls.proofs.public.Seating.{at_below, set_length, at_one, all_set, all_more}
 
 module _ {O C R : Type 0} where
   abbrev IsKeeper : View O C R → Type 0
@@ -175,7 +175,7 @@ module _ {O C R : Type 0} (performs : O → ℕ → C → R → O → Type 0) (o
   more_fits a place id j (Letter told) is ne f = f
   more_fits a place id j (Claim c) is ne f = record { seen_before = f.seen_before; said_before = f.said_before }
 
-  pub makes : (id : ℕ) (k : Keeping O C R) → Splits (Kept performs opening) id (Keeper k) (one_more (Keeper k)) (newcomer_of (Keeper k))
+  pub makes : (id : ℕ) (k : Keeping O C R) → Splits (Kept performs opening) id (Keeper k) (one_more (Keeper k)) (new_pass_of (Keeper k))
   unfolding after_set
   makes id k s kept at =
       let a = kept.account in
@@ -189,7 +189,7 @@ module _ {O C R : Type 0} (performs : O → ℕ → C → R → O → Type 0) (o
       (λ n le. kept.no_others n (omega arith))
       (λ j u ne g. more_fits a (length s.views) id j u f.one ne g)
       (record { opened = f.opened; one = f.one; count = ap (λ (n : ℕ). n + 1) f.count; notes = f.notes; claim_holds = record { seen_before = f.claim_holds.seen_before; said_before = f.claim_holds.said_before } }) in
-      after_more middle kept' (newcomer_of (Keeper k))
+      after_more middle kept' (new_pass_of (Keeper k))
       (record {
         opened = f.opened;
         one = set_length s.views id w ∙ sym (changed_here a.seat a.made (length s.views) k.made f.count);

@@ -7,7 +7,7 @@ use Rattle.recorded_calls.specs.declared.entry.Entry.{Entry}
 use Rattle.recorded_calls.specs.declared.view.View.{View}
 use Rattle.recorded_calls.specs.declared.view.View.TheVariants.{Keeper, Speaker}
 use Rattle.recorded_calls.specs.declared.board.Pass.{Pass}
-use Rattle.recorded_calls.specs.declared.board.Scribe.{Scribe}
+use Rattle.recorded_calls.specs.declared.board.Recorder.{Recorder}
 
 module _ {O C R : Type 0} where
   abbrev pub seen_in : View O C R → List (Entry C R)
@@ -35,8 +35,8 @@ module _ {O C R : Type 0} where
   made_in v = 0
 
   -- the history that the pass has seen
-  abbrev pub seen : Pass O C R → List (Entry C R)
-  seen p = seen_in p.seat.me.0
+  abbrev pub seen_history : Pass O C R → List (Entry C R)
+  seen_history p = seen_in p.seat.me.0
 
   -- the calls that the pass has made
   abbrev pub own : Pass O C R → List (Entry C R)
@@ -44,30 +44,30 @@ module _ {O C R : Type 0} where
 
   -- a beginning of the history that it was told of and has not looked at: the whole history, where its last call was
   -- not recorded
-  abbrev pub told : Pass O C R → List (Entry C R)
-  told p = told_in p.seat.me.0
+  abbrev pub told_history : Pass O C R → List (Entry C R)
+  told_history p = told_in p.seat.me.0
 
   abbrev pub number : Pass O C R → ℕ
   number p = number_in p.seat.me.0
 
   -- the history that the keeper's seat notes
-  abbrev pub noted : Scribe O C R → List (Entry C R)
-  noted s = noted_in s.seat.me.0
+  abbrev pub noted_history : Recorder O C R → List (Entry C R)
+  noted_history s = noted_in s.seat.me.0
 
   -- how many passes it has made
-  abbrev pub made : Scribe O C R → ℕ
-  made s = made_in s.seat.me.0
+  abbrev pub pass_count : Recorder O C R → ℕ
+  pass_count s = made_in s.seat.me.0
 
   -- a pass of this table between its calls: it has announced nothing, and what it has seen has of its number just its
   -- own calls
   pub record IsPassOf (table : TableId) (opening : O) (p : Pass O C R) : Type 0 where
     pub of_table : p.seat.table_id ≡ table
-    pub rests : p.seat.me ≡ (pass_at opening (number p) (seen p) (own p) (told p), [])
-    pub own_calls : calls_by (number p) (seen p) ≡ own p
+    pub rests : p.seat.me ≡ (pass_at opening (number p) (seen_history p) (own p) (told_history p), [])
+    pub own_calls : calls_by (number p) (seen_history p) ≡ own p
 
   -- the keeper's seat of this table between calls: it has heard no claim, and what it notes has calls of the passes
   -- alone that it has made
-  pub record IsScribeOf (table : TableId) (opening : O) (s : Scribe O C R) : Type 0 where
+  pub record IsRecorderOf (table : TableId) (opening : O) (s : Recorder O C R) : Type 0 where
     pub of_table : s.seat.table_id ≡ table
-    pub rests : s.seat.me ≡ (keeper_at opening (made s) (noted s), [])
-    pub no_others : NoCallsFrom (made s) (noted s)
+    pub rests : s.seat.me ≡ (keeper_at opening (pass_count s) (noted_history s), [])
+    pub no_others : NoCallsFrom (pass_count s) (noted_history s)

@@ -29,9 +29,9 @@ module _ {O C R : Type 0} where
   one_more (Keeper k) = Keeper (record { opening = k.opening; made = k.made + 1; noted = k.noted; claim = k.claim })
   one_more v = v
 
-  abbrev pub newcomer_of : View O C R → View O C R
-  newcomer_of (Keeper k) = pass_at k.opening k.made [] [] []
-  newcomer_of v = Nobody
+  abbrev pub new_pass_of : View O C R → View O C R
+  new_pass_of (Keeper k) = pass_at k.opening k.made [] [] []
+  new_pass_of v = Nobody
 
   -- a letter with the history that the seat notes or has seen, and a pass that reads it
   abbrev pub letter_of : View O C R → View O C R

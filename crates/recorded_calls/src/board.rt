@@ -16,7 +16,7 @@ pub struct Board<O, C, R, P: Sequential<O, C, R>> {
 
 /// The keeper's seat, which notes the recorded history.
 #[derive(Drop)]
-pub struct Scribe<O, C, R> {
+pub struct Recorder<O, C, R> {
     seat: Seat<u8, View<O, C, R>>,
 }
 
@@ -31,31 +31,33 @@ impl<O, C, R, P: Sequential<O, C, R>> Board<O, C, R, P> {
     ghost use mathlib.Core.List.{IsPrefix};
     ghost use Rattle.recorded_calls.specs.History.{IsLegal, entry_of};
     ghost use Rattle.recorded_calls.specs.declared.entry.Entry.{Entry};
-    ghost use Rattle.recorded_calls.specs.Seats.{IsPassOf, IsScribeOf, seen, own, told, number, noted, made};
+    ghost use Rattle.recorded_calls.specs.Seats.{IsPassOf, IsRecorderOf, seen_history, own, told_history, number, noted_history, pass_count};
 
     /// The word at 0, and the keeper's seat, which notes no call.
     pub fn new(
         alloc: Global,
         opening: &O,
-    ) -> Result<(Board<O, C, R, P>, Scribe<O, C, R>), AllocError>
+    ) -> Result<(Board<O, C, R, P>, Recorder<O, C, R>), AllocError>
         ensures opening { IfOk result (λ b. b.0.table.shared.key ≡ opening.now) }
-        ensures scribe { IfOk result (λ b. IsScribeOf b.0.table.shared.table_id opening.now b.1 × (noted b.1 ≡ [])
-            × (made b.1 ≡ 0)) }
+        ensures recorder { IfOk result (λ b. IsRecorderOf b.0.table.shared.table_id opening.now b.1
+            × (noted_history b.1 ≡ [])
+            × (pass_count b.1 ≡ 0)) }
     {
         let (table, seat) = Table::of_words(alloc, &[0], opening)?;
-        Ok((Board { table }, Scribe { seat }))
+        Ok((Board { table }, Recorder { seat }))
     }
 
     /// A further pass, which has seen nothing. Passes are numbered from 0.
-    pub fn newcomer(&self, scribe: &mut Scribe<O, C, R>) -> Pass<O, C, R>
-        requires { IsScribeOf self.now.table.shared.table_id self.now.table.shared.key scribe.old }
-        ensures scribe { IsScribeOf self.now.table.shared.table_id self.now.table.shared.key scribe.new
-            × (noted scribe.new ≡ noted scribe.old) × (made scribe.new ≡ made scribe.old + 1) }
+    pub fn new_pass(&self, recorder: &mut Recorder<O, C, R>) -> Pass<O, C, R>
+        requires { IsRecorderOf self.now.table.shared.table_id self.now.table.shared.key recorder.old }
+        ensures recorder { IsRecorderOf self.now.table.shared.table_id self.now.table.shared.key recorder.new
+            × (noted_history recorder.new ≡ noted_history recorder.old)
+            × (pass_count recorder.new ≡ pass_count recorder.old + 1) }
         ensures pass { IsPassOf self.now.table.shared.table_id self.now.table.shared.key result
-            × (number result ≡ made scribe.old) × (seen result ≡ []) × (own result ≡ []) }
+            × (number result ≡ pass_count recorder.old) × (seen_history result ≡ []) × (own result ≡ []) }
     {
         Pass {
-            seat: self.table.shared.split_seat::<Makes>(&mut scribe.seat),
+            seat: self.table.shared.split_seat::<Makes>(&mut recorder.seat),
         }
     }
 
@@ -63,100 +65,103 @@ impl<O, C, R, P: Sequential<O, C, R>> Board<O, C, R, P> {
     /// history.
     pub fn record(
         &self,
-        scribe: &mut Scribe<O, C, R>,
+        recorder: &mut Recorder<O, C, R>,
         pass: &mut Pass<O, C, R>,
         command: &C,
         reply: &R,
     )
-        requires scribe { IsScribeOf self.now.table.shared.table_id self.now.table.shared.key scribe.old }
+        requires recorder { IsRecorderOf self.now.table.shared.table_id self.now.table.shared.key recorder.old }
         requires pass { IsPassOf self.now.table.shared.table_id self.now.table.shared.key pass.old }
         requires legal { IsLegal P.performs self.now.table.shared.key
-            (noted scribe.old ++ entry_of (number pass.old) command.now reply.now ∷ []) }
-        requires room { length (noted scribe.old) < 2 ^ 63 }
-        ensures scribe { IsScribeOf self.now.table.shared.table_id self.now.table.shared.key scribe.new
-            × (made scribe.new ≡ made scribe.old) }
-        ensures noted { noted scribe.new ≡ noted scribe.old ++ entry_of (number pass.old) command.now reply.now ∷ [] }
+            (noted_history recorder.old ++ entry_of (number pass.old) command.now reply.now ∷ []) }
+        requires room { length (noted_history recorder.old) < 2 ^ 63 }
+        ensures recorder { IsRecorderOf self.now.table.shared.table_id self.now.table.shared.key recorder.new
+            × (pass_count recorder.new ≡ pass_count recorder.old) }
+        ensures noted { noted_history recorder.new
+            ≡ noted_history recorder.old ++ entry_of (number pass.old) command.now reply.now ∷ [] }
         ensures pass { IsPassOf self.now.table.shared.table_id self.now.table.shared.key pass.new
             × (number pass.new ≡ number pass.old) }
-        ensures seen { seen pass.new ≡ noted scribe.new }
+        ensures seen { seen_history pass.new ≡ noted_history recorder.new }
         ensures own { own pass.new ≡ own pass.old ++ entry_of (number pass.old) command.now reply.now ∷ [] }
-        ensures before { IsPrefix (seen pass.old) (noted scribe.old) }
+        ensures before { IsPrefix (seen_history pass.old) (noted_history recorder.old) }
     {
-        self.record_named::<Brand>(scribe, pass, command, reply);
+        self.record_named::<Brand>(recorder, pass, command, reply);
     }
 
     // The same, with the entry by its name, from which the step that announces takes it.
     fn record_named<J: Naming<C, R>>(
         &self,
-        scribe: &mut Scribe<O, C, R>,
+        recorder: &mut Recorder<O, C, R>,
         pass: &mut Pass<O, C, R>,
         _command: &C,
         _reply: &R,
     )
-        requires scribe { IsScribeOf self.now.table.shared.table_id self.now.table.shared.key scribe.old }
+        requires recorder { IsRecorderOf self.now.table.shared.table_id self.now.table.shared.key recorder.old }
         requires pass { IsPassOf self.now.table.shared.table_id self.now.table.shared.key pass.old }
         requires named { (e : Entry C R) × (J.entries ≡ e ∷ []) × (e.pass ≡ number pass.old) }
-        requires legal { IsLegal P.performs self.now.table.shared.key (noted scribe.old ++ J.entries) }
-        requires room { length (noted scribe.old) < 2 ^ 63 }
-        ensures scribe { IsScribeOf self.now.table.shared.table_id self.now.table.shared.key scribe.new
-            × (made scribe.new ≡ made scribe.old) }
-        ensures noted { noted scribe.new ≡ noted scribe.old ++ J.entries }
+        requires legal { IsLegal P.performs self.now.table.shared.key (noted_history recorder.old ++ J.entries) }
+        requires room { length (noted_history recorder.old) < 2 ^ 63 }
+        ensures recorder { IsRecorderOf self.now.table.shared.table_id self.now.table.shared.key recorder.new
+            × (pass_count recorder.new ≡ pass_count recorder.old) }
+        ensures noted { noted_history recorder.new ≡ noted_history recorder.old ++ J.entries }
         ensures pass { IsPassOf self.now.table.shared.table_id self.now.table.shared.key pass.new
             × (number pass.new ≡ number pass.old) }
-        ensures seen { seen pass.new ≡ noted scribe.old ++ J.entries }
+        ensures seen { seen_history pass.new ≡ noted_history recorder.old ++ J.entries }
         ensures own { own pass.new ≡ own pass.old ++ J.entries }
-        ensures before { IsPrefix (seen pass.old) (noted scribe.old) }
+        ensures before { IsPrefix (seen_history pass.old) (noted_history recorder.old) }
     {
-        let letter = self.table.shared.split_seat::<Tells>(&mut scribe.seat);
+        let letter = self.table.shared.split_seat::<Tells>(&mut recorder.seat);
         self.table.shared.join_seat::<Tells>(&mut pass.seat, letter);
         self.table.shared.load::<Announce<J>>(&mut pass.seat, 0);
         let claim = self.table.shared.split_seat::<Claims>(&mut pass.seat);
         self.table
             .shared
-            .join_seat::<Claims>(&mut scribe.seat, claim);
+            .join_seat::<Claims>(&mut recorder.seat, claim);
         self.table
             .shared
-            .fetch_add::<Record>(&mut scribe.seat, 0, 1);
-        let news = self.table.shared.split_seat::<Tells>(&mut scribe.seat);
+            .fetch_add::<Record>(&mut recorder.seat, 0, 1);
+        let news = self.table.shared.split_seat::<Tells>(&mut recorder.seat);
         self.table.shared.join_seat::<Tells>(&mut pass.seat, news);
         self.table.shared.load::<Adopt>(&mut pass.seat, 0);
     }
 
     /// The pass is told the noted history, where its call is not recorded. It has seen no more than before.
-    pub fn tell(&self, scribe: &mut Scribe<O, C, R>, pass: &mut Pass<O, C, R>)
-        requires scribe { IsScribeOf self.now.table.shared.table_id self.now.table.shared.key scribe.old }
+    pub fn tell(&self, recorder: &mut Recorder<O, C, R>, pass: &mut Pass<O, C, R>)
+        requires recorder { IsRecorderOf self.now.table.shared.table_id self.now.table.shared.key recorder.old }
         requires pass { IsPassOf self.now.table.shared.table_id self.now.table.shared.key pass.old }
-        ensures scribe { IsScribeOf self.now.table.shared.table_id self.now.table.shared.key scribe.new
-            × (noted scribe.new ≡ noted scribe.old) × (made scribe.new ≡ made scribe.old) }
+        ensures recorder { IsRecorderOf self.now.table.shared.table_id self.now.table.shared.key recorder.new
+            × (noted_history recorder.new ≡ noted_history recorder.old)
+            × (pass_count recorder.new ≡ pass_count recorder.old) }
         ensures pass { IsPassOf self.now.table.shared.table_id self.now.table.shared.key pass.new
             × (number pass.new ≡ number pass.old) }
-        ensures same { (seen pass.new ≡ seen pass.old) × (own pass.new ≡ own pass.old) }
-        ensures told { told pass.new ≡ noted scribe.old }
-        ensures before { IsPrefix (seen pass.old) (noted scribe.old) }
+        ensures same { (seen_history pass.new ≡ seen_history pass.old) × (own pass.new ≡ own pass.old) }
+        ensures told { told_history pass.new ≡ noted_history recorder.old }
+        ensures before { IsPrefix (seen_history pass.old) (noted_history recorder.old) }
     {
         let claim = self.table.shared.split_seat::<Claims>(&mut pass.seat);
         self.table
             .shared
-            .join_seat::<Claims>(&mut scribe.seat, claim);
-        self.table.shared.load::<Confirm>(&mut scribe.seat, 0);
-        let history = self.table.shared.split_seat::<Tells>(&mut scribe.seat);
+            .join_seat::<Claims>(&mut recorder.seat, claim);
+        self.table.shared.load::<Confirm>(&mut recorder.seat, 0);
+        let history = self.table.shared.split_seat::<Tells>(&mut recorder.seat);
         self.table
             .shared
             .join_seat::<Tells>(&mut pass.seat, history);
     }
 
     /// The pass has then seen the noted history.
-    pub fn show(&self, scribe: &mut Scribe<O, C, R>, pass: &mut Pass<O, C, R>)
-        requires scribe { IsScribeOf self.now.table.shared.table_id self.now.table.shared.key scribe.old }
+    pub fn show(&self, recorder: &mut Recorder<O, C, R>, pass: &mut Pass<O, C, R>)
+        requires recorder { IsRecorderOf self.now.table.shared.table_id self.now.table.shared.key recorder.old }
         requires pass { IsPassOf self.now.table.shared.table_id self.now.table.shared.key pass.old }
-        ensures scribe { IsScribeOf self.now.table.shared.table_id self.now.table.shared.key scribe.new
-            × (noted scribe.new ≡ noted scribe.old) × (made scribe.new ≡ made scribe.old) }
+        ensures recorder { IsRecorderOf self.now.table.shared.table_id self.now.table.shared.key recorder.new
+            × (noted_history recorder.new ≡ noted_history recorder.old)
+            × (pass_count recorder.new ≡ pass_count recorder.old) }
         ensures pass { IsPassOf self.now.table.shared.table_id self.now.table.shared.key pass.new
             × (number pass.new ≡ number pass.old) × (own pass.new ≡ own pass.old) }
-        ensures seen { seen pass.new ≡ noted scribe.old }
-        ensures before { IsPrefix (seen pass.old) (noted scribe.old) }
+        ensures seen { seen_history pass.new ≡ noted_history recorder.old }
+        ensures before { IsPrefix (seen_history pass.old) (noted_history recorder.old) }
     {
-        self.tell(scribe, pass);
+        self.tell(recorder, pass);
         self.table.shared.load::<Take>(&mut pass.seat, 0);
     }
 
@@ -165,10 +170,10 @@ impl<O, C, R, P: Sequential<O, C, R>> Board<O, C, R, P> {
         requires { IsPassOf self.now.table.shared.table_id self.now.table.shared.key pass.old }
         ensures pass { IsPassOf self.now.table.shared.table_id self.now.table.shared.key pass.new
             × (number pass.new ≡ number pass.old) × (own pass.new ≡ own pass.old) }
-        ensures length { length (seen pass.new) ≡ result }
-        ensures legal { IsLegal P.performs self.now.table.shared.key (seen pass.new) }
-        ensures before { IsPrefix (seen pass.old) (seen pass.new) }
-        ensures told { IsPrefix (told pass.old) (seen pass.new) }
+        ensures length { length (seen_history pass.new) ≡ result }
+        ensures legal { IsLegal P.performs self.now.table.shared.key (seen_history pass.new) }
+        ensures before { IsPrefix (seen_history pass.old) (seen_history pass.new) }
+        ensures told { IsPrefix (told_history pass.old) (seen_history pass.new) }
     {
         self.table.shared.load::<Look<P>>(&mut pass.seat, 0)
     }
@@ -181,11 +186,11 @@ impl<O, C, R, P: Sequential<O, C, R>> Board<O, C, R, P> {
             × (number one.new ≡ number one.old) × (own one.new ≡ own one.old) }
         ensures other { IsPassOf self.now.table.shared.table_id self.now.table.shared.key other.new
             × (number other.new ≡ number other.old) × (own other.new ≡ own other.old) }
-        ensures same { seen one.new ≡ seen other.new }
-        ensures length { length (seen one.new) ≡ result }
-        ensures legal { IsLegal P.performs self.now.table.shared.key (seen one.new) }
-        ensures one_before { IsPrefix (seen one.old) (seen one.new) }
-        ensures other_before { IsPrefix (seen other.old) (seen other.new) }
+        ensures same { seen_history one.new ≡ seen_history other.new }
+        ensures length { length (seen_history one.new) ≡ result }
+        ensures legal { IsLegal P.performs self.now.table.shared.key (seen_history one.new) }
+        ensures one_before { IsPrefix (seen_history one.old) (seen_history one.new) }
+        ensures other_before { IsPrefix (seen_history other.old) (seen_history other.new) }
     {
         let letter = self.table.shared.split_seat::<Tells>(&mut other.seat);
         self.table.shared.join_seat::<Tells>(&mut one.seat, letter);

@@ -8,7 +8,7 @@ mod object;
 mod plays;
 mod view;
 
-pub use board::{Board, Pass, Scribe};
+pub use board::{Board, Pass, Recorder};
 pub use entry::Entry;
 pub use object::Sequential;
 pub use plays::Recording;

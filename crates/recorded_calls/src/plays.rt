@@ -36,11 +36,11 @@ impl<O, C, R, P: Sequential<O, C, R>> TableRule<u8, View<O, C, R>, O> for Record
 pub(crate) struct Makes;
 
 impl<O, C, R> Split<View<O, C, R>> for Makes {
-    ghost use Rattle.recorded_calls.specs.Steps.{one_more, newcomer_of};
+    ghost use Rattle.recorded_calls.specs.Steps.{one_more, new_pass_of};
 
     ghost left = { one_more };
 
-    ghost right = { newcomer_of };
+    ghost right = { new_pass_of };
 }
 
 pub(crate) struct Tells;

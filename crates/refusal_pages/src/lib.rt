@@ -8,9 +8,9 @@ mod editor;
 mod files;
 mod form;
 mod names;
+mod page;
 mod sharing;
 mod table;
-mod writing;
 
+pub use page::{Page, list_text, page_text, summary};
 pub use table::{NUMBERS, page_of};
-pub use writing::{Page, list_text, page_text, summary};

@@ -1,2 +1,2 @@
-pub mod Listed
-pub mod Rows
+mod Listed
+mod Rows

@@ -6,7 +6,7 @@ use Rattle.runs.specs.Ready.{ReadyList}
 use Rattle.runs.specs.Steps.{State, Allowed}
 use Rattle.runs.specs.declared.event.Choice.{Choice}
 use Rattle.runs.specs.declared.event.Event.{Event}
-use Rattle.allowed_events.specs.walking.Acting.{ReadyWith, SortedOf}
+use Rattle.allowed_events.specs.internal.Acting.{ReadyWith, SortedOf}
 
 -- exactly the allowed events of an equal state
 abbrev pub Exactly : State → List Event → Type 0

@@ -4,9 +4,9 @@ use Rattle.value.specs.Word.{Word}
 use Rattle.std.proofs.lemmas.List.{map-append}
 use Rattle.system.specs.Residual.{Residual, within, along, arm, test, choose, put_residual}
 use Rattle.system.specs.Translation.{in_sequence, in_parallel, arms_of, decision_of}
-use Rattle.calculus.specs.Left.{residual_of_left}
-use Rattle.calculus.specs.declared.left.Left.{Left}
-use Rattle.process_tree.specs.Left.{Received, puts, residual, residual_arms, residual_sequence, residual_parallel, left, left_sequence, left_parallel}
+use Rattle.calculus.specs.ResidualTree.{residual_of_tree}
+use Rattle.calculus.specs.declared.residual_tree.ResidualTree.{ResidualTree}
+use Rattle.process_tree.specs.Remaining.{Received, puts, residual, residual_arms, residual_sequence, residual_parallel, remaining, remaining_sequence, remaining_parallel}
 use Rattle.process_tree.specs.Proc.{all_started}
 use Rattle.process_tree.specs.Translation.{row_of}
 use Rattle.process_tree.specs.View.{code_view, proc_view, row_view, decide_view, await_view, procs_of, begun_of}
@@ -16,8 +16,8 @@ use Rattle.process_tree.specs.declared.code.Code.TheFolds.{the_lemmas}
 use Rattle.process_tree.specs.declared.code.Decide.{Decide}
 use Rattle.process_tree.specs.declared.code.Row.{Row}
 use Rattle.process_tree.specs.declared.proc.Proc.{Proc}
-use Rattle.process_tree.proofs.Puts.{left-started}
-use Rattle.process_tree.proofs.Views.{row_codes}
+use Rattle.process_tree.proofs.public.Puts.{left-started}
+use Rattle.process_tree.proofs.public.Views.{row_codes}
 
 next : (n : ℕ) → n + 1 ≡ suc n
 next n = omega arith
@@ -32,7 +32,7 @@ to_do_with env c = puts env (to_do c)
 
 -- what a process in memory still has to do
 abbrev pub still_to_do : Received → Proc → Residual
-still_to_do env p = left env (proc_view p)
+still_to_do env p = remaining env (proc_view p)
 
 -- ---- commands
 arms_listed : (cs : List Code) → residual_arms (row_of (map code_view cs)) ≡ arms_of (map to_do cs) None
@@ -48,14 +48,14 @@ parallel_listed [] n = refl
 parallel_listed (c ∷ cs) n = ap (along n (to_do c)) (parallel_listed cs (n + 1) ∙ ap (λ m. in_parallel m (map to_do cs)) (next n))
 
 -- children one after another
-pub sequence_made : (row : Row) (codes : List Code) (lefts : List Left) (made : Left) → codes ≡ row.codes → map residual_of_left lefts ≡ map to_do codes
-    → residual_of_left made ≡ in_sequence 0 (map residual_of_left lefts) → residual_of_left made ≡ residual_sequence 0 (row_view row)
+pub sequence_made : (row : Row) (codes : List Code) (lefts : List ResidualTree) (made : ResidualTree) → codes ≡ row.codes → map residual_of_tree lefts ≡ map to_do codes
+    → residual_of_tree made ≡ in_sequence 0 (map residual_of_tree lefts) → residual_of_tree made ≡ residual_sequence 0 (row_view row)
 sequence_made row codes lefts made is same h =
     h ∙ ap (in_sequence 0) (same ∙ ap (map to_do) is) ∙ sym (sequence_listed row.codes 0) ∙ ap (residual_sequence 0) (sym (row_codes row))
 
 -- children side by side
-pub parallel_made : (row : Row) (codes : List Code) (lefts : List Left) (made : Left) → codes ≡ row.codes → map residual_of_left lefts ≡ map to_do codes
-    → residual_of_left made ≡ in_parallel 0 (map residual_of_left lefts) → residual_of_left made ≡ residual_parallel 0 (row_view row)
+pub parallel_made : (row : Row) (codes : List Code) (lefts : List ResidualTree) (made : ResidualTree) → codes ≡ row.codes → map residual_of_tree lefts ≡ map to_do codes
+    → residual_of_tree made ≡ in_parallel 0 (map residual_of_tree lefts) → residual_of_tree made ≡ residual_parallel 0 (row_view row)
 parallel_made row codes lefts made is same h =
     h ∙ ap (in_parallel 0) (same ∙ ap (map to_do) is) ∙ sym (parallel_listed row.codes 0) ∙ ap (residual_parallel 0) (sym (row_codes row))
 
@@ -68,25 +68,25 @@ await_parts : (a : Await) → await_view a ≡ (a.channels, row_of (map code_vie
 await_parts a = search (rules, the_lemmas)
 
 -- an `if` or `case`
-pub test_made : (d : Decide) (codes : List Code) (lefts : List Left) (made : Left) → codes ≡ d.arms → map residual_of_left lefts ≡ map to_do codes
-    → residual_of_left made ≡ test (decision_of d.decision) (arms_of (map residual_of_left lefts) None)
-    → residual_of_left made ≡ test (decide_view d).0 (residual_arms (decide_view d).1)
+pub test_made : (d : Decide) (codes : List Code) (lefts : List ResidualTree) (made : ResidualTree) → codes ≡ d.arms → map residual_of_tree lefts ≡ map to_do codes
+    → residual_of_tree made ≡ test (decision_of d.decision) (arms_of (map residual_of_tree lefts) None)
+    → residual_of_tree made ≡ test (decide_view d).0 (residual_arms (decide_view d).1)
 test_made d codes lefts made is same h =
     h ∙ ap (λ rs. test (decision_of d.decision) (arms_of rs None)) (same ∙ ap (map to_do) is)
     ∙ ap (test (decision_of d.decision)) (sym (arms_listed d.arms))
     ∙ ap (λ p. test p.0 (residual_arms p.1)) (sym (test_parts d))
 
 -- arms that wait
-pub await_made : (a : Await) (codes : List Code) (lefts : List Left) (made : Left) → codes ≡ a.arms → map residual_of_left lefts ≡ map to_do codes
-    → residual_of_left made ≡ choose a.channels (arms_of (map residual_of_left lefts) None)
-    → residual_of_left made ≡ choose (await_view a).0 (residual_arms (await_view a).1)
+pub await_made : (a : Await) (codes : List Code) (lefts : List ResidualTree) (made : ResidualTree) → codes ≡ a.arms → map residual_of_tree lefts ≡ map to_do codes
+    → residual_of_tree made ≡ choose a.channels (arms_of (map residual_of_tree lefts) None)
+    → residual_of_tree made ≡ choose (await_view a).0 (residual_arms (await_view a).1)
 await_made a codes lefts made is same h =
     h ∙ ap (λ rs. choose a.channels (arms_of rs None)) (same ∙ ap (map to_do) is)
     ∙ ap (choose a.channels) (sym (arms_listed a.arms))
     ∙ ap (λ p. choose p.0 (residual_arms p.1)) (sym (await_parts a))
 
 -- ---- processes
-procs_listed : (env : Received) (ps : List Proc) (n : ℕ) → left_parallel env n (procs_of (map proc_view ps)) ≡ in_parallel n (map (still_to_do env) ps)
+procs_listed : (env : Received) (ps : List Proc) (n : ℕ) → remaining_parallel env n (procs_of (map proc_view ps)) ≡ in_parallel n (map (still_to_do env) ps)
 procs_listed env [] n = refl
 procs_listed env (p ∷ ps) n =
     ap (along n (still_to_do env p)) (procs_listed env ps (n + 1) ∙ ap (λ m. in_parallel m (map (still_to_do env) ps)) (next n))
@@ -96,20 +96,20 @@ all_taken [] = refl
 all_taken (p ∷ ps) = ap (λ qs. p ∷ qs) (all_taken ps)
 
 -- children side by side
-pub procs_made : (env : Received) (ps : List Proc) (lefts : List Left) (made : Left) → map residual_of_left lefts ≡ map (still_to_do env) (take (length ps) ps)
-    → residual_of_left made ≡ in_parallel 0 (map residual_of_left lefts) → residual_of_left made ≡ left_parallel env 0 (procs_of (map proc_view ps))
+pub procs_made : (env : Received) (ps : List Proc) (lefts : List ResidualTree) (made : ResidualTree) → map residual_of_tree lefts ≡ map (still_to_do env) (take (length ps) ps)
+    → residual_of_tree made ≡ in_parallel 0 (map residual_of_tree lefts) → residual_of_tree made ≡ remaining_parallel env 0 (procs_of (map proc_view ps))
 procs_made env ps lefts made same h =
     h ∙ ap (in_parallel 0) (same ∙ ap (map (still_to_do env)) (all_taken ps)) ∙ sym (procs_listed env ps 0)
 
 -- children one after another of which none has begun
-none_begun : (env : Received) (cs : List Code) (n : ℕ) → left_sequence env n (all_started (row_of (map code_view cs))) ≡ in_sequence n (map (to_do_with env) cs)
+none_begun : (env : Received) (cs : List Code) (n : ℕ) → remaining_sequence env n (all_started (row_of (map code_view cs))) ≡ in_sequence n (map (to_do_with env) cs)
 none_begun env [] n = refl
 none_begun env (c ∷ cs) n =
     ap₂ (within n) (left-started (code_view c) env) (none_begun env cs (n + 1) ∙ ap (λ m. in_sequence m (map (to_do_with env) cs)) (next n))
 
 -- of which so many have
 begun_listed : (env : Received) (ps : List Proc) (cs : List Code) (k n : ℕ) → k ≡ min (length ps) (length cs)
-    → left_sequence env n (begun_of (map proc_view ps) (row_of (map code_view cs))) ≡ in_sequence n (map (still_to_do env) (take k ps) ++ map (to_do_with env) (drop k cs))
+    → remaining_sequence env n (begun_of (map proc_view ps) (row_of (map code_view cs))) ≡ in_sequence n (map (still_to_do env) (take k ps) ++ map (to_do_with env) (drop k cs))
 begun_listed env [] cs zero n e = none_begun env cs n
 begun_listed env [] cs (suc k) n e = absurd (omega (arith, e))
 begun_listed env (p ∷ ps) [] zero n e = refl
@@ -132,13 +132,13 @@ all_dropped (x ∷ xs) zero (suc n) e = ap (λ ys. x ∷ ys) (all_dropped xs zer
 all_dropped (x ∷ xs) (suc k) n e = all_dropped xs k n (let f : n + k ≡ length xs = omega (arith, e) in f)
 
 -- and so they are put together
-pub begun_made : (env : Received) (ps : List Proc) (row : Row) (codes : List Code) (k n : ℕ) (lefts all : List Left) (made : Left) → codes ≡ row.codes → k ≡ min (length ps) (length row.codes)
-    → n + k ≡ length codes → map residual_of_left lefts ≡ map (still_to_do env) (take k ps) → map residual_of_left all ≡ map residual_of_left lefts ++ map (to_do_with env) (take n (drop k codes))
-    → residual_of_left made ≡ in_sequence 0 (map residual_of_left all) → residual_of_left made ≡ left_sequence env 0 (begun_of (map proc_view ps) (row_view row))
+pub begun_made : (env : Received) (ps : List Proc) (row : Row) (codes : List Code) (k n : ℕ) (lefts all : List ResidualTree) (made : ResidualTree) → codes ≡ row.codes → k ≡ min (length ps) (length row.codes)
+    → n + k ≡ length codes → map residual_of_tree lefts ≡ map (still_to_do env) (take k ps) → map residual_of_tree all ≡ map residual_of_tree lefts ++ map (to_do_with env) (take n (drop k codes))
+    → residual_of_tree made ≡ in_sequence 0 (map residual_of_tree all) → residual_of_tree made ≡ remaining_sequence env 0 (begun_of (map proc_view ps) (row_view row))
 begun_made env ps row codes k n lefts all made is e count begun more h =
     h ∙ ap (in_sequence 0) (more ∙ ap₂ (λ xs cs. xs ++ map (to_do_with env) cs) begun (all_dropped codes k n count ∙ ap (drop k) is))
     ∙ sym (begun_listed env ps row.codes k 0 e)
-    ∙ ap (λ cs. left_sequence env 0 (begun_of (map proc_view ps) cs)) (sym (row_codes row))
+    ∙ ap (λ cs. remaining_sequence env 0 (begun_of (map proc_view ps) cs)) (sym (row_codes row))
 
 -- ---- received values
 -- the outermost that is left is put first
@@ -149,10 +149,10 @@ one_put (y ∷ xs) (suc i) c d r l = ap (put_residual y.0 y.1) (one_put xs i c d
 
 -- ---- what a loop has listed
 -- with one more
-pub one_listed : {A : Type 0} (f : A → Residual) (xs : List A) (i : ℕ) (x d : A) (before : List Residual) (old new : List Left) (made : Left) → i < length xs → x ≡ get_or xs i d
-    → new ≡ old ++ made ∷ [] → residual_of_left made ≡ f x → map residual_of_left old ≡ before ++ map f (take i xs) → map residual_of_left new ≡ before ++ map f (take (suc i) xs)
+pub one_listed : {A : Type 0} (f : A → Residual) (xs : List A) (i : ℕ) (x d : A) (before : List Residual) (old new : List ResidualTree) (made : ResidualTree) → i < length xs → x ≡ get_or xs i d
+    → new ≡ old ++ made ∷ [] → residual_of_tree made ≡ f x → map residual_of_tree old ≡ before ++ map f (take i xs) → map residual_of_tree new ≡ before ++ map f (take (suc i) xs)
 one_listed f xs i x d before old new made l is n e h =
-    ap (map residual_of_left) n ∙ map-append residual_of_left old (made ∷ [])
+    ap (map residual_of_tree) n ∙ map-append residual_of_tree old (made ∷ [])
     ∙ ap₂ (λ rs r. rs ++ r ∷ []) h (e ∙ ap f is)
     ∙ append_assoc before (map f (take i xs)) (f (get_or xs i d) ∷ [])
     ∙ ap (λ rs. before ++ rs) (last_mapped f xs i d l)

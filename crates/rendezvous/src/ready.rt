@@ -1,10 +1,10 @@
 // The events that are ready in any tree and store, in order, and the one that a choice means.
 ghost use Rattle.std.specs.Prelude.{◌≡◌, IfOk, MatchOption};
 ghost use Rattle.runs.specs.Ready.{ChoiceAllowed, Chosen, ReadyList};
-ghost use Rattle.calculus.specs.Left as slow;
-ghost use Rattle.offered_sides.specs.View.{state_of};
+ghost use Rattle.calculus.specs.ResidualTree as slow;
+ghost use Rattle.local_actions.specs.View.{state_of};
 
-use crate::process::left_of;
+use crate::process::tree_of;
 use allowed_events::{first_with, in_order};
 use calculus::Plain;
 use process_tree::Tree;
@@ -47,7 +47,7 @@ pub fn event_at(
 fn plain_state(alloc: Global, tree: &Tree, store: &Store) -> Result<Plain, AllocError>
     ensures { IfOk result (λ made. slow.state_of made ≡ state_of tree.now store.now) }
 {
-    let left = left_of(alloc, tree.root(), &[])?;
+    let left = tree_of(alloc, tree.root(), &[])?;
     let values = Vec::from_slice(alloc, store.as_slice())?;
     Ok(Plain::new(left, values))
 }

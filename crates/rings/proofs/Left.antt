@@ -6,13 +6,13 @@ use Rattle.system.specs.Expression.{Expression}
 use Rattle.system.specs.Residual.{Residual, done, halted, inside, beside, assign, send, receive, sync, held, loop, while, test, choose, closing, drain, within, along, Arms, no_arms, arm, put_residual, put_arms}
 use Rattle.runs.specs.Moves.{Place}
 use Rattle.process_tree.specs.Code.{Once, assigning, receiving, Sender, sending, syncing, Code, continues, halts, moves_once, may_be_held, repeats, decides, awaits, in_turn, side_by_side, drains, Codes, no_code, code}
-use Rattle.process_tree.specs.Left.{Received, with_value, puts, residual_once, residual_sender, again, residual, residual_arms, residual_sequence, residual_parallel, left, left_sequence, left_parallel}
+use Rattle.process_tree.specs.Remaining.{Received, with_value, puts, residual_once, residual_sender, again, residual, residual_arms, residual_sequence, residual_parallel, remaining, remaining_sequence, remaining_parallel}
 use Rattle.process_tree.specs.Proc.{waiting, holding, past, Proc, idle, stopped, once, sender, fresh, turn, ended_at_once, ended, untested, skipped, took, unopened, entered, closed, sequence, parallel, drained, Procs, no_procs, proc, started, all_started}
 use Rattle.rings.specs.Partners.{is_close, is_arm, Standing, over, is_found, below, there, ahead, in_turns, at_arms, after, in_branch, together, stands, in_arms, partner_standing, partner_of, partner_in, sought_by}
-use Rattle.offered_sides.specs.declared.side.OfferedSide.{OfferedSide}
+use Rattle.local_actions.specs.declared.action.LocalAction.{LocalAction}
 use Rattle.rings.specs.declared.partner.Partner.{Partner}
 use Rattle.rings.specs.declared.sought.Sought.{Sought}
-use Rattle.rings.specs.walking.Seen.{is_once, is_sender, walk_in_turn, walk_abreast, any_found, code_seen, codes_seen, again_seen, seen, procs_seen}
+use Rattle.rings.specs.internal.Seen.{is_once, is_sender, walk_in_turn, walk_abreast, any_found, code_seen, codes_seen, again_seen, seen, procs_seen}
 
 module _ (s : Sought) where
   mutual
@@ -127,7 +127,7 @@ module _ (s : Sought) where
 
   -- ---- processes
   mutual
-    pub left-seen : (p : Proc) (env : Received) (own : Option Place) → stands s (left env p) own ≡ seen s p own
+    pub left-seen : (p : Proc) (env : Received) (own : Option Place) → stands s (remaining env p) own ≡ seen s p own
     left-seen idle env own = refl
     left-seen stopped env own = refl
     left-seen (once o true) env own = refl
@@ -137,38 +137,38 @@ module _ (s : Sought) where
     left-seen (sender x past) env own = refl
     left-seen (fresh g c) env own = loop-seen env 0 g c own
     left-seen (turn g c n q) env own =
-        within-stands (2 * n + 1) (left env q) (puts env (again (n + 1) g (residual c))) own
+        within-stands (2 * n + 1) (remaining env q) (puts env (again (n + 1) g (residual c))) own
         ∙ ap₂ (λ (x y : Standing). after (Ordered (2 * n + 1)) (below own (Ordered (2 * n + 1))) x y) (left-seen q env (below own (Ordered (2 * n + 1)))) (loop-seen env (n + 1) g c own)
     left-seen (ended_at_once g c) env own = refl
     left-seen (ended g c n q) env own = refl
     left-seen (untested d cs) env own = puts-stands env (test d (residual_arms cs)) own ∙ ap ahead (arms-seen cs)
     left-seen (skipped d cs) env own = refl
     left-seen (took d cs j q) env own =
-        within-stands 1 (left env q) done own ∙ ap (λ (x : Standing). after (Ordered 1) (below own (Ordered 1)) x over) (left-seen q env (below own (Ordered 1)))
+        within-stands 1 (remaining env q) done own ∙ ap (λ (x : Standing). after (Ordered 1) (below own (Ordered 1)) x over) (left-seen q env (below own (Ordered 1)))
     left-seen (unopened ds cs) env own = puts-stands env (choose ds (residual_arms cs)) own ∙ ap (at_arms own (is_arm s ds)) (arms-seen cs)
     left-seen (entered ds cs c v q) env own =
-        within-stands 1 (left (with_value c v env) q) (closing c) own
+        within-stands 1 (remaining (with_value c v env) q) (closing c) own
         ∙ ap (λ (x : Standing). after (Ordered 1) (below own (Ordered 1)) x (there own (is_close s c))) (left-seen q (with_value c v env) (below own (Ordered 1)))
     left-seen (closed ds cs c v q) env own = refl
     left-seen (sequence ps) env own = left-in-turn ps env 0 own
     left-seen (parallel ps) env own = left-abreast ps env 0 own
     left-seen (drained c n) env own = refl
 
-    left-in-turn : (ps : Procs) (env : Received) (n : ℕ) (own : Option Place) → stands s (left_sequence env n ps) own ≡ walk_in_turn n (procs_seen s ps) own
+    left-in-turn : (ps : Procs) (env : Received) (n : ℕ) (own : Option Place) → stands s (remaining_sequence env n ps) own ≡ walk_in_turn n (procs_seen s ps) own
     left-in-turn no_procs env n own = refl
     left-in-turn (proc p ps) env n own =
-        within-stands n (left env p) (left_sequence env (n + 1) ps) own
+        within-stands n (remaining env p) (remaining_sequence env (n + 1) ps) own
         ∙ ap₂ (λ (x y : Standing). after (Ordered n) (below own (Ordered n)) x y) (left-seen p env (below own (Ordered n))) (left-in-turn ps env (n + 1) own)
 
-    left-abreast : (ps : Procs) (env : Received) (n : ℕ) (own : Option Place) → stands s (left_parallel env n ps) own ≡ walk_abreast n (procs_seen s ps) own
+    left-abreast : (ps : Procs) (env : Received) (n : ℕ) (own : Option Place) → stands s (remaining_parallel env n ps) own ≡ walk_abreast n (procs_seen s ps) own
     left-abreast no_procs env n own = refl
     left-abreast (proc p ps) env n own =
-        along-stands n (left env p) (left_parallel env (n + 1) ps) own
+        along-stands n (remaining env p) (remaining_parallel env (n + 1) ps) own
         ∙ ap₂ (λ (x y : Standing). together (in_branch (Branch n) x) y) (left-seen p env (below own (Branch n))) (left-abreast ps env (n + 1) own)
 
--- what is found from the root is the partner of a side
-pub partner-is : (tree q : Proc) (x : OfferedSide) (o : Option Sought) (s : Sought) (own : Place) (y : Standing) (p : Partner) → o ≡ sought_by x.side → o ≡ Some s → q ≡ tree
-    → own ≡ x.place → y ≡ seen s q (Some own) → p ≡ partner_standing y → p ≡ partner_in (left [] tree) x
+-- what is found from the root is the partner of an action
+pub partner-is : (tree q : Proc) (x : LocalAction) (o : Option Sought) (s : Sought) (own : Place) (y : Standing) (p : Partner) → o ≡ sought_by x.action → o ≡ Some s → q ≡ tree
+    → own ≡ x.place → y ≡ seen s q (Some own) → p ≡ partner_standing y → p ≡ partner_in (remaining [] tree) x
 partner-is tree q x o s own y p by named same here found is =
     is ∙ ap partner_standing (found ∙ ap (λ (z : Proc). seen s z (Some own)) same ∙ ap (λ (a : Place). seen s tree (Some a)) here ∙ sym (left-seen s tree [] (Some x.place)))
-    ∙ sym (ap (partner_of (left [] tree) x.place) (sym by ∙ named))
+    ∙ sym (ap (partner_of (remaining [] tree) x.place) (sym by ∙ named))

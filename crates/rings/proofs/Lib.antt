@@ -1,6 +1,6 @@
-pub mod Left
-pub mod Rows
-pub mod Ringed
-pub mod Marked
-pub mod Places
-pub mod Holding
+mod Left
+mod Rows
+mod Ringed
+mod Marked
+mod Places
+mod Holding

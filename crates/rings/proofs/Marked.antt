@@ -1,12 +1,12 @@
 -- What the marks of a search say, as it goes on and back.
 use Rattle.std.proofs.Common.{◌≡◌, ◌⊎◌, inl, inr, ℕ, zero, suc, ◌+◌, ◌<◌, ◌≤◌, ◌==◌, List, [], ◌∷◌, ◌++◌, drop, length, Bool, true, false, Option, Some, None, slice_get, slice_set, refl, sym, ◌∙◌, ap, subst, arith, eqb-true, eq-eqb, true≢false}
 use Rattle.std.proofs.lemmas.List.{length-set}
-use Rattle.runs.proofs.Lists.{in-left, in-right, in-parts}
-use Rattle.runs.proofs.Options.{none-some, some-injective}
+use Rattle.runs.proofs.public.Lists.{in-left, in-right, in-parts}
+use Rattle.runs.proofs.public.Options.{none-some, some-injective}
 use Rattle.syntax.specs.Lists.{In}
 use Rattle.rings.specs.declared.ring.Seen.{Seen}
 use Rattle.rings.specs.declared.ring.Seen.TheVariants.{New, OnWay, Done}
-use Rattle.rings.specs.walking.Search.{Test, Ring, Apart, InNoRing, Names, Path, Searching, Keeps, Searched, is_new, is_open, count_new, NextOpen}
+use Rattle.rings.specs.internal.Search.{Test, Ring, Apart, InNoRing, Names, Path, Searching, Keeps, Searched, is_new, is_open, count_new, NextOpen}
 use Rattle.rings.proofs.Ringed.{none-through, ring-below, path-more, path-less, path-last, ring-from}
 
 -- ---- a mark that is set
@@ -107,7 +107,7 @@ apart-behind u zero xs a = a
 apart-behind u (suc i) [] a = tt
 apart-behind u (suc i) (x ∷ xs) a = apart-behind u i xs a.1
 
--- ---- a search from a side on
+-- ---- a search from an action on
 pub record From (n : ℕ) (w u : Test) (before seen : List Seen) (start : ℕ) (way : List ℕ) : Type 0 where
   pub searching : Searching n w u seen way
   pub keeps : Keeps before seen

@@ -1,21 +1,21 @@
--- Rings of places, and of the indexes of sides that stand there.
+-- Rings of places, and of the indexes of actions that stand there.
 use Rattle.std.proofs.Common.{◌≡◌, inl, inr, ℕ, zero, suc, ◌+◌, ◌<◌, ◌≤◌, List, [], ◌∷◌, map, drop, length, slice_index_or, Bool, true, Option, Some, None, option_map, slice_get, refl, sym, ◌∙◌, ap, ap₂, subst, arith}
 use Rattle.std.proofs.lemmas.Bool.{and_from, and_parts}
 use Rattle.std.proofs.lemmas.List.{drop_all, drop_more}
 use Rattle.std.proofs.lemmas.Option.{slice_get-map}
-use Rattle.runs.proofs.Options.{none-some, some-injective}
+use Rattle.runs.proofs.public.Options.{none-some, some-injective}
 use Rattle.runs.specs.Moves.{Place}
 use Rattle.runs.specs.Tests.{same_place}
 use Rattle.syntax.specs.Lists.{In}
 use Rattle.system.specs.Residual.{Residual}
-use Rattle.offered_sides.proofs.PlacedSides.{place-true, place-itself, under-true, under-told}
-use Rattle.offered_sides.specs.declared.side.OfferedSide.{OfferedSide}
+use Rattle.local_actions.proofs.public.PlacedActions.{place-true, place-itself, under-true, under-told}
+use Rattle.local_actions.specs.declared.action.LocalAction.{LocalAction}
 use Rattle.rings.specs.Partners.{partner_in}
 use Rattle.rings.specs.Rings.{Helped, IsBehind, IsDeadlocked, Waiters, WaitsFor, Linked, IsRing, EachOnce, places_at, TellsDeadlocked, TellsRing}
 use Rattle.rings.specs.declared.partner.Partner.{Partner}
 use Rattle.rings.specs.declared.partner.Partner.TheVariants as partner
-use Rattle.rings.specs.walking.Loosened.{is_marked}
-use Rattle.rings.specs.walking.Search.{is_behind, behind_at, place_at, waits, same_places, same_at, Apart, Chain, Ring, Names}
+use Rattle.rings.specs.internal.Loosened.{is_marked}
+use Rattle.rings.specs.internal.Search.{is_behind, behind_at, place_at, waits, same_places, same_at, Apart, Chain, Ring, Names}
 
 -- ---- behind a place
 pub behind-true : (p : Partner) (a : Place) → is_behind p a ≡ true → IsBehind p a
@@ -28,34 +28,34 @@ behind-is (partner.Behind b) a h = under-told b a h
 behind-is partner.Gone a h = absurd h
 behind-is partner.Open a h = absurd h
 
--- these sides wait
-abbrev pub Among : List OfferedSide → Waiters
+-- these actions wait
+abbrev pub Among : List LocalAction → Waiters
 Among xs = λ x. In x xs
 
--- ---- sides by their indexes
-pub got-in : (xs : List OfferedSide) (i : ℕ) (x : OfferedSide) → slice_get xs i ≡ Some x → In x xs
+-- ---- actions by their indexes
+pub got-in : (xs : List LocalAction) (i : ℕ) (x : LocalAction) → slice_get xs i ≡ Some x → In x xs
 got-in [] i x h = none-some x h
 got-in (y ∷ xs) zero x h = inl (sym (some-injective y x h))
 got-in (y ∷ xs) (suc i) x h = inr (got-in xs i x h)
 
-pub in-got : (xs : List OfferedSide) (x : OfferedSide) → In x xs → (i : ℕ) × (i < length xs) × (slice_get xs i ≡ Some x)
+pub in-got : (xs : List LocalAction) (x : LocalAction) → In x xs → (i : ℕ) × (i < length xs) × (slice_get xs i ≡ Some x)
 in-got [] x h = absurd h
-in-got (y ∷ xs) x (inl is) = (0, omega arith, ap (λ (z : OfferedSide). Some z) (sym is))
+in-got (y ∷ xs) x (inl is) = (0, omega arith, ap (λ (z : LocalAction). Some z) (sym is))
 in-got (y ∷ xs) x (inr h) = let found = in-got xs x h in let less : found.0 < length xs = found.1 in (suc found.0, omega (arith, less), found.2)
 
-pub got-within : (xs : List OfferedSide) (i : ℕ) → i < length xs → (x : OfferedSide) × (slice_get xs i ≡ Some x)
+pub got-within : (xs : List LocalAction) (i : ℕ) → i < length xs → (x : LocalAction) × (slice_get xs i ≡ Some x)
 got-within [] i h = absurd (omega (arith, h))
 got-within (y ∷ xs) zero h = (y, refl)
 got-within (y ∷ xs) (suc i) h = got-within xs i (omega (arith, h))
 
--- ---- indexes of sides at one place
-pub itself : (xs : List OfferedSide) (i : ℕ) → i < length xs → same_at xs i i ≡ true
+-- ---- indexes of actions at one place
+pub itself : (xs : List LocalAction) (i : ℕ) → i < length xs → same_at xs i i ≡ true
 itself [] i h = absurd (omega (arith, h))
 itself (y ∷ xs) zero h = place-itself y.place
 itself (y ∷ xs) (suc i) h = itself xs i (omega (arith, h))
 
 -- to wait for one is to wait for the other
-alike-at : (p : Option Partner) (y z : Option OfferedSide) → same_places y z ≡ true → behind_at p z ≡ true → behind_at p y ≡ true
+alike-at : (p : Option Partner) (y z : Option LocalAction) → same_places y z ≡ true → behind_at p z ≡ true → behind_at p y ≡ true
 alike-at None None z u h = cc
 alike-at None (Some y) None u h = cc
 alike-at None (Some y) (Some z) u h = cc
@@ -63,13 +63,13 @@ alike-at (Some p) None z u h = cc
 alike-at (Some p) (Some y) None u h = cc
 alike-at (Some p) (Some y) (Some z) u h = subst (λ (a : Place). is_behind p a ≡ true) (sym (place-true y.place z.place u)) h
 
-pub alike : (xs : List OfferedSide) (ps : List Partner) (marks : List Bool) (i j k : ℕ) → same_at xs j k ≡ true → waits xs ps marks i k ≡ true → waits xs ps marks i j ≡ true
+pub alike : (xs : List LocalAction) (ps : List Partner) (marks : List Bool) (i j k : ℕ) → same_at xs j k ≡ true → waits xs ps marks i k ≡ true → waits xs ps marks i j ≡ true
 alike xs ps marks i j k u h =
     let parts = and_parts (is_marked (slice_get marks i)) (behind_at (slice_get ps i) (slice_get xs k)) h in
     and_from (is_marked (slice_get marks i)) (behind_at (slice_get ps i) (slice_get xs j)) parts.0
     (alike-at (slice_get ps i) (slice_get xs j) (slice_get xs k) u parts.1)
 
-pub one-place : (a : Place) (x y : Option OfferedSide) → option_map (λ (z : OfferedSide). z.place) x ≡ Some a → option_map (λ (z : OfferedSide). z.place) y ≡ Some a
+pub one-place : (a : Place) (x y : Option LocalAction) → option_map (λ (z : LocalAction). z.place) x ≡ Some a → option_map (λ (z : LocalAction). z.place) y ≡ Some a
     → same_places x y ≡ true
 one-place a None y e f = cc
 one-place a (Some x) None e f = cc
@@ -77,8 +77,8 @@ one-place a (Some x) (Some y) e f =
     let both : x.place ≡ y.place = some-injective x.place a e ∙ sym (some-injective y.place a f) in
     subst (λ (b : Place). same_place x.place b ≡ true) both (place-itself x.place)
 
--- one of the indexes is that of a side at each of their places
-index-of : (xs : List OfferedSide) (is : List ℕ) (ring : List Place) (a : Place) → places_at xs is ≡ map (λ (b : Place). Some b) ring → In a ring
+-- one of the indexes is that of an action at each of their places
+index-of : (xs : List LocalAction) (is : List ℕ) (ring : List Place) (a : Place) → places_at xs is ≡ map (λ (b : Place). Some b) ring → In a ring
     → (j : ℕ) × In j is × (place_at xs j ≡ Some a)
 index-of xs is [] a e i = absurd i
 index-of xs [] (b ∷ ring) a e i = cc
@@ -88,7 +88,7 @@ index-of xs (j ∷ is) (b ∷ ring) a e (inr i) =
     let rest : places_at xs is ≡ map (λ (c : Place). Some c) ring = cc in
     let found = index-of xs is ring a rest i in (found.0, inr found.1, found.2)
 
-places-once : (xs : List OfferedSide) (is : List ℕ) (ring : List Place) → places_at xs is ≡ map (λ (b : Place). Some b) ring → Apart (same_at xs) is → EachOnce ring
+places-once : (xs : List LocalAction) (is : List ℕ) (ring : List Place) → places_at xs is ≡ map (λ (b : Place). Some b) ring → Apart (same_at xs) is → EachOnce ring
 places-once xs is [] e apart = tt
 places-once xs [] (a ∷ ring) e apart = tt-of e
   where
@@ -108,18 +108,18 @@ pub marked-some : (o : Option Bool) → is_marked o ≡ true → o ≡ Some true
 marked-some None h = cc
 marked-some (Some b) h = ap (λ (c : Bool). Some c) h
 
-module _ (r : Residual) (help : Helped) (xs : List OfferedSide) (ps : List Partner) (marks : List Bool) (given : ps ≡ map (partner_in r) xs) (told : TellsDeadlocked help r xs marks) where
-  -- the partner of a side
-  partner-at : (i : ℕ) (x : OfferedSide) → slice_get xs i ≡ Some x → slice_get ps i ≡ Some (partner_in r x)
+module _ (r : Residual) (help : Helped) (xs : List LocalAction) (ps : List Partner) (marks : List Bool) (given : ps ≡ map (partner_in r) xs) (told : TellsDeadlocked help r xs marks) where
+  -- the partner of an action
+  partner-at : (i : ℕ) (x : LocalAction) → slice_get xs i ≡ Some x → slice_get ps i ≡ Some (partner_in r x)
   partner-at i x at =
-      ap (λ (qs : List Partner). slice_get qs i) given ∙ slice_get-map (partner_in r) xs i ∙ ap (λ (o : Option OfferedSide). option_map (partner_in r) o) at
+      ap (λ (qs : List Partner). slice_get qs i) given ∙ slice_get-map (partner_in r) xs i ∙ ap (λ (o : Option LocalAction). option_map (partner_in r) o) at
 
-  wait-true : (i j : ℕ) (x y : OfferedSide) → slice_get xs i ≡ Some x → slice_get xs j ≡ Some y → waits xs ps marks i j ≡ true
+  wait-true : (i j : ℕ) (x y : LocalAction) → slice_get xs i ≡ Some x → slice_get xs j ≡ Some y → waits xs ps marks i j ≡ true
       → IsDeadlocked (Among xs) help r x.place × WaitsFor (Among xs) r x.place y.place
   wait-true i j x y at goes h =
       let parts = and_parts (is_marked (slice_get marks i)) (behind_at (slice_get ps i) (slice_get xs j)) h in
       let behind : is_behind (partner_in r x) y.place ≡ true =
-      sym (ap₂ (λ (p : Option Partner) (o : Option OfferedSide). behind_at p o) (partner-at i x at) goes) ∙ parts.1 in (
+      sym (ap₂ (λ (p : Option Partner) (o : Option LocalAction). behind_at p o) (partner-at i x at) goes) ∙ parts.1 in (
         (told.1 i x at).0 (marked-some (slice_get marks i) parts.0),
         (x, got-in xs i x at, refl, behind-true (partner_in r x) y.place behind),
       )
@@ -129,7 +129,7 @@ module _ (r : Residual) (help : Helped) (xs : List OfferedSide) (ps : List Partn
   chain-head first i [] k = k.0
   chain-head first i (m ∷ rest) k = k.0
 
-  chain-linked : (first i : ℕ) (rest : List ℕ) (f x : OfferedSide) → slice_get xs first ≡ Some f → slice_get xs i ≡ Some x → Chain (length xs) (waits xs ps marks) first i rest
+  chain-linked : (first i : ℕ) (rest : List ℕ) (f x : LocalAction) → slice_get xs first ≡ Some f → slice_get xs i ≡ Some x → Chain (length xs) (waits xs ps marks) first i rest
       → (ring : List Place) × (places_at xs rest ≡ map (λ (a : Place). Some a) ring) × Linked (Among xs) help r f.place x.place ring
   chain-linked first i [] f x start at h =
       let step = wait-true i first x f at start h.1 in ([], refl, (step.0, step.1))
@@ -138,7 +138,7 @@ module _ (r : Residual) (help : Helped) (xs : List OfferedSide) (ps : List Partn
       let on = chain-linked first j rest f next.0 start next.1 h.2 in
       let step = wait-true i j x next.0 at next.1 h.1 in (
         next.0.place ∷ on.0,
-        ap₂ (λ (a : Option Place) (bs : List (Option Place)). a ∷ bs) (ap (option_map (λ (z : OfferedSide). z.place)) next.1) on.1,
+        ap₂ (λ (a : Option Place) (bs : List (Option Place)). a ∷ bs) (ap (option_map (λ (z : LocalAction). z.place)) next.1) on.1,
         (step.0, step.1, on.2),
       )
 
@@ -147,25 +147,25 @@ module _ (r : Residual) (help : Helped) (xs : List OfferedSide) (ps : List Partn
       let first = got-within xs i (chain-head i i rest h) in
       let on = chain-linked i i rest first.0 first.0 first.1 first.1 h in
       let at : places_at xs (i ∷ rest) ≡ map (λ (a : Place). Some a) (first.0.place ∷ on.0) =
-      ap₂ (λ (a : Option Place) (bs : List (Option Place)). a ∷ bs) (ap (option_map (λ (z : OfferedSide). z.place)) first.1) on.1 in
+      ap₂ (λ (a : Option Place) (bs : List (Option Place)). a ∷ bs) (ap (option_map (λ (z : LocalAction). z.place)) first.1) on.1 in
       (first.0.place ∷ on.0, at, on.2, places-once xs (i ∷ rest) (first.0.place ∷ on.0) at apart)
 
   -- ---- from places to indexes
-  -- a side stands at the index, with the place, which is deadlocked
+  -- an action stands at the index, with the place, which is deadlocked
   pub record At (a : Place) : Type 0 where
     pub index : ℕ
-    pub side : OfferedSide
+    pub action : LocalAction
     pub below : index < length xs
-    pub got : slice_get xs index ≡ Some side
-    pub place : side.place ≡ a
+    pub got : slice_get xs index ≡ Some action
+    pub place : action.place ≡ a
     pub marked : is_marked (slice_get marks index) ≡ true
 
-  -- the side by which it waits for the next one
+  -- the action by which it waits for the next one
   at : (a b : Place) → IsDeadlocked (Among xs) help r a → WaitsFor (Among xs) r a b → At a
   at a b dead h =
       let found = in-got xs h.0 h.1 in
       let on : slice_get marks found.0 ≡ Some true = (told.1 found.0 h.0 found.2).1 (subst (λ (c : Place). IsDeadlocked (Among xs) help r c) (sym h.2) dead) in
-      record { index = found.0; side = h.0; below = found.1; got = found.2; place = h.2; marked = ap is_marked on }
+      record { index = found.0; action = h.0; below = found.1; got = found.2; place = h.2; marked = ap is_marked on }
 
   head-at : (f a : Place) (ring : List Place) → Linked (Among xs) help r f a ring → At a
   head-at f a [] h = at a f h.0 h.1
@@ -175,10 +175,10 @@ module _ (r : Residual) (help : Helped) (xs : List OfferedSide) (ps : List Partn
   unfolding at
   waits-at a b dead h y =
       let x = at a b dead h in
-      let behind : is_behind (partner_in r x.side) y.side.place ≡ true =
-      behind-is (partner_in r x.side) y.side.place (subst (λ (c : Place). IsBehind (partner_in r x.side) c) (sym y.place) h.3) in
+      let behind : is_behind (partner_in r x.action) y.action.place ≡ true =
+      behind-is (partner_in r x.action) y.action.place (subst (λ (c : Place). IsBehind (partner_in r x.action) c) (sym y.place) h.3) in
       and_from (is_marked (slice_get marks x.index)) (behind_at (slice_get ps x.index) (slice_get xs y.index)) x.marked
-      (ap₂ (λ (p : Option Partner) (o : Option OfferedSide). behind_at p o) (partner-at x.index x.side x.got) y.got ∙ behind)
+      (ap₂ (λ (p : Option Partner) (o : Option LocalAction). behind_at p o) (partner-at x.index x.action x.got) y.got ∙ behind)
 
   linked-chain : (f a : Place) (ring : List Place) (first : At f) (h : Linked (Among xs) help r f a ring)
       → (rest : List ℕ) × Chain (length xs) (waits xs ps marks) first.index (head-at f a ring h).index rest

@@ -1,8 +1,8 @@
 -- Rings of indexes, and ways that close one.
 use Rattle.std.proofs.Common.{◌≡◌, ◌⊎◌, inl, inr, ℕ, zero, suc, ◌<◌, List, [], ◌∷◌, ◌++◌, drop, true, Some, slice_get, refl, sym, subst}
-use Rattle.runs.proofs.Options.{none-some, some-injective}
+use Rattle.runs.proofs.public.Options.{none-some, some-injective}
 use Rattle.syntax.specs.Lists.{In}
-use Rattle.rings.specs.walking.Search.{Test, Chain, Ring, InNoRing, Path}
+use Rattle.rings.specs.internal.Search.{Test, Chain, Ring, InNoRing, Path}
 
 module _ (n : ℕ) (w : Test) where
   -- each of a chain is below the number, and waits for one of it or for the first

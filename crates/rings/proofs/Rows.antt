@@ -4,14 +4,14 @@ use Rattle.std.proofs.lemmas.List.{drop_more, drop_all}
 use Rattle.std.specs.Global.{Box}
 use Rattle.address.specs.declared.Entry.{Entry}
 use Rattle.address.specs.declared.Entry.TheVariants.{Ordered, Branch}
-use Rattle.runs.proofs.Options.{none-some, some-injective}
+use Rattle.runs.proofs.public.Options.{none-some, some-injective}
 use Rattle.runs.specs.Moves.{Place}
 use Rattle.process_tree.specs.Children.{proc_at}
 use Rattle.process_tree.specs.Proc.{Proc, Procs, no_procs, proc, started, all_started}
 use Rattle.process_tree.specs.Translation.{row_of}
 use Rattle.process_tree.specs.Code.{Codes}
 use Rattle.process_tree.specs.View.{code_view, opened_of, proc_view, procs_of}
-use Rattle.process_tree.specs.walking.Parts.{gate_view}
+use Rattle.process_tree.specs.internal.Parts.{gate_view}
 use Rattle.process_tree.specs.declared.proc.Gate as made_gate
 use Rattle.process_tree.specs.declared.proc.Gate.{Gate}
 use Rattle.process_tree.specs.declared.proc.Gate.TheFolds.{the_lemmas}
@@ -19,12 +19,12 @@ use Rattle.value.specs.Word.{Word}
 use Rattle.process_tree.specs.declared.code.Code.{Code}
 use Rattle.process_tree.specs.declared.code.Row.{Row}
 use Rattle.process_tree.specs.declared.proc.Proc as made
-use Rattle.offered_sides.proofs.Begun.{begun-row, row-at}
-use Rattle.offered_sides.proofs.Endings.{row-past-at}
-use Rattle.offered_sides.proofs.OneByOne.{fresh-at}
+use Rattle.local_actions.proofs.public.Begun.{begun-row, row-at}
+use Rattle.local_actions.proofs.public.Endings.{row-past-at}
+use Rattle.local_actions.proofs.public.OneByOne.{fresh-at}
 use Rattle.rings.specs.Partners.{Standing, over, below, after, in_branch, together}
 use Rattle.rings.specs.declared.sought.Sought.{Sought}
-use Rattle.rings.specs.walking.Seen.{Walk, walk_in_turn, walk_abreast, any_found, code_seen, codes_seen, seen, procs_seen, SeenAt}
+use Rattle.rings.specs.internal.Seen.{Walk, walk_in_turn, walk_abreast, any_found, code_seen, codes_seen, seen, procs_seen, SeenAt}
 use Rattle.rings.proofs.Left.{started-seen}
 
 -- ---- one child, as the code looks at it

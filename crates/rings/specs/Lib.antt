@@ -1,3 +1,3 @@
 pub mod Partners
 pub mod Rings
-pub mod walking
+pub mod internal

@@ -1,24 +1,24 @@
--- Where the only other end of a channel stands, for a side that waits: it may be there already, it may come once all that stands
--- at a place has gone on, or it cannot come any more. (Own.)
+-- Where the only other end of a channel stands, for an action that waits: it may be there already, it may come once all
+-- that stands at a place has gone on, or it cannot come any more. (Own.)
 use Rattle.std.specs.Prelude.{ℕ, ◌==◌, List, [], ◌∷◌, Bool, true, false, ◌||◌, cond, Option, Some, None}
 use Rattle.address.specs.declared.Entry.{Entry}
 use Rattle.address.specs.declared.Entry.TheVariants.{Ordered, Branch}
 use Rattle.system.specs.Residual.{Residual, done, halted, inside, beside, assign, send, receive, sync, held, loop, while, test, choose, closing, drain, Arms, no_arms, arm}
 use Rattle.runs.specs.Moves.{Place}
 use Rattle.runs.specs.Tests.{same_entry}
-use Rattle.offered_sides.specs.declared.side.OfferedSide.{OfferedSide}
-use Rattle.offered_sides.specs.declared.side.Side.{Side}
-use Rattle.offered_sides.specs.declared.side.Side.TheVariants.{Assigns, Tests, Turns, Sends, Receives, Syncs, Opens, Releases, Closes}
+use Rattle.local_actions.specs.declared.action.LocalAction.{LocalAction}
+use Rattle.local_actions.specs.declared.action.ActionKind.{ActionKind}
+use Rattle.local_actions.specs.declared.action.ActionKind.TheVariants.{Assigns, Tests, Turns, Sends, Receives, Syncs, Opens, Releases, Closes}
 use Rattle.rings.specs.declared.partner.Partner.{Partner}
 use Rattle.rings.specs.declared.partner.Partner.TheVariants as partner
 use Rattle.rings.specs.declared.sought.Sought.{Sought}
 use Rattle.rings.specs.declared.sought.Sought.TheVariants as sought
 
--- ---- the end that a side waits for
+-- ---- the end that an action waits for
 
--- for a send a receive or an arm, for a receive or an arm a send or sync, for a sync a sync or an arm, for what is held the close;
--- what acts alone waits for none
-abbrev pub sought_by : Side → Option Sought
+-- for a send a receive or an arm, for a receive or an arm a send or sync, for a sync a sync or an arm, for what is held
+-- the close; what acts alone waits for none
+abbrev pub sought_by : ActionKind → Option Sought
 sought_by (Assigns x v xs) = None
 sought_by (Tests k xs) = None
 sought_by Turns = None
@@ -83,13 +83,14 @@ is_found never = false
 is_found (behind a) = true
 is_found at_hand = true
 
--- The way to the side that waits, from a place at which it stands or below: none elsewhere. Here the way from the entry on.
+-- The way to the action that waits, from a place at which it stands or below: none elsewhere. Here the way from the
+-- entry on.
 abbrev pub below : Option Place → Entry → Option Place
 below None x = None
 below (Some []) x = None
 below (Some (y ∷ a)) x = cond (same_entry y x) (Some a) None
 
--- it stands here, if it is one and not the side that waits
+-- it stands here, if it is one and not the action that waits
 abbrev pub there : Option Place → Bool → Standing
 there None true = at_hand
 there None false = nowhere
@@ -112,7 +113,8 @@ at_arms None true later = at_hand
 at_arms None false later = ahead later
 at_arms (Some a) one later = nowhere
 
--- it comes behind the child at this entry, if it comes in the rest; what stands behind the side that waits is no partner of it
+-- it comes behind the child at this entry, if it comes in the rest; what stands behind the action that waits is no
+-- partner of it
 abbrev pub later : Entry → Option Place → Standing → Standing
 later x None over = nowhere
 later x None nowhere = nowhere
@@ -157,8 +159,10 @@ abbrev mutual
   pub stands : Sought → Residual → Option Place → Standing
   stands s done own = over
   stands s halted own = never
-  stands s (inside i child next) own = after (Ordered i) (below own (Ordered i)) (stands s child (below own (Ordered i))) (stands s next own)
-  stands s (beside k child rest) own = together (in_branch (Branch k) (stands s child (below own (Branch k)))) (stands s rest own)
+  stands s (inside i child next) own =
+      after (Ordered i) (below own (Ordered i)) (stands s child (below own (Ordered i))) (stands s next own)
+  stands s (beside k child rest) own =
+      together (in_branch (Branch k) (stands s child (below own (Branch k)))) (stands s rest own)
   stands s (assign x w e) own = nowhere
   stands s (send c w e) own = there own (is_send s c)
   stands s (receive c x) own = there own (is_receive s c)
@@ -176,7 +180,7 @@ abbrev mutual
   in_arms s no_arms = false
   in_arms s (arm r rest) = is_found (stands s r None) || in_arms s rest
 
--- ---- the partner of a side
+-- ---- the partner of an action
 
 abbrev pub partner_standing : Standing → Partner
 partner_standing over = partner.Gone
@@ -189,6 +193,6 @@ abbrev pub partner_of : Residual → Place → Option Sought → Partner
 partner_of r a None = partner.Open
 partner_of r a (Some s) = partner_standing (stands s r (Some a))
 
--- what has to go on before the partner of the side can come, where r is still to do
-abbrev pub partner_in : Residual → OfferedSide → Partner
-partner_in r x = partner_of r x.place (sought_by x.side)
+-- what has to go on before the partner of the action can come, where r is still to do
+abbrev pub partner_in : Residual → LocalAction → Partner
+partner_in r x = partner_of r x.place (sought_by x.action)

@@ -5,23 +5,23 @@ use Rattle.std.specs.Prelude.{◌≡◌, ◌↔◌, ℕ, List, [], ◌∷◌, le
 use Rattle.syntax.specs.Lists.{In}
 use Rattle.system.specs.Residual.{Residual}
 use Rattle.runs.specs.Moves.{Place}
-use Rattle.offered_sides.specs.Sides.{Under}
-use Rattle.offered_sides.specs.declared.side.OfferedSide.{OfferedSide}
+use Rattle.local_actions.specs.Actions.{Under}
+use Rattle.local_actions.specs.declared.action.LocalAction.{LocalAction}
 use Rattle.rings.specs.Partners.{partner_in}
 use Rattle.rings.specs.declared.partner.Partner.{Partner}
 use Rattle.rings.specs.declared.partner.Partner.TheVariants as partner
 
--- which sides wait
+-- which actions wait
 abbrev pub Waiters : Type 1
-Waiters = OfferedSide → Type 0
+Waiters = LocalAction → Type 0
 
 -- which of them are helped from elsewhere, so that none of the others has to go on for them
 abbrev pub Helped : Type 0
-Helped = OfferedSide → Bool
+Helped = LocalAction → Bool
 
--- a side waits at the place
+-- an action waits at the place
 abbrev pub WaitsAt : Waiters → Place → Type 0
-WaitsAt W a = (x : OfferedSide) × W x × (x.place ≡ a)
+WaitsAt W a = (x : LocalAction) × W x × (x.place ≡ a)
 
 -- ---- deadlock
 
@@ -36,18 +36,18 @@ HeldBack places partner.Open = ⊥
 abbrev pub HoldEachOther : Waiters → Helped → Residual → List Place → Type 0
 HoldEachOther W helped r places =
     (a : Place) → In a places
-    → WaitsAt W a × ((x : OfferedSide) → W x → x.place ≡ a → (helped x ≡ false) × HeldBack places (partner_in r x))
+    → WaitsAt W a × ((x : LocalAction) → W x → x.place ≡ a → (helped x ≡ false) × HeldBack places (partner_in r x))
 
 -- the place is one of such places
 abbrev pub IsDeadlocked : Waiters → Helped → Residual → Place → Type 0
 IsDeadlocked W helped r a = (places : List Place) × In a places × HoldEachOther W helped r places
 
--- where exactly these sides wait: for each of them whether its place is deadlocked
-abbrev pub TellsDeadlocked : Helped → Residual → List OfferedSide → List Bool → Type 0
-TellsDeadlocked helped r sides marks =
-    (length marks ≡ length sides)
-    × ((i : ℕ) (x : OfferedSide) → slice_get sides i ≡ Some x
-    → (slice_get marks i ≡ Some true) ↔ IsDeadlocked (λ y. In y sides) helped r x.place)
+-- where exactly these actions wait: for each of them whether its place is deadlocked
+abbrev pub TellsDeadlocked : Helped → Residual → List LocalAction → List Bool → Type 0
+TellsDeadlocked helped r actions marks =
+    (length marks ≡ length actions)
+    × ((i : ℕ) (x : LocalAction) → slice_get actions i ≡ Some x
+    → (slice_get marks i ≡ Some true) ↔ IsDeadlocked (λ y. In y actions) helped r x.place)
 
 -- ---- rings
 
@@ -59,7 +59,7 @@ IsBehind partner.Open a = ⊥
 
 -- where r is still to do, place a waits for place b: something waits at a whose only other end stands behind b
 abbrev pub WaitsFor : Waiters → Residual → Place → Place → Type 0
-WaitsFor W r a b = (x : OfferedSide) × W x × (x.place ≡ a) × IsBehind (partner_in r x) b
+WaitsFor W r a b = (x : LocalAction) × W x × (x.place ≡ a) × IsBehind (partner_in r x) b
 
 -- a and each of the others are deadlocked; from a on each waits for the next one, and the last for the first
 abbrev pub Linked : Waiters → Helped → Residual → Place → Place → List Place → Type 0
@@ -76,14 +76,14 @@ abbrev pub EachOnce : List Place → Type 0
 EachOnce [] = Unit {0}
 EachOnce (a ∷ rest) = (In a rest → ⊥) × EachOnce rest
 
--- the place of the side at each of these indexes
-abbrev pub places_at : List OfferedSide → List ℕ → List (Option Place)
-places_at sides indexes = map (λ (i : ℕ). option_map (λ (x : OfferedSide). x.place) (slice_get sides i)) indexes
+-- the place of the action at each of these indexes
+abbrev pub places_at : List LocalAction → List ℕ → List (Option Place)
+places_at actions indexes = map (λ (i : ℕ). option_map (λ (x : LocalAction). x.place) (slice_get actions i)) indexes
 
--- where exactly these sides wait: the indexes are those of sides whose places are a ring, each once; or there is no
+-- where exactly these actions wait: the indexes are those of actions whose places are a ring, each once; or there is no
 -- ring, and none is told
-abbrev pub TellsRing : Helped → Residual → List OfferedSide → List ℕ → Type 0
-TellsRing helped r sides [] = (ring : List Place) → IsRing (λ x. In x sides) helped r ring → ⊥
-TellsRing helped r sides (i ∷ rest) =
-    (ring : List Place) × (places_at sides (i ∷ rest) ≡ map (λ (a : Place). Some a) ring)
-    × IsRing (λ x. In x sides) helped r ring × EachOnce ring
+abbrev pub TellsRing : Helped → Residual → List LocalAction → List ℕ → Type 0
+TellsRing helped r actions [] = (ring : List Place) → IsRing (λ x. In x actions) helped r ring → ⊥
+TellsRing helped r actions (i ∷ rest) =
+    (ring : List Place) × (places_at actions (i ∷ rest) ≡ map (λ (a : Place). Some a) ring)
+    × IsRing (λ x. In x actions) helped r ring × EachOnce ring

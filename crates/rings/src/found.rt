@@ -2,7 +2,7 @@
 ghost use Rattle.std.specs.Prelude.{◌≡◌, IfOk};
 ghost use Rattle.std.specs.Option.{option_copied, is_some};
 ghost use Rattle.rings.specs.Partners as model;
-ghost use Rattle.rings.specs.walking.Seen.{standing};
+ghost use Rattle.rings.specs.internal.Seen.{standing};
 
 use address::Entry;
 use std::alloc::{AllocError, Global};
@@ -34,7 +34,7 @@ impl Found {
     }
 }
 
-/// At work here, if it is one and not the side that waits.
+/// At work here, if it is one and not the action that waits.
 pub(crate) fn there(own: Option<&[Entry]>, is: bool) -> Found
     ensures { standing result ≡ model.there (option_copied own.entry) is }
 {
@@ -82,7 +82,7 @@ pub(crate) fn at_arms(alloc: Global, own: Option<&[Entry]>, one: bool, later: bo
     }
 }
 
-/// In the child at this entry, or in what comes behind it. The way goes from the child to the side that waits.
+/// In the child at this entry, or in what comes behind it. The way goes from the child to the action that waits.
 pub(crate) fn after(
     alloc: Global,
     entry: Entry,
@@ -90,7 +90,8 @@ pub(crate) fn after(
     found: Found,
     rest: Found,
 ) -> Result<Found, AllocError>
-    ensures { IfOk result (λ made. standing made ≡ model.after entry (option_copied inside.entry) (standing found) (standing rest)) }
+    ensures { IfOk result (λ made.
+        standing made ≡ model.after entry (option_copied inside.entry) (standing found) (standing rest)) }
 {
     match found {
         Found::Over => Ok(rest),
@@ -116,7 +117,7 @@ fn later(
     }
 }
 
-/// The same where the side that waits does not stand in the child.
+/// The same where the action that waits does not stand in the child.
 fn in_rest(alloc: Global, entry: Entry, rest: Found) -> Result<Found, AllocError>
     ensures { IfOk result (λ made. standing made ≡ model.later entry None (standing rest)) }
 {

@@ -4,8 +4,8 @@ ghost use Rattle.std.specs.Option.{option_copied};
 ghost use Rattle.process_tree.specs.Translation.{row_of};
 ghost use Rattle.process_tree.specs.View.{await_view, code_view, repeat_view};
 ghost use Rattle.rings.specs.Partners as model;
-ghost use Rattle.rings.specs.walking.Seen as walked;
-ghost use Rattle.rings.specs.walking.Seen.{standing};
+ghost use Rattle.rings.specs.internal.Seen as walked;
+ghost use Rattle.rings.specs.internal.Seen.{standing};
 
 use crate::found::{Found, after, ahead, at_arms, in_branch, in_turns, there, together};
 use crate::sought::Sought;
@@ -14,7 +14,7 @@ use address::Entry;
 use process_tree::{Await, Code, Repeat};
 use std::alloc::{AllocError, Global};
 
-/// Where it stands in the command; `own` is the way from there to the side that waits, if that stands within.
+/// Where it stands in the command; `own` is the way from there to the action that waits, if that stands within.
 #[cycle(look_fresh)]
 pub(crate) fn look_fresh(
     alloc: Global,
@@ -22,7 +22,8 @@ pub(crate) fn look_fresh(
     sought: Sought,
     own: Option<&[Entry]>,
 ) -> Result<Found, AllocError>
-    ensures { IfOk result (λ found. standing found ≡ walked.code_seen sought (code_view code.now) (option_copied own.entry)) }
+    ensures { IfOk result (λ found.
+        standing found ≡ walked.code_seen sought (code_view code.now) (option_copied own.entry)) }
 {
     match code {
         Code::Continue => Ok(Found::Over),
@@ -48,7 +49,8 @@ pub(crate) fn look_again(
     repeat: &Repeat,
     sought: Sought,
 ) -> Result<Found, AllocError>
-    ensures { IfOk result (λ found. standing found ≡ walked.again_seen sought (repeat_view repeat.now).0 (repeat_view repeat.now).1) }
+    ensures { IfOk result (λ found.
+        standing found ≡ walked.again_seen sought (repeat_view repeat.now).0 (repeat_view repeat.now).1) }
 {
     let found = look_fresh(alloc, &repeat.body, sought, None)?;
     Ok(in_turns(alloc, repeat.guard.is_none(), found.is_found()))
@@ -62,7 +64,10 @@ pub(crate) fn look_arms(
     sought: Sought,
     own: Option<&[Entry]>,
 ) -> Result<Found, AllocError>
-    ensures { IfOk result (λ found. standing found ≡ model.at_arms (option_copied own.entry) (model.is_arm sought (await_view waiting.now).0) (walked.any_found (walked.codes_seen sought (await_view waiting.now).1))) }
+    ensures { IfOk result (λ found.
+        standing found
+        ≡ model.at_arms (option_copied own.entry) (model.is_arm sought (await_view waiting.now).0)
+        (walked.any_found (walked.codes_seen sought (await_view waiting.now).1))) }
 {
     let later = comes_in(alloc, waiting.arms.as_slice(), sought)?;
     let one = sought.is_arm(waiting.channels.as_slice());
@@ -72,7 +77,8 @@ pub(crate) fn look_arms(
 /// Whether it comes in one of the commands.
 #[cycle(look_fresh)]
 pub(crate) fn comes_in(alloc: Global, codes: &[Code], sought: Sought) -> Result<bool, AllocError>
-    ensures { IfOk result (λ comes. comes ≡ walked.any_found (walked.codes_seen sought (row_of (map code_view codes.now)))) }
+    ensures { IfOk result (λ comes.
+        comes ≡ walked.any_found (walked.codes_seen sought (row_of (map code_view codes.now)))) }
 {
     for code in codes {
         if look_fresh(alloc, code, sought, None)?.is_found() {
@@ -90,7 +96,10 @@ fn look_in_turn(
     sought: Sought,
     own: Option<&[Entry]>,
 ) -> Result<Found, AllocError>
-    ensures { IfOk result (λ found. standing found ≡ walked.walk_in_turn 0 (walked.codes_seen sought (row_of (map code_view codes.now))) (option_copied own.entry)) }
+    ensures { IfOk result (λ found.
+        standing found
+        ≡ walked.walk_in_turn 0 (walked.codes_seen sought (row_of (map code_view codes.now)))
+        (option_copied own.entry)) }
 {
     let mut found = Found::Over;
     let mut number = codes.len();
@@ -112,7 +121,10 @@ fn look_abreast(
     sought: Sought,
     own: Option<&[Entry]>,
 ) -> Result<Found, AllocError>
-    ensures { IfOk result (λ found. standing found ≡ walked.walk_abreast 0 (walked.codes_seen sought (row_of (map code_view codes.now))) (option_copied own.entry)) }
+    ensures { IfOk result (λ found.
+        standing found
+        ≡ walked.walk_abreast 0 (walked.codes_seen sought (row_of (map code_view codes.now)))
+        (option_copied own.entry)) }
 {
     let mut found = Found::Over;
     let mut number = codes.len();

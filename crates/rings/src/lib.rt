@@ -1,5 +1,5 @@
-//! Sides that wait: behind which place the only other end of a channel stands, which places are deadlocked, and rings
-//! of sides of which each waits for the next one.
+//! Actions that wait: behind which place the only other end of a channel stands, which places are deadlocked, and rings
+//! of actions of which each waits for the next one.
 #![tactic(auto)]
 
 mod deadlock;

@@ -6,21 +6,22 @@ ghost use Rattle.value.specs.Word.{Word};
 ghost use Rattle.process_tree.specs.Code as model_code;
 ghost use Rattle.process_tree.specs.Proc as model;
 ghost use Rattle.process_tree.specs.View.{await_view, begun_of, decide_view, once_view, opened_of, phase_view, proc_view, procs_of, repeat_view, row_view, sender_view, turn_of};
-ghost use Rattle.process_tree.specs.walking.Parts.{gate_view, tested_view, turns_view};
+ghost use Rattle.process_tree.specs.internal.Parts.{gate_view, tested_view, turns_view};
 ghost use Rattle.rings.specs.Partners as partners;
-ghost use Rattle.rings.specs.walking.Seen as walked;
-ghost use Rattle.rings.specs.walking.Seen.{SeenAt, standing};
+ghost use Rattle.rings.specs.internal.Seen as walked;
+ghost use Rattle.rings.specs.internal.Seen.{SeenAt, standing};
 
 use crate::found::{Found, after, ahead, in_branch, there, together};
 use crate::fresh::{comes_in, look_again, look_arms, look_fresh};
 use crate::sought::Sought;
 use crate::way::{below, branch, ordered};
 use address::Entry;
-use offered_sides::body_of_turn;
+use local_actions::body_of_turn;
 use process_tree::{Await, Decide, Gate, Once, Phase, Proc, Repeat, Row, Sender, Tested, Turns};
 use std::alloc::{AllocError, Global};
 
-/// Where what is sought stands in the process; `own` is the way from there to the side that waits, if that stands within.
+/// Where what is sought stands in the process; `own` is the way from there to the action that waits, if that stands
+/// within.
 #[cycle(look)]
 pub(crate) fn look(
     alloc: Global,
@@ -28,7 +29,8 @@ pub(crate) fn look(
     sought: Sought,
     own: Option<&[Entry]>,
 ) -> Result<Found, AllocError>
-    ensures { IfOk result (λ found. standing found ≡ walked.seen sought (proc_view proc.now) (option_copied own.entry)) }
+    ensures { IfOk result (λ found.
+        standing found ≡ walked.seen sought (proc_view proc.now) (option_copied own.entry)) }
 {
     match proc {
         Proc::Idle => Ok(Found::Over),
@@ -59,7 +61,8 @@ fn look_once(once: &Once, made: bool, sought: Sought, own: Option<&[Entry]>) -> 
 
 /// Where it stands in a send or sync that is so far.
 fn look_sender(sender: &Sender, phase: Phase, sought: Sought, own: Option<&[Entry]>) -> Found
-    ensures { standing result ≡ walked.seen sought (model.sender (sender_view sender.now) (phase_view phase)) (option_copied own.entry) }
+    ensures { standing result
+        ≡ walked.seen sought (model.sender (sender_view sender.now) (phase_view phase)) (option_copied own.entry) }
 {
     match phase {
         Phase::Waiting => there(own, sought.is_sender(sender)),
@@ -77,7 +80,10 @@ fn look_loop(
     sought: Sought,
     own: Option<&[Entry]>,
 ) -> Result<Found, AllocError>
-    ensures { IfOk result (λ found. standing found ≡ walked.seen sought (turns_view turns.now (repeat_view repeat.now).0 (repeat_view repeat.now).1) (option_copied own.entry)) }
+    ensures { IfOk result (λ found.
+        standing found
+        ≡ walked.seen sought (turns_view turns.now (repeat_view repeat.now).0 (repeat_view repeat.now).1)
+        (option_copied own.entry)) }
 {
     match turns {
         Turns::Fresh => look_again(alloc, repeat, sought),
@@ -97,7 +103,11 @@ fn look_turn(
     sought: Sought,
     own: Option<&[Entry]>,
 ) -> Result<Found, AllocError>
-    ensures { IfOk result (λ found. standing found ≡ walked.seen sought (turn_of over (repeat_view repeat.now).0 (repeat_view repeat.now).1 turn (proc_view body.now)) (option_copied own.entry)) }
+    ensures { IfOk result (λ found.
+        standing found
+        ≡ walked.seen sought
+        (turn_of over (repeat_view repeat.now).0 (repeat_view repeat.now).1 turn (proc_view body.now))
+        (option_copied own.entry)) }
 {
     if over {
         return Ok(Found::Over);
@@ -115,7 +125,10 @@ fn look_tested(
     sought: Sought,
     own: Option<&[Entry]>,
 ) -> Result<Found, AllocError>
-    ensures { IfOk result (λ found. standing found ≡ walked.seen sought (tested_view tested.now (decide_view decide.now).0 (decide_view decide.now).1) (option_copied own.entry)) }
+    ensures { IfOk result (λ found.
+        standing found
+        ≡ walked.seen sought (tested_view tested.now (decide_view decide.now).0 (decide_view decide.now).1)
+        (option_copied own.entry)) }
 {
     match tested {
         Tested::Untested => Ok(ahead(alloc, comes_in(alloc, decide.arms.as_slice(), sought)?)),
@@ -133,7 +146,10 @@ fn look_gate(
     sought: Sought,
     own: Option<&[Entry]>,
 ) -> Result<Found, AllocError>
-    ensures { IfOk result (λ found. standing found ≡ walked.seen sought (gate_view gate.now (await_view waiting.now).0 (await_view waiting.now).1) (option_copied own.entry)) }
+    ensures { IfOk result (λ found.
+        standing found
+        ≡ walked.seen sought (gate_view gate.now (await_view waiting.now).0 (await_view waiting.now).1)
+        (option_copied own.entry)) }
 {
     match gate {
         Gate::Unopened => look_arms(alloc, waiting, sought, own),
@@ -153,7 +169,10 @@ fn look_opened(
     sought: Sought,
     own: Option<&[Entry]>,
 ) -> Result<Found, AllocError>
-    ensures { (ds : List ℕ) (cs : model_code.Codes) (v : Option Word) → IfOk result (λ found. standing found ≡ walked.seen sought (opened_of over ds cs channel v (proc_view body.now)) (option_copied own.entry)) }
+    ensures { (ds : List ℕ) (cs : model_code.Codes) (v : Option Word) →
+        IfOk result (λ found.
+        standing found
+        ≡ walked.seen sought (opened_of over ds cs channel v (proc_view body.now)) (option_copied own.entry)) }
 {
     if over {
         return Ok(Found::Over);
@@ -172,7 +191,11 @@ fn look_child(
     own: Option<&[Entry]>,
     rest: Found,
 ) -> Result<Found, AllocError>
-    ensures { IfOk result (λ found. standing found ≡ partners.after (entry.Ordered number) (partners.below (option_copied own.entry) (entry.Ordered number)) (walked.seen sought (proc_view child.now) (partners.below (option_copied own.entry) (entry.Ordered number))) (standing rest)) }
+    ensures { IfOk result (λ found.
+        standing found
+        ≡ partners.after (entry.Ordered number) (partners.below (option_copied own.entry) (entry.Ordered number))
+        (walked.seen sought (proc_view child.now) (partners.below (option_copied own.entry) (entry.Ordered number)))
+        (standing rest)) }
 {
     let entry = ordered(number)?;
     let inside = below(own, entry);
@@ -189,7 +212,10 @@ fn look_sequence(
     sought: Sought,
     own: Option<&[Entry]>,
 ) -> Result<Found, AllocError>
-    ensures { IfOk result (λ found. standing found ≡ walked.seen sought (model.sequence (begun_of (map proc_view begun.now) (row_view row.now))) (option_copied own.entry)) }
+    ensures { IfOk result (λ found.
+        standing found
+        ≡ walked.seen sought (model.sequence (begun_of (map proc_view begun.now) (row_view row.now)))
+        (option_copied own.entry)) }
 {
     let mut found = Found::Over;
     let mut number = row.codes.len();
@@ -212,7 +238,9 @@ fn look_number(
     rest: Found,
 ) -> Result<Found, AllocError>
     requires { number < length row.now.codes }
-    ensures { IfOk result (λ found. SeenAt sought (option_copied own.entry) (begun_of (map proc_view begun.now) (row_view row.now)) number (standing rest) (standing found)) }
+    ensures { IfOk result (λ found.
+        SeenAt sought (option_copied own.entry) (begun_of (map proc_view begun.now) (row_view row.now)) number
+        (standing rest) (standing found)) }
 {
     if number < begun.len() {
         return look_child(alloc, &begun[number], number as u64, sought, own, rest);
@@ -231,7 +259,9 @@ fn look_parallel(
     sought: Sought,
     own: Option<&[Entry]>,
 ) -> Result<Found, AllocError>
-    ensures { IfOk result (λ found. standing found ≡ walked.seen sought (model.parallel (procs_of (map proc_view procs.now))) (option_copied own.entry)) }
+    ensures { IfOk result (λ found.
+        standing found
+        ≡ walked.seen sought (model.parallel (procs_of (map proc_view procs.now))) (option_copied own.entry)) }
 {
     let mut found = Found::Over;
     let mut number = procs.len();

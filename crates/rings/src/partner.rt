@@ -1,19 +1,19 @@
-// What a side that waits waits for.
+// What an action that waits waits for.
 ghost use Rattle.std.specs.Prelude.{◌≡◌, [], map, reverse, IfOk};
-ghost use Rattle.process_tree.specs.Left.{left};
+ghost use Rattle.process_tree.specs.Remaining.{remaining};
 ghost use Rattle.process_tree.specs.View.{tree_view};
 ghost use Rattle.rings.specs.Partners.{partner_in, partner_standing};
-ghost use Rattle.rings.specs.walking.Seen.{standing};
+ghost use Rattle.rings.specs.internal.Seen.{standing};
 
 use crate::found::Found;
 use crate::look::look;
 use crate::sought::Sought;
 use address::{Address, Entry};
-use offered_sides::OfferedSide;
+use local_actions::LocalAction;
 use process_tree::Tree;
 use std::alloc::{AllocError, Global};
 
-/// What has to go on before the partner of a side that waits can come.
+/// What has to go on before the partner of an action that waits can come.
 #[derive(Drop)]
 pub enum Partner {
     /// all that stands at this place and below it
@@ -24,27 +24,28 @@ pub enum Partner {
     Open,
 }
 
-/// For each of the sides what has to go on before its partner can come, in the order of the sides. It is an error if there is
-/// no memory.
+/// For each of the actions what has to go on before its partner can come, in the order of the actions. It is an error
+/// if there is no memory.
 pub fn partners_of(
     alloc: Global,
     tree: &Tree,
-    sides: &[OfferedSide],
+    actions: &[LocalAction],
 ) -> Result<Vec<Partner>, AllocError>
-    ensures { IfOk result (λ partners. partners.items ≡ map (partner_in (left [] (tree_view tree.now))) sides.now) }
+    ensures { IfOk result (λ partners.
+        partners.items ≡ map (partner_in (remaining [] (tree_view tree.now))) actions.now) }
 {
-    let mut partners = Vec::with_capacity(alloc, sides.len())?;
-    for side in sides {
-        partners.push(partner_of(alloc, tree, side)?)?;
+    let mut partners = Vec::with_capacity(alloc, actions.len())?;
+    for action in actions {
+        partners.push(partner_of(alloc, tree, action)?)?;
     }
     Ok(partners)
 }
 
-/// What has to go on before the partner of the side can come.
-fn partner_of(alloc: Global, tree: &Tree, offered: &OfferedSide) -> Result<Partner, AllocError>
-    ensures { IfOk result (λ partner. partner ≡ partner_in (left [] (tree_view tree.now)) offered.now) }
+/// What has to go on before the partner of the action can come.
+fn partner_of(alloc: Global, tree: &Tree, offered: &LocalAction) -> Result<Partner, AllocError>
+    ensures { IfOk result (λ partner. partner ≡ partner_in (remaining [] (tree_view tree.now)) offered.now) }
 {
-    match Sought::by(&offered.side) {
+    match Sought::by(&offered.action) {
         Some(sought) => {
             let own = offered.place.entries();
             Ok(as_partner(look(alloc, tree.root(), sought, Some(own))?))

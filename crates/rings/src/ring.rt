@@ -1,17 +1,17 @@
-// A ring of sides of which each waits for the next.
+// A ring of actions of which each waits for the next.
 ghost use Rattle.std.specs.Prelude.{◌≡◌, ◌<◌, ℕ, [], true, length, slice_get, slice_set, drop, Some, map, IfOk, MatchOption};
 ghost use Rattle.syntax.specs.Lists.{In};
 ghost use Rattle.system.specs.Residual.{Residual};
 ghost use Rattle.rings.specs.Partners.{partner_in};
 ghost use Rattle.rings.specs.Rings.{Helped, TellsDeadlocked, TellsRing};
-ghost use Rattle.rings.specs.walking.Search as model;
+ghost use Rattle.rings.specs.internal.Search as model;
 
 use crate::partner::Partner;
 use crate::waits::{is_at_one, waits};
-use offered_sides::OfferedSide;
+use local_actions::LocalAction;
 use std::alloc::{AllocError, Global};
 
-/// How far the search has come at a side.
+/// How far the search has come at an action.
 #[derive(Clone, Copy)]
 pub(crate) enum Seen {
     New,
@@ -19,38 +19,40 @@ pub(crate) enum Seen {
     Done,
 }
 
-/// The indexes of sides whose places are a ring of deadlocked ones, each once, where these are the partners of the
-/// sides, and `marks` says which are deadlocked, in their order: each side waits for the place of the next, and the
+/// The indexes of actions whose places are a ring of deadlocked ones, each once, where these are the partners of the
+/// actions, and `marks` says which are deadlocked, in their order: each action waits for the place of the next, and the
 /// last for that of the first. None where there is no ring. It is an error if there is no memory.
 pub fn ring_among(
     alloc: Global,
-    sides: &[OfferedSide],
+    actions: &[LocalAction],
     partners: &[Partner],
     marks: &[bool],
 ) -> Result<Vec<usize>, AllocError>
-    requires { length partners.now ≡ length sides.now }
-    ensures { (r : Residual) (help : Helped) → partners.now ≡ map (partner_in r) sides.now
-        → TellsDeadlocked help r sides.now marks.now → IfOk result (λ ring. TellsRing help r sides.now ring.items) }
+    requires { length partners.now ≡ length actions.now }
+    ensures { (r : Residual) (help : Helped) → partners.now ≡ map (partner_in r) actions.now
+        → TellsDeadlocked help r actions.now marks.now → IfOk result (λ ring. TellsRing help r actions.now ring.items) }
 {
-    ring_of_indexes(alloc, sides, partners, marks)
+    ring_of_indexes(alloc, actions, partners, marks)
 }
 
-/// The same by the indexes of the sides.
+/// The same by the indexes of the actions.
 fn ring_of_indexes(
     alloc: Global,
-    sides: &[OfferedSide],
+    actions: &[LocalAction],
     partners: &[Partner],
     marks: &[bool],
 ) -> Result<Vec<usize>, AllocError>
-    requires { length partners.now ≡ length sides.now }
-    ensures { IfOk result (λ ring. model.Names (length sides.now) (model.waits sides.now partners.now marks.now) (model.same_at sides.now) ring.items) }
+    requires { length partners.now ≡ length actions.now }
+    ensures { IfOk result (λ ring.
+        model.Names (length actions.now) (model.waits actions.now partners.now marks.now) (model.same_at actions.now)
+        ring.items) }
 {
-    let mut seen = all_new(alloc, sides.len())?;
-    for start in 0..sides.len() {
+    let mut seen = all_new(alloc, actions.len())?;
+    for start in 0..actions.len() {
         if !is_new(seen.as_slice(), start) {
             continue;
         }
-        let ring = ring_from(alloc, sides, partners, marks, seen.as_mut_slice(), start)?;
+        let ring = ring_from(alloc, actions, partners, marks, seen.as_mut_slice(), start)?;
         if !ring.is_empty() {
             return Ok(ring);
         }
@@ -58,7 +60,7 @@ fn ring_of_indexes(
     Ok(Vec::new(alloc))
 }
 
-/// A mark for each side, at none of which the search has been.
+/// A mark for each action, at none of which the search has been.
 fn all_new(alloc: Global, count: usize) -> Result<Vec<Seen>, AllocError>
     ensures size { IfOk result (λ seen. length seen.items ≡ count) }
     ensures done { IfOk result (λ seen. (i : ℕ) → slice_get seen.items i ≡ Some Seen.Done → ⊥) }
@@ -67,31 +69,33 @@ fn all_new(alloc: Global, count: usize) -> Result<Vec<Seen>, AllocError>
     Ok(vec![in alloc; Seen::New; count]?)
 }
 
-/// A ring that is found on the ways from this side on.
+/// A ring that is found on the ways from this action on.
 fn ring_from(
     alloc: Global,
-    sides: &[OfferedSide],
+    actions: &[LocalAction],
     partners: &[Partner],
     marks: &[bool],
     seen: &mut [Seen],
     start: usize,
 ) -> Result<Vec<usize>, AllocError>
-    requires sizes { length partners.now ≡ length sides.now }
-    requires start { start < length sides.now }
-    requires so_far { model.Searching (length sides.now) (model.waits sides.now partners.now marks.now) (model.same_at sides.now) seen.old [] }
-    ensures { IfOk result (λ ring. model.Searched (length sides.now) (model.waits sides.now partners.now marks.now) (model.same_at sides.now)
+    requires sizes { length partners.now ≡ length actions.now }
+    requires start { start < length actions.now }
+    requires so_far { model.Searching (length actions.now) (model.waits actions.now partners.now marks.now)
+        (model.same_at actions.now) seen.old [] }
+    ensures { IfOk result (λ ring.
+        model.Searched (length actions.now) (model.waits actions.now partners.now marks.now) (model.same_at actions.now)
         seen.old seen.new start ring.items) }
 {
     let mut way = Vec::new(alloc);
     way.push(start)?;
     note(seen, start, Seen::OnWay);
     'search: while let Some(top) = way.pop() {
-        let Some(next) = next_open(sides, partners, marks, seen, top) else {
+        let Some(next) = next_open(actions, partners, marks, seen, top) else {
             note(seen, top, Seen::Done);
             continue;
         };
         way.push(top)?;
-        if let Some(index) = index_on(sides, way.as_slice(), next) {
+        if let Some(index) = index_on(actions, way.as_slice(), next) {
             return part_from(alloc, way.as_slice(), index);
         }
         way.push(next)?;
@@ -100,7 +104,7 @@ fn ring_from(
     Ok(Vec::new(alloc))
 }
 
-/// Whether the search has not been at this side.
+/// Whether the search has not been at this action.
 fn is_new(seen: &[Seen], index: usize) -> bool
     ensures { result ≡ model.is_new (slice_get seen.now index) }
 {
@@ -110,7 +114,7 @@ fn is_new(seen: &[Seen], index: usize) -> bool
     }
 }
 
-/// Whether the search is not done at this side.
+/// Whether the search is not done at this action.
 fn is_open(seen: &[Seen], index: usize) -> bool
     ensures { result ≡ model.is_open (slice_get seen.now index) }
 {
@@ -120,7 +124,7 @@ fn is_open(seen: &[Seen], index: usize) -> bool
     }
 }
 
-/// Notes how far the search has come at a side.
+/// Notes how far the search has come at an action.
 fn note(seen: &mut [Seen], index: usize, state: Seen)
     requires { index < length seen.old }
     ensures { seen.new ≡ slice_set seen.old index state }
@@ -128,32 +132,32 @@ fn note(seen: &mut [Seen], index: usize, state: Seen)
     seen[index] = state;
 }
 
-/// The first side for which the side waits, and at which the search is not done.
+/// The first action for which the action waits, and at which the search is not done.
 fn next_open(
-    sides: &[OfferedSide],
+    actions: &[LocalAction],
     partners: &[Partner],
     marks: &[bool],
     seen: &[Seen],
     top: usize,
 ) -> Option<usize>
-    requires { length partners.now ≡ length sides.now }
-    ensures { model.NextOpen (length sides.now) (model.waits sides.now partners.now marks.now) seen.now top result }
+    requires { length partners.now ≡ length actions.now }
+    ensures { model.NextOpen (length actions.now) (model.waits actions.now partners.now marks.now) seen.now top result }
 {
-    for next in 0..sides.len() {
-        if is_open(seen, next) && waits(sides, partners, marks, top, next) {
+    for next in 0..actions.len() {
+        if is_open(seen, next) && waits(actions, partners, marks, top, next) {
             return Some(next);
         }
     }
     None
 }
 
-/// Where a side on the way stands at the place of this one.
-fn index_on(sides: &[OfferedSide], way: &[usize], side: usize) -> Option<usize>
-    ensures { MatchOption result ((j : ℕ) → In j way.now → model.same_at sides.now j side ≡ true → ⊥)
-        (λ index. (j : ℕ) × (slice_get way.now index ≡ Some j) × (model.same_at sides.now j side ≡ true)) }
+/// Where an action on the way stands at the place of this one.
+fn index_on(actions: &[LocalAction], way: &[usize], action: usize) -> Option<usize>
+    ensures { MatchOption result ((j : ℕ) → In j way.now → model.same_at actions.now j action ≡ true → ⊥)
+        (λ index. (j : ℕ) × (slice_get way.now index ≡ Some j) × (model.same_at actions.now j action ≡ true)) }
 {
     for (index, held) in way.iter().enumerate() {
-        if is_at_one(sides, *held, side) {
+        if is_at_one(actions, *held, action) {
             return Some(index);
         }
     }

@@ -1,13 +1,13 @@
-// The other end of a channel that a side waits for.
+// The other end of a channel that an action waits for.
 ghost use Rattle.std.specs.Prelude.{◌≡◌};
 ghost use Rattle.process_tree.specs.View.{once_view, sender_view};
 ghost use Rattle.rings.specs.Partners as model;
-ghost use Rattle.rings.specs.walking.Seen as walked;
+ghost use Rattle.rings.specs.internal.Seen as walked;
 
-use offered_sides::Side;
+use local_actions::ActionKind;
 use process_tree::{Once, Sender};
 
-/// What could be the partner of a side that waits.
+/// What could be the partner of an action that waits.
 #[derive(Clone, Copy)]
 pub(crate) enum Sought {
     /// a receive, or an arm that opens, on the channel
@@ -21,16 +21,21 @@ pub(crate) enum Sought {
 }
 
 impl Sought {
-    /// What the side waits for; what acts alone waits for none.
-    pub(crate) fn by(side: &Side) -> Option<Sought>
-        ensures { result ≡ model.sought_by side.now }
+    /// What the action waits for; what acts alone waits for none.
+    pub(crate) fn by(action: &ActionKind) -> Option<Sought>
+        ensures { result ≡ model.sought_by action.now }
     {
-        match side {
-            Side::Sends(channel, _, _) => Some(Sought::Receiver(*channel)),
-            Side::Receives(channel, _) | Side::Opens(channel, _) => Some(Sought::Sender(*channel)),
-            Side::Syncs(channel) => Some(Sought::Partner(*channel)),
-            Side::Releases(channel) => Some(Sought::Close(*channel)),
-            Side::Assigns(_, _, _) | Side::Tests(_, _) | Side::Turns | Side::Closes(_) => None,
+        match action {
+            ActionKind::Sends(channel, _, _) => Some(Sought::Receiver(*channel)),
+            ActionKind::Receives(channel, _) | ActionKind::Opens(channel, _) => Some(Sought::Sender(
+                *channel,
+            )),
+            ActionKind::Syncs(channel) => Some(Sought::Partner(*channel)),
+            ActionKind::Releases(channel) => Some(Sought::Close(*channel)),
+            ActionKind::Assigns(_, _, _)
+            | ActionKind::Tests(_, _)
+            | ActionKind::Turns
+            | ActionKind::Closes(_) => None,
         }
     }
 

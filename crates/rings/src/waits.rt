@@ -2,26 +2,26 @@
 ghost use Rattle.std.specs.Prelude.{◌≡◌, slice_get};
 ghost use Rattle.std.specs.Option.{option_copied};
 ghost use Rattle.runs.specs.Tests.{same_place};
-ghost use Rattle.offered_sides.specs.walking.At as at;
-ghost use Rattle.rings.specs.walking.Loosened.{is_marked};
-ghost use Rattle.rings.specs.walking.Search as model;
+ghost use Rattle.local_actions.specs.internal.At as at;
+ghost use Rattle.rings.specs.internal.Loosened.{is_marked};
+ghost use Rattle.rings.specs.internal.Search as model;
 
 use crate::partner::Partner;
 use crate::way::is_same_entry;
 use address::{Address, Entry};
-use offered_sides::OfferedSide;
+use local_actions::LocalAction;
 
-/// Whether the one side is marked, and its partner comes once what stands at the place of the other has gone on.
+/// Whether the one action is marked, and its partner comes once what stands at the place of the other has gone on.
 pub(crate) fn waits(
-    sides: &[OfferedSide],
+    actions: &[LocalAction],
     partners: &[Partner],
     marks: &[bool],
     one: usize,
     other: usize,
 ) -> bool
-    ensures { result ≡ model.waits sides.now partners.now marks.now one other }
+    ensures { result ≡ model.waits actions.now partners.now marks.now one other }
 {
-    is_marked(marks, one) && behind_at(partners.get(one), sides.get(other))
+    is_marked(marks, one) && behind_at(partners.get(one), actions.get(other))
 }
 
 /// Whether the mark of this index is there, and set.
@@ -34,25 +34,25 @@ pub(crate) fn is_marked(marks: &[bool], index: usize) -> bool
     }
 }
 
-/// Whether both are there, and the partner comes once what stands at the place of the side has gone on.
-fn behind_at(partner: Option<&Partner>, side: Option<&OfferedSide>) -> bool
-    ensures { result ≡ model.behind_at (option_copied partner.entry) (option_copied side.entry) }
+/// Whether both are there, and the partner comes once what stands at the place of the action has gone on.
+fn behind_at(partner: Option<&Partner>, action: Option<&LocalAction>) -> bool
+    ensures { result ≡ model.behind_at (option_copied partner.entry) (option_copied action.entry) }
 {
-    match (partner, side) {
-        (Some(partner), Some(side)) => is_behind(partner, &side.place),
+    match (partner, action) {
+        (Some(partner), Some(action)) => is_behind(partner, &action.place),
         _ => false,
     }
 }
 
-/// Whether the sides of these indexes stand at one place.
-pub(crate) fn is_at_one(sides: &[OfferedSide], one: usize, other: usize) -> bool
-    ensures { result ≡ model.same_at sides.now one other }
+/// Whether the actions of these indexes stand at one place.
+pub(crate) fn is_at_one(actions: &[LocalAction], one: usize, other: usize) -> bool
+    ensures { result ≡ model.same_at actions.now one other }
 {
-    are_at_one(sides.get(one), sides.get(other))
+    are_at_one(actions.get(one), actions.get(other))
 }
 
 /// Whether both sides are there, and stand at one place.
-fn are_at_one(one: Option<&OfferedSide>, other: Option<&OfferedSide>) -> bool
+fn are_at_one(one: Option<&LocalAction>, other: Option<&LocalAction>) -> bool
     ensures { result ≡ model.same_places (option_copied one.entry) (option_copied other.entry) }
 {
     match (one, other) {

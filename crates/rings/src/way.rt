@@ -1,4 +1,4 @@
-// The way from a place to the side that waits.
+// The way from a place to the action that waits.
 ghost use Rattle.std.specs.Prelude.{◌≡◌, Some, IfOk};
 ghost use Rattle.std.specs.Option.{option_copied};
 ghost use Rattle.address.specs.declared.Entry.TheVariants as entry;

@@ -1,1 +1,1 @@
-pub mod RollbackLemmas
+mod RollbackLemmas

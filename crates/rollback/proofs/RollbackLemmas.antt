@@ -8,7 +8,7 @@ use Rattle.runs.specs.Sound.{Sound}
 use Rattle.runs.specs.declared.command.Command.{Command}
 use Rattle.runs.specs.declared.command.Refusal.{Refusal}
 use Rattle.runs.specs.declared.command.Refusal.TheVariants.{Memory, NoSuchEvent, NeverWritten}
-use Rattle.runs.proofs.ObjectLaws.{rolls-exactly, rolled-value, consequences-exactly}
+use Rattle.runs.proofs.public.ObjectLaws.{rolls-exactly, rolled-value, consequences-exactly}
 use Rattle.machine.specs.AtMachine.{AtMachine, object}
 use Rattle.machine.specs.Results.{roll_reply, blame_reply, consequences_reply}
 use Rattle.rollback.specs.Rollbacks.{TakesBack, ValueFromBefore, AreDependents}

@@ -9,8 +9,8 @@ use Rattle.runs.specs.Object.{Object, Reaches}
 use Rattle.runs.specs.Steps.{State, Run}
 use Rattle.runs.specs.declared.event.Event.{Event}
 
--- from o to o' the event of ticket t and the live events that depend on it, n in number, are gone; exactly the others are live
--- under their tickets, and they run. No ticket is given back
+-- from o to o' the event of ticket t and the live events that depend on it, n in number, are gone; exactly the others
+-- are live under their tickets, and they run. No ticket is given back
 abbrev pub TakesBack : Object → ℕ → ℕ → Object → Type 0
 TakesBack o t n o' =
     (e : Event) × LiveAt o.live t e
@@ -20,7 +20,8 @@ TakesBack o t n o' =
 -- in o' the variable x has the value that it had just before its last live writer in o
 abbrev pub ValueFromBefore : Object → ℕ → Object → Type 0
 ValueFromBefore o x o' =
-    (before : Live) × (t : ℕ) × (e : Event) × (after : Live) × (o.live ≡ before ++ (t, e) ∷ after) × (e.written ≡ Some x) × NoWriter after x
+    (before : Live) × (t : ℕ) × (e : Event) × (after : Live) × (o.live ≡ before ++ (t, e) ∷ after)
+    × (e.written ≡ Some x) × NoWriter after x
     × ((S T : State) → Run o.opening (events before) S → Reaches o' T → get T.store x ≡ get S.store x)
 
 -- exactly the tickets of the live events that depend on the one of ticket t, which is among them, ascending

@@ -10,8 +10,8 @@ use machine::{Machine, Ticket, Var};
 use runs::Refusal;
 use syntax::Items;
 
-/// Takes the event of this ticket back, and all live events that depend on it, and no others; how many they were. It takes no
-/// memory.
+/// Takes the event of this ticket back, and all live events that depend on it, and no others; how many they were. It
+/// takes no memory.
 ///
 /// # Errors
 ///
@@ -38,14 +38,15 @@ pub fn blame(machine: &Machine, variable: Var) -> Result<Ticket, Refusal>
     machine.blame(variable)
 }
 
-/// Takes the last live event that wrote the variable back, and all live events that depend on it, and no others; how many they
-/// were. The variable then has the value from just before that event. It takes no memory.
+/// Takes the last live event that wrote the variable back, and all live events that depend on it, and no others; how
+/// many they were. The variable then has the value from just before that event. It takes no memory.
 ///
 /// # Errors
 ///
 /// `NeverWritten` where no live event wrote the variable, or there is no such variable. Nothing has changed then.
 pub fn roll_value(machine: &mut Machine, variable: Var) -> Result<u64, Refusal>
-    ensures taken { IfOk result (λ count. (ticket : ℕ) × LastWriter machine.old.live variable ticket × TakesBack (object machine.old) ticket count (object machine.new)) }
+    ensures taken { IfOk result (λ count. (ticket : ℕ) × LastWriter machine.old.live variable ticket
+        × TakesBack (object machine.old) ticket count (object machine.new)) }
     ensures value { IfOk result (λ _. ValueFromBefore (object machine.old) variable (object machine.new)) }
     ensures refused { IfErr result (λ why. (why ≡ Refusal.NeverWritten) × NoWriter machine.old.live variable) }
     ensures same { IfErr result (λ _. machine.new ≡ machine.old) }
@@ -55,14 +56,16 @@ pub fn roll_value(machine: &mut Machine, variable: Var) -> Result<u64, Refusal>
     machine.roll_value(variable)
 }
 
-/// The tickets of the event of this ticket and of all live events that depend on it, ascending: what a rollback of it would take.
+/// The tickets of the event of this ticket and of all live events that depend on it, ascending: what a rollback of it
+/// would take.
 ///
 /// # Errors
 ///
 /// `NoSuchEvent` where no live event has the ticket. `Memory` without memory, but never in its place.
 pub fn consequences(machine: &Machine, ticket: Ticket) -> Result<Items<Ticket>, Refusal>
     ensures told { IfOk result (λ tickets. AreDependents (object machine.now) ticket tickets) }
-    ensures refused { IfErr result (λ why. ((why ≡ Refusal.NoSuchEvent) × NoneAt machine.now.live ticket) ⊎ ((why ≡ Refusal.Memory) × IsLive machine.now.live ticket)) }
+    ensures refused { IfErr result (λ why. ((why ≡ Refusal.NoSuchEvent) × NoneAt machine.now.live ticket)
+        ⊎ ((why ≡ Refusal.Memory) × IsLive machine.now.live ticket)) }
 {
     machine.is_sound();
     machine.consequences(ticket)

@@ -1,1 +1,1 @@
-pub mod FlatLaws
+mod FlatLaws

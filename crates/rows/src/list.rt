@@ -5,8 +5,8 @@ use crate::row::{FULL, Row, push_into_last, push_row, row_of, take_out};
 use std::alloc::Global;
 use std::marker::Model;
 
-/// A list that contracts see as the list of its items. They stand in rows of at most 128, so an item that is taken out moves
-/// fewer than these; beside it each row behind is told that it begins one earlier.
+/// A list that contracts see as the list of its items. They stand in rows of at most 128, so an item that is taken out
+/// moves fewer than these; beside it each row behind is told that it begins one earlier.
 #[derive(Drop)]
 pub struct Rows<T> {
     alloc: Global,

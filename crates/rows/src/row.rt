@@ -119,8 +119,10 @@ pub(crate) fn take_out<T: Drop>(rows: &mut Vec<Row<T>>, number: usize, offset: u
     requires holds { (r : Row T) → slice_get rows.old.items number ≡ Some r → offset < length r.items.items }
     requires small { length (flat rows.old.items) < 18446744073709551616 }
     ensures begin { BeginFrom 0 rows.new.items }
-    ensures taken { (r : Row T) → slice_get rows.old.items number ≡ Some r → (flat rows.new.items ≡ remove (flat rows.old.items) (r.start + offset)) }
-    ensures item { (r : Row T) → slice_get rows.old.items number ≡ Some r → slice_get r.items.items offset ≡ Some result }
+    ensures taken { (r : Row T) → slice_get rows.old.items number ≡ Some r →
+        (flat rows.new.items ≡ remove (flat rows.old.items) (r.start + offset)) }
+    ensures item { (r : Row T) → slice_get rows.old.items number ≡ Some r →
+        slice_get r.items.items offset ≡ Some result }
 {
     let row = &mut rows[number];
     let start = row.start;

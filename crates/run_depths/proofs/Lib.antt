@@ -1,2 +1,2 @@
-pub mod Deepening
-pub mod RaceLaws
+pub mod public
+mod RaceLaws

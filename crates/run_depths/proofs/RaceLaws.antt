@@ -9,18 +9,18 @@ use Rattle.runs.specs.Dependence.{Directly, OnOneChannel, OnOneVariable, SomeBef
 use Rattle.runs.specs.InOrder.{InOrder}
 use Rattle.runs.specs.Live.{Live, LiveAt, Rising}
 use Rattle.runs.specs.declared.event.Event.{Event}
-use Rattle.runs.proofs.Lists.{every-in, in-left, in-right, in-parts}
-use Rattle.runs.proofs.Options.{some-injective}
-use Rattle.runs.proofs.ReadTests.{in-is, is-in}
-use Rattle.runs.proofs.Tickets.{rising-one}
+use Rattle.runs.proofs.public.Lists.{every-in, in-left, in-right, in-parts}
+use Rattle.runs.proofs.public.Options.{some-injective}
+use Rattle.runs.proofs.public.ReadTests.{in-is, is-in}
+use Rattle.runs.proofs.public.Tickets.{rising-one}
 use Rattle.dependence.specs.Followers.{Follower}
-use Rattle.dependence.proofs.ListPlaces.{at-one, drop-all, drop-next, in-at, in-order-more, in-order-right, parts-at}
-use Rattle.dependence.proofs.Standing.{lesser-stands}
+use Rattle.dependence.proofs.public.ListPlaces.{at-one, drop-all, drop-next, in-at, in-order-more, in-order-right, parts-at}
+use Rattle.dependence.proofs.public.Standing.{lesser-stands}
 use Rattle.run_depths.specs.Depths.{StandsAt}
 use Rattle.run_depths.specs.Races.{AreRaces, ByVariable, IsEarlierRace, IsRace, ReadsAfter, WritesAfter}
 use Rattle.run_depths.specs.declared.races.Race.{Race}
-use Rattle.run_depths.specs.walking.RacesSoFar.{RacesTo, RacesWith}
-use Rattle.run_depths.proofs.Deepening.{one-place}
+use Rattle.run_depths.specs.internal.RacesSoFar.{RacesTo, RacesWith}
+use Rattle.run_depths.proofs.public.Deepening.{one-place}
 
 -- ---- the variable
 

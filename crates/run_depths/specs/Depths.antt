@@ -28,7 +28,8 @@ pub record AreDepths (l : Live) (depths : List ℕ) : Type 0 where
 abbrev pub AreBelow : List ℕ → Type 0
 AreBelow depths = (k : ℕ) → k < length depths → slice_index depths k ≤ k
 
--- exactly how many events further on than the index i the followers of the event of ticket t stand, ascending, so each once
+-- exactly how many events further on than the index i the followers of the event of ticket t stand, ascending, so each
+-- once
 pub record ListsAhead (l : Live) (i t : ℕ) (ahead : List ℕ) : Type 0 where
   pub each : (n : ℕ) → In n ahead → (u : ℕ) × Follower l t u × StandsAt l u (i + n)
   pub all : (u : ℕ) → Follower l t u → (n : ℕ) × In n ahead × StandsAt l u (i + n)

@@ -1,3 +1,3 @@
 pub mod Depths
 pub mod Races
-pub mod walking
+pub mod internal

@@ -29,7 +29,8 @@ pub record ByVariable (l : Live) (t u : ℕ) (e f : Event) : Type 0 where
 -- these two live events, by their indexes, with the variable that orders them
 abbrev pub IsRace : Live → Race → Type 0
 IsRace l r =
-    (t : ℕ) × (u : ℕ) × (e : Event) × (f : Event) × (slice_get l r.cause ≡ Some (t, e)) × (slice_get l r.event ≡ Some (u, f))
+    (t : ℕ) × (u : ℕ) × (e : Event) × (f : Event) × (slice_get l r.cause ≡ Some (t, e))
+    × (slice_get l r.event ≡ Some (u, f))
     × ByVariable l t u e f × OrdersBy e f r.variable
 
 -- in the order of the later events, and of one in the order of the earlier
@@ -39,6 +40,7 @@ IsEarlierRace r s = (r.event < s.event) ⊎ ((r.event ≡ s.event) × (r.cause <
 -- exactly the orders that only a variable makes, each once, in order
 pub record AreRaces (l : Live) (races : List Race) : Type 0 where
   pub each : (r : Race) → In r races → IsRace l r
-  pub all : (i j t u : ℕ) (e f : Event) → slice_get l i ≡ Some (t, e) → slice_get l j ≡ Some (u, f) → ByVariable l t u e f →
+  pub all : (i j t u : ℕ) (e f : Event) → slice_get l i ≡ Some (t, e) → slice_get l j ≡ Some (u, f) →
+      ByVariable l t u e f →
       (x : ℕ) × In (record { cause = i; event = j; variable = x }) races
   pub in_order : InOrder IsEarlierRace races

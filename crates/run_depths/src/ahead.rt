@@ -7,7 +7,8 @@ use dependence::Live;
 use std::alloc::{AllocError, Global};
 use syntax::Items;
 
-/// For each live event, at its index counted from 0 in order of tickets, how many events further on each of its followers stands.
+/// For each live event, at its index counted from 0 in order of tickets, how many events further on each of its
+/// followers stands.
 ///
 /// It is an error if there is no memory.
 pub fn all_ahead(alloc: Global, live: &Live) -> Result<Items<Items<usize>>, AllocError>
@@ -40,7 +41,8 @@ fn ahead_of(
     Ok(ahead)
 }
 
-/// How many events further on than the index the live event of a ticket stands, which is greater than that of the event at the index.
+/// How many events further on than the index the live event of a ticket stands, which is greater than that of the event
+/// at the index.
 fn distance(live: &Live, index: usize, ticket: u64, follower: u64) -> usize
     requires stands { StandsAt live.now.live ticket index }
     requires live { IsLive live.now.live follower }

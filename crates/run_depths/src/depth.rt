@@ -7,8 +7,9 @@ ghost use Rattle.run_depths.specs.Depths.{AreDepths, IsDepth, StandsAt, AreBelow
 use dependence::Live;
 use std::alloc::{AllocError, Global};
 
-/// The depth of each live event, at its index counted from 0 in order of tickets: one more than the greatest depth of those that it
-/// follows, and 0 where it follows none. So it is the same for all orders in which the events may have been taken.
+/// The depth of each live event, at its index counted from 0 in order of tickets: one more than the greatest depth of
+/// those that it follows, and 0 where it follows none. So it is the same for all orders in which the events may have
+/// been taken.
 ///
 /// It is an error if there is no memory.
 pub fn depths_of(alloc: Global, live: &Live) -> Result<Vec<usize>, AllocError>

@@ -1,5 +1,5 @@
-//! The row of each live event in a picture, which is the length of the longest chain of events that led to it, how far on its
-//! followers stand, and the orders that only a shared variable makes.
+//! The row of each live event in a picture, which is the length of the longest chain of events that led to it, how far
+//! on its followers stand, and the orders that only a shared variable makes.
 #![tactic(auto)]
 
 mod ahead;

@@ -7,7 +7,7 @@ ghost use Rattle.runs.specs.declared.event.Event.{Event};
 ghost use Rattle.dependence.specs.Followers.{Follower};
 ghost use Rattle.run_depths.specs.Depths.{StandsAt};
 ghost use Rattle.run_depths.specs.Races.{AreRaces, ByVariable, IsRace, OrdersBy, ReadsAfter, WritesAfter};
-ghost use Rattle.run_depths.specs.walking.RacesSoFar.{RacesTo};
+ghost use Rattle.run_depths.specs.internal.RacesSoFar.{RacesTo};
 
 use dependence::Live;
 use runs::{Event, some_before, writes};
@@ -24,8 +24,9 @@ pub struct Race {
     pub variable: u32,
 }
 
-/// All orders of live events that only a variable makes, in the order of the later events, and of one in the order of the earlier.
-/// The variable is one that the later event reads, if the earlier wrote such a one, and else the one that the later writes.
+/// All orders of live events that only a variable makes, in the order of the later events, and of one in the order of
+/// the earlier. The variable is one that the later event reads, if the earlier wrote such a one, and else the one that
+/// the later writes.
 ///
 /// It is an error if there is no memory.
 pub fn races_of(alloc: Global, live: &Live) -> Result<Vec<Race>, AllocError>
@@ -62,7 +63,8 @@ fn add_races(
 
 /// Adds the race, if it is one.
 fn add_race(races: &mut Vec<Race>, race: Option<Race>) -> Result<(), AllocError>
-    ensures { OnOk result (MatchOption race (races.new.items ≡ races.old.items) (λ r. races.new.items ≡ races.old.items ++ r ∷ [])) }
+    ensures { OnOk result
+        (MatchOption race (races.new.items ≡ races.old.items) (λ r. races.new.items ≡ races.old.items ++ r ∷ [])) }
 {
     match race {
         Some(race) => {
@@ -73,7 +75,8 @@ fn add_race(races: &mut Vec<Race>, race: Option<Race>) -> Result<(), AllocError>
     }
 }
 
-/// The race of the event at an index, of this ticket, with the live event of the ticket `lead`, which it follows, if it is one.
+/// The race of the event at an index, of this ticket, with the live event of the ticket `lead`, which it follows, if it
+/// is one.
 fn race_with(live: &Live, lead: u64, index: usize, ticket: u64, event: &Event) -> Option<Race>
     requires stands { slice_get live.now.live index ≡ Some (ticket, event.now) }
     requires follows { Follower live.now.live lead ticket }
@@ -102,7 +105,8 @@ fn race_with(live: &Live, lead: u64, index: usize, ticket: u64, event: &Event) -
 fn variable_between(earlier: &Event, later: &Event) -> Option<u32>
     ensures { MatchOption result
         (OnOneVariable earlier.now later.now → SomeBefore earlier.now later.now ⊎ OnOneChannel earlier.now later.now)
-        (λ x. (SomeBefore earlier.now later.now → ⊥) × (OnOneChannel earlier.now later.now → ⊥) × OrdersBy earlier.now later.now x) }
+        (λ x. (SomeBefore earlier.now later.now → ⊥) × (OnOneChannel earlier.now later.now → ⊥)
+        × OrdersBy earlier.now later.now x) }
 {
     if some_before(earlier, later) {
         return None;
@@ -123,8 +127,8 @@ fn on_one_channel(one: &Event, other: &Event) -> bool
     }
 }
 
-/// The variable that the earlier event writes and the later one reads, or else that which the later writes and the earlier reads or
-/// writes.
+/// The variable that the earlier event writes and the later one reads, or else that which the later writes and the
+/// earlier reads or writes.
 fn shared_variable(earlier: &Event, later: &Event) -> Option<u32>
     ensures { MatchOption result (OnOneVariable earlier.now later.now → ⊥) (OrdersBy earlier.now later.now) }
 {
@@ -150,7 +154,8 @@ fn read_after(earlier: &Event, later: &Event) -> Option<u32>
 
 /// The variable that the later event writes and the earlier one reads or writes.
 fn written_after(earlier: &Event, later: &Event) -> Option<u32>
-    ensures { MatchOption result ((x : ℕ) → WritesAfter earlier.now later.now x → ⊥) (WritesAfter earlier.now later.now) }
+    ensures { MatchOption result ((x : ℕ) → WritesAfter earlier.now later.now x →
+        ⊥) (WritesAfter earlier.now later.now) }
 {
     let Some(variable) = later.written else {
         return None;

@@ -7,11 +7,11 @@ use Rattle.runs.specs.Events.{Located, Makes, assigning, testing, turning, meeti
 use Rattle.runs.specs.Steps.{State, Step}
 use Rattle.runs.specs.declared.event.Event.{Event}
 use Rattle.runs.specs.declared.event.Kind.TheVariants.{Assign, Test, Turn, Meet, Open, Close, Sync}
-use Rattle.runs.proofs.Options.{some-injective}
-use Rattle.runs.proofs.WellFormed.{WellFormed}
-use Rattle.runs.proofs.SameCommand.{SameCommand, same_command}
+use Rattle.runs.proofs.public.Options.{some-injective}
+use Rattle.runs.proofs.public.WellFormed.{WellFormed}
+use Rattle.runs.proofs.public.SameCommand.{SameCommand, same_command}
 use Rattle.runs.proofs.OneEvent.{OneArm}
-use Rattle.runs.proofs.AtOnce.{OffersAll, offered}
+use Rattle.runs.proofs.public.AtOnce.{OffersAll, offered}
 
 -- what a move on the acting side tells of the event
 abbrev Tells : Move → Event → Type 0

@@ -1,7 +1,7 @@
 -- How amounts of branches add up: no less than each, more for more, and in either order.
 use Rattle.std.proofs.Common.{◌≡◌, ℕ, zero, suc, ◌≤◌, refl, subst, arith, le_trans}
 use Rattle.sharing_check.specs.Measure.{sum_together}
-use Rattle.runs.proofs.SharingWidths.{variable_together}
+use Rattle.runs.proofs.public.SharingWidths.{variable_together}
 
 -- what the laws need of `together`
 pub record AddsUp (together : ℕ → ℕ → ℕ) : Type 0 where

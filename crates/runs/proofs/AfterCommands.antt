@@ -10,10 +10,10 @@ use Rattle.runs.specs.Sound.{Sound}
 use Rattle.runs.specs.declared.event.Event.{Event}
 use Rattle.runs.specs.declared.command.Command.{Command}
 use Rattle.runs.specs.declared.command.Reply.{Reply}
-use Rattle.runs.proofs.Lists.{every-in}
-use Rattle.runs.proofs.Tickets.{rising-le, rising-in, rising-one, rising-join, live-left, live-parts}
+use Rattle.runs.proofs.public.Lists.{every-in}
+use Rattle.runs.proofs.public.Tickets.{rising-le, rising-in, rising-one, rising-join, live-left, live-parts}
 use Rattle.runs.proofs.Back.{Back, nothing, keeps, drops, back-all, back-in, back-on, back-parts, back-rising}
-use Rattle.runs.proofs.Effects.{Effect, unchanged, added, taken, answers-effect, effect-sound}
+use Rattle.runs.proofs.public.Effects.{Effect, unchanged, added, taken, answers-effect, effect-sound}
 
 pub record After (o o' : Object) : Type 0 where
   -- what is still live, and what is new

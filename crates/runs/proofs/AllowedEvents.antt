@@ -6,16 +6,16 @@ use Rattle.system.specs.Expression.{Store}
 use Rattle.system.specs.Residual.{Residual}
 use Rattle.runs.specs.Moves.{Move, Local, assigns, tests, turns, sends, receives, syncs, opens, releases, closes}
 use Rattle.runs.specs.Events.{Located, at, sent, Makes, assigning, testing, turning, meeting, opening, opening_without_data, shutting, syncing, store_after}
-use Rattle.runs.specs.walking.Made.{event_of}
+use Rattle.runs.specs.internal.Made.{event_of}
 use Rattle.runs.specs.Steps.{State, Allowed}
-use Rattle.runs.specs.walking.AllowedEvents.{offers, received_by, meets, those, events_alone, events_with, events_together, allowed_events}
+use Rattle.runs.specs.internal.AllowedEvents.{offers, received_by, meets, those, events_alone, events_with, events_together, allowed_events}
 use Rattle.runs.specs.WellFormed.{WellFormed}
 use Rattle.runs.specs.declared.event.Event.{Event}
-use Rattle.runs.proofs.Made.{made-found, made-only}
-use Rattle.runs.proofs.AtOnce.{offered, OffersAll}
-use Rattle.runs.proofs.Together.{together}
+use Rattle.runs.proofs.public.Made.{made-found, made-only}
+use Rattle.runs.proofs.public.AtOnce.{offered, OffersAll}
+use Rattle.runs.proofs.public.Together.{together}
 use Rattle.runs.proofs.Offered.{unvalued, Decided, all-offered, possible, offer-unvalued}
-use Rattle.runs.proofs.Lists.{in-left, in-right, in-parts}
+use Rattle.runs.proofs.public.Lists.{in-left, in-right, in-parts}
 
 in-those-first : (o : Option Event) (e : Event) (rest : List Event) → o ≡ Some e → In e (those o rest)
 in-those-first None e rest h = cc

@@ -5,11 +5,11 @@ use Rattle.runs.specs.Steps.{State, Run}
 use Rattle.runs.specs.Dependence.{Directly, ended, stays, leaves}
 use Rattle.runs.specs.Live.{Live, events, Rising, LiveAt, WithoutTickets}
 use Rattle.runs.specs.declared.event.Event.{Event}
-use Rattle.runs.proofs.WellFormed.{WellFormed}
+use Rattle.runs.proofs.public.WellFormed.{WellFormed}
 use Rattle.runs.proofs.Swap.{step-formed}
-use Rattle.runs.proofs.Orders.{past}
-use Rattle.runs.proofs.Lists.{every-in, every-of}
-use Rattle.runs.proofs.Tickets.{rising-lower, rising-in}
+use Rattle.runs.proofs.public.Orders.{past}
+use Rattle.runs.proofs.public.Lists.{every-in, every-of}
+use Rattle.runs.proofs.public.Tickets.{rising-lower, rising-in}
 
 -- no event of k depends directly on e
 abbrev pub Free : Event → Live → Type 0

@@ -4,7 +4,7 @@ use Rattle.std.proofs.lemmas.List.{append-nil, append_assoc, length-append, leng
 use Rattle.std.proofs.lemmas.Bool.{eq-eqb, ne_eqb}
 use Rattle.syntax.specs.Lists.{In}
 use Rattle.system.specs.Expression.{is_in}
-use Rattle.runs.proofs.SharingWidths.{KeepsSharing}
+use Rattle.runs.proofs.public.SharingWidths.{KeepsSharing}
 use Rattle.runs.specs.Steps.{State, Run}
 use Rattle.runs.specs.Dependence.{Directly}
 use Rattle.runs.specs.Choices.{choice_of}
@@ -17,15 +17,15 @@ use Rattle.runs.specs.Sound.{Sound}
 use Rattle.runs.specs.declared.event.Event.{Event}
 use Rattle.runs.specs.declared.command.Command.{Command}
 use Rattle.runs.specs.declared.command.Reply.{Reply}
-use Rattle.runs.proofs.WellFormed.{WellFormed}
-use Rattle.runs.proofs.Orders.{run-formed, run-part}
+use Rattle.runs.proofs.public.WellFormed.{WellFormed}
+use Rattle.runs.proofs.public.Orders.{run-formed, run-part}
 use Rattle.runs.proofs.KeptSharing.{keeps_sharing_run}
-use Rattle.runs.proofs.Lists.{every-in}
-use Rattle.runs.proofs.Tickets.{rising-le, rising-lower, rising-in, rising-one, rising-join, rising-parts, live-left, live-right, live-parts, events-join}
+use Rattle.runs.proofs.public.Lists.{every-in}
+use Rattle.runs.proofs.public.Tickets.{rising-le, rising-lower, rising-in, rising-one, rising-join, rising-parts, live-left, live-right, live-parts, events-join}
 use Rattle.runs.proofs.Back.{Back, nothing, keeps, drops, dropped, Free, back-in, back-rising}
-use Rattle.runs.proofs.Effects.{sound-formed, reaches-more}
+use Rattle.runs.proofs.public.Effects.{sound-formed, reaches-more}
 use Rattle.runs.proofs.AfterCommands.{After}
-use Rattle.runs.proofs.UndoLaws.{without-one}
+use Rattle.runs.proofs.public.UndoLaws.{without-one}
 use Rattle.runs.proofs.ChoiceMeansOne.{means}
 
 -- commands that are done, and then more

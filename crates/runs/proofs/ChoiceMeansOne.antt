@@ -1,10 +1,10 @@
 -- In a system that shares its channels well a choice means one of the allowed events.
 use Rattle.std.proofs.Common.{◌≡◌, ℕ, List, Bool, Option, Some, None, refl, sym, ◌∙◌, ap, subst}
 use Rattle.std.specs.declared.cmp.Ordering.TheVariants.{Less}
-use Rattle.runs.proofs.SharingWidths.{KeepsSharing}
+use Rattle.runs.proofs.public.SharingWidths.{KeepsSharing}
 use Rattle.address.specs.Order.{order_of}
-use Rattle.address.specs.walking.OrderLaws.{less-not-equal}
-use Rattle.address.proofs.Total.{order-itself}
+use Rattle.address.specs.internal.OrderLaws.{less-not-equal}
+use Rattle.address.proofs.public.Total.{order-itself}
 use Rattle.runs.specs.Events.{Located, Makes, assigning, testing, turning, meeting, opening, opening_without_data, shutting, syncing, acting}
 use Rattle.runs.specs.Steps.{State, Allowed}
 use Rattle.runs.specs.Choices.{choice_of, opened_arm}
@@ -15,7 +15,7 @@ use Rattle.runs.specs.declared.event.Choice.{Choice}
 use Rattle.runs.specs.declared.event.Kind.{Kind}
 use Rattle.runs.specs.declared.event.Kind.TheVariants.{Test, Open}
 use Rattle.runs.proofs.Choices.{one_choice}
-use Rattle.runs.proofs.WellFormed.{WellFormed}
+use Rattle.runs.proofs.public.WellFormed.{WellFormed}
 use Rattle.runs.proofs.Acting.{one_acting}
 use Rattle.runs.proofs.OneEvent.{OneArm}
 

@@ -1,23 +1,23 @@
 -- Of the events allowed in one state, no two have one acting address and open one arm.
 use Rattle.std.proofs.Common.{◌≡◌, ℕ, ◌≤◌, List, [], ◌∷◌, Option, Some, None, true, false, Bool, inl, inr, sym, refl, ap, subst, ◌∙◌, arith}
 use Rattle.address.specs.Places.{Apart}
-use Rattle.address.proofs.Places.{apart-symmetric}
+use Rattle.address.proofs.public.Places.{apart-symmetric}
 use Rattle.system.specs.Expression.{Store}
 use Rattle.system.specs.Residual.{Residual}
 use Rattle.sharing_check.specs.Measure.{sending, syncing}
-use Rattle.runs.proofs.SharingWidths.{KeepsSharing}
+use Rattle.runs.proofs.public.SharingWidths.{KeepsSharing}
 use Rattle.runs.specs.Moves.{Place, Move, sends, receives, syncs, opens, releases, closes}
 use Rattle.runs.specs.Events.{Located, at, Makes, assigning, testing, turning, meeting, opening, opening_without_data, shutting, syncing as syncs_together, places, acting}
 use Rattle.runs.specs.Steps.{State, Step}
 use Rattle.runs.specs.declared.event.Event.{Event}
 use Rattle.runs.specs.declared.event.Kind.{Kind}
 use Rattle.runs.specs.declared.event.Kind.TheVariants.{Sync}
-use Rattle.runs.proofs.WellFormed.{WellFormed}
+use Rattle.runs.proofs.public.WellFormed.{WellFormed}
 use Rattle.runs.proofs.Adding.{sums}
 use Rattle.runs.proofs.Most.{only_least}
 use Rattle.runs.proofs.Clash.{count, clash}
 use Rattle.runs.proofs.Three.{three}
-use Rattle.runs.proofs.AtOnce.{Offers, OffersAll, offered, apart_now}
+use Rattle.runs.proofs.public.AtOnce.{Offers, OffersAll, offered, apart_now}
 use Rattle.runs.proofs.Uses.{only_left}
 use Rattle.runs.proofs.OneEvent.{OneArm, one_event}
 use Rattle.runs.proofs.Acting.{one_acting}

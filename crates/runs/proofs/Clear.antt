@@ -1,5 +1,5 @@
 -- What was done once is behind: each later move is after it or in another branch.
-use Rattle.runs.proofs.Lists.{every-map}
+use Rattle.runs.proofs.public.Lists.{every-map}
 use Rattle.std.proofs.Common.{◌≡◌, ◌⊎◌, inl, inr, ℕ, List, [], ◌∷◌, arith}
 use Rattle.syntax.specs.Lists.{Every}
 use Rattle.runs.specs.Moves.{Place}
@@ -8,9 +8,9 @@ use Rattle.address.specs.declared.Entry.TheVariants.{Ordered, Branch}
 use Rattle.system.specs.Residual.{Residual}
 use Rattle.runs.specs.Events.{Located}
 use Rattle.runs.specs.Steps.{Moves}
-use Rattle.address.proofs.Places.{before-irreflexive, before-asymmetric, before-not-apart, apart-symmetric, apart-irreflexive}
-use Rattle.runs.proofs.WellFormed.{WellFormed}
-use Rattle.runs.proofs.Kept.{formed}
+use Rattle.address.proofs.public.Places.{before-irreflexive, before-asymmetric, before-not-apart, apart-symmetric, apart-irreflexive}
+use Rattle.runs.proofs.public.WellFormed.{WellFormed}
+use Rattle.runs.proofs.public.Kept.{formed}
 use Rattle.runs.proofs.Pair.{pair}
 
 -- a is before b, or in another branch

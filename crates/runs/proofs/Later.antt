@@ -1,5 +1,5 @@
 -- Moves that a residual may make now or later, and where those of a sequence and of a parallel are.
-use Rattle.runs.proofs.Lists.{every-right}
+use Rattle.runs.proofs.public.Lists.{every-right}
 use Rattle.std.proofs.Common.{◌≡◌, ◌⊎◌, ℕ, ◌+◌, List, [], ◌∷◌, ◌++◌, Some, inl, inr, sym, refl, subst, ⊎_elim, arith}
 use Rattle.address.specs.declared.Entry.TheVariants.{Ordered, Branch}
 use Rattle.syntax.specs.Lists.{In}
@@ -8,7 +8,7 @@ use Rattle.address.specs.Places.{Apart}
 use Rattle.system.specs.Residual.{Residual, done, inside, beside, receive, within, along}
 use Rattle.runs.specs.Events.{Located, at}
 use Rattle.runs.specs.Steps.{Moves}
-use Rattle.runs.proofs.WellFormed.{WellFormed, StartsFrom}
+use Rattle.runs.proofs.public.WellFormed.{WellFormed, StartsFrom}
 use Rattle.runs.proofs.Clear.{Clear, ever}
 
 -- after the moves ls, r offers the move n at the place b

@@ -1,60 +1,28 @@
-pub mod Acting
-pub mod Adding
-pub mod After
-pub mod AfterCommands
-pub mod AllowedEvents
-pub mod Amounts
-pub mod AtOnce
-pub mod Back
-pub mod BackThenForth
-pub mod ChoiceMeansOne
-pub mod Choices
-pub mod Clash
-pub mod Clear
-pub mod Decisions
-pub mod Effects
-pub mod Elements
-pub mod DependsOnLaw
-pub mod FromOpening
-pub mod Kept
-pub mod KeptSharing
-pub mod Later
-pub mod Lists
-pub mod Made
-pub mod Most
-pub mod ObjectLaws
-pub mod Offered
-pub mod Once
-pub mod OneEvent
-pub mod OneReplies
-pub mod Opening
-pub mod Options
-pub mod OrderingLaw
-pub mod Orders
-pub mod Pair
-pub mod ReadTests
-pub mod ReadyLists
-pub mod Related
-pub mod Respecting
-pub mod Rollback
-pub mod RolledValue
-pub mod Rule
-pub mod SameCommand
-pub mod SameEvents
-pub mod Sameness
-pub mod SharingWidths
-pub mod Smart
-pub mod SomeReplies
-pub mod SortedLists
-pub mod StateLaws
-pub mod StepOf
-pub mod Stepping
-pub mod Stores
-pub mod Swap
-pub mod Three
-pub mod Tickets
-pub mod Together
-pub mod UndoLaws
-pub mod Uses
-pub mod VariableRule
-pub mod WellFormed
+pub mod public
+mod Acting
+mod Adding
+mod AfterCommands
+mod AllowedEvents
+mod Amounts
+mod Back
+mod BackThenForth
+mod ChoiceMeansOne
+mod Choices
+mod Clash
+mod Clear
+mod KeptSharing
+mod Later
+mod Most
+mod Offered
+mod OneEvent
+mod OrderingLaw
+mod Pair
+mod Related
+mod Rollback
+mod RolledValue
+mod Rule
+mod SameEvents
+mod Smart
+mod Swap
+mod Three
+mod Uses

@@ -9,8 +9,8 @@ use Rattle.std.specs.Prelude.{slice_get, Bool, ◌==◌}
 use Rattle.value.specs.Word.{Word}
 use Rattle.runs.specs.Moves.{Place, Move, Local, assigns, tests, turns, sends, receives, syncs, opens, releases, closes}
 use Rattle.runs.specs.Events.{Located, at}
-use Rattle.runs.specs.walking.AllowedEvents.{behind, opens_from, offers}
-use Rattle.runs.proofs.Lists.{in-left, in-right, in-parts}
+use Rattle.runs.specs.internal.AllowedEvents.{behind, opens_from, offers}
+use Rattle.runs.proofs.public.Lists.{in-left, in-right, in-parts}
 
 -- the move as an offer names it: an open without what it receives
 abbrev pub unvalued : Move → Move

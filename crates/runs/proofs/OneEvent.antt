@@ -1,5 +1,5 @@
 -- Of the events that are possible in one state, no two have the same places and the same arm.
-use Rattle.runs.proofs.AtOnce.{OffersAll, offered}
+use Rattle.runs.proofs.public.AtOnce.{OffersAll, offered}
 use Rattle.std.proofs.Common.{◌≡◌, List, [], ◌∷◌, Some, None, refl, sym, ap, subst, ◌∙◌}
 use Rattle.runs.specs.Moves.{Place, Local}
 use Rattle.system.specs.Expression.{Store, variables, decide, decision_variables, ascending}
@@ -8,8 +8,8 @@ use Rattle.runs.specs.Events.{Located, sent, Makes, places, assigning, testing, 
 use Rattle.runs.specs.Steps.{State, Step}
 use Rattle.runs.specs.declared.event.Event.{Event}
 use Rattle.runs.specs.declared.event.Kind.TheVariants.{Assign, Test, Turn, Meet, Open, Close, Sync}
-use Rattle.runs.proofs.WellFormed.{WellFormed}
-use Rattle.runs.proofs.SameCommand.{SameCommand, same_command}
+use Rattle.runs.proofs.public.WellFormed.{WellFormed}
+use Rattle.runs.proofs.public.SameCommand.{SameCommand, same_command}
 
 -- the moves are at the same places, and of the same commands
 abbrev pub SameCommands : List Located → List Located → Type 0

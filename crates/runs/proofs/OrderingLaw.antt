@@ -2,10 +2,10 @@
 use Rattle.std.proofs.Common.{ℕ, List, [], ◌∷◌, Bool, inl, inr, subst}
 use Rattle.runs.specs.Steps.{State, Step, Run}
 use Rattle.runs.specs.Dependence.{SomeBefore, Earlier}
-use Rattle.runs.proofs.SharingWidths.{KeepsSharing}
+use Rattle.runs.proofs.public.SharingWidths.{KeepsSharing}
 use Rattle.runs.specs.Related.{Related}
 use Rattle.runs.specs.declared.event.Event.{Event}
-use Rattle.runs.proofs.WellFormed.{WellFormed}
+use Rattle.runs.proofs.public.WellFormed.{WellFormed}
 use Rattle.runs.proofs.KeptSharing.{keeps_sharing}
 use Rattle.runs.proofs.Swap.{step-formed}
 use Rattle.runs.proofs.Related.{ordered_now}

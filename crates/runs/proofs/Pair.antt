@@ -6,8 +6,8 @@ use Rattle.address.specs.Places.{Before, Apart}
 use Rattle.address.specs.declared.Entry.TheVariants.{Ordered, Branch}
 use Rattle.system.specs.Residual.{Residual, done, halted, inside, beside, assign, send, receive, sync, held, loop, while, test, choose, closing, drain, within, along, arm_at, opened}
 use Rattle.runs.proofs.Smart.{local_within, within_local, local_along, along_left, along_right}
-use Rattle.runs.proofs.WellFormed.{StartsFrom, WellFormed, starts-within}
-use Rattle.runs.proofs.Kept.{starts-place, branches-place, StartsAt, BranchesAt}
+use Rattle.runs.proofs.public.WellFormed.{StartsFrom, WellFormed, starts-within}
+use Rattle.runs.proofs.public.Kept.{starts-place, branches-place, StartsAt, BranchesAt}
 
 -- the moves m at a and n at b, made in this order from r to q, can be made in the other
 pub record Swapped (r : Residual) (a : Place) (m : Move) (b : Place) (n : Move) (q : Residual) : Type 0 where

@@ -8,20 +8,20 @@ use Rattle.runs.specs.Steps.{State, Moves, Step, Run}
 use Rattle.system.specs.Expression.{Store}
 use Rattle.runs.specs.Dependence.{SomeBefore}
 use Rattle.sharing_check.specs.Measure.{Measure, amount, sending, syncing}
-use Rattle.runs.proofs.SharingWidths.{on_variable, KeepsSharing}
+use Rattle.runs.proofs.public.SharingWidths.{on_variable, KeepsSharing}
 use Rattle.runs.specs.Related.{WritesOwn, Related}
 use Rattle.runs.specs.declared.event.Event.{Event}
-use Rattle.runs.proofs.WellFormed.{WellFormed}
+use Rattle.runs.proofs.public.WellFormed.{WellFormed}
 use Rattle.runs.proofs.Clear.{Clear, ever}
 use Rattle.runs.proofs.Adding.{AddsUp, sums, variables_add_up}
 use Rattle.runs.proofs.Amounts.{kept}
-use Rattle.runs.proofs.Kept.{formed}
-use Rattle.runs.proofs.Once.{moves-join}
-use Rattle.runs.proofs.Lists.{every-in, in-right}
+use Rattle.runs.proofs.public.Kept.{formed}
+use Rattle.runs.proofs.public.Once.{moves-join}
+use Rattle.runs.proofs.public.Lists.{every-in, in-right}
 use Rattle.runs.proofs.Later.{later_of}
 use Rattle.runs.proofs.Clash.{count, clash}
 use Rattle.runs.proofs.Three.{three}
-use Rattle.runs.proofs.AtOnce.{offered_before}
+use Rattle.runs.proofs.public.AtOnce.{offered_before}
 use Rattle.runs.proofs.Uses.{Uses, sender, two, writer, user}
 
 -- the first move is before a later one, or their counts add up

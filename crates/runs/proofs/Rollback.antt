@@ -1,13 +1,13 @@
 -- A list that runs, runs without a set of events that holds all that depends on it.
-use Rattle.runs.proofs.Lists.{every-of}
+use Rattle.runs.proofs.public.Lists.{every-of}
 use Rattle.std.proofs.Common.{◌≡◌, inl, inr, List, [], ◌∷◌, refl, subst}
 use Rattle.syntax.specs.Lists.{Every}
 use Rattle.runs.specs.Steps.{State, Run}
 use Rattle.runs.specs.Dependence.{Directly, Earlier, Causes, itself, onwards, Without, ended, stays, leaves}
 use Rattle.runs.specs.declared.event.Event.{Event}
-use Rattle.runs.proofs.WellFormed.{WellFormed}
+use Rattle.runs.proofs.public.WellFormed.{WellFormed}
 use Rattle.runs.proofs.Swap.{step-formed}
-use Rattle.runs.proofs.Orders.{past}
+use Rattle.runs.proofs.public.Orders.{past}
 
 -- with an event of D, what depends directly on it later in the list is of D
 abbrev pub Closed : (Event → Type 0) → List Event → Type 0

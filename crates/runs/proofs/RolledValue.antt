@@ -8,12 +8,12 @@ use Rattle.runs.specs.Live.{Live, events, Rising, LiveAt, DependsOn, same, Witho
 use Rattle.runs.specs.Object.{Object}
 use Rattle.runs.specs.Sound.{Sound}
 use Rattle.runs.specs.declared.event.Event.{Event}
-use Rattle.runs.proofs.Stores.{get-after}
-use Rattle.runs.proofs.StepOf.{run-determined}
-use Rattle.runs.proofs.Orders.{run-part}
-use Rattle.runs.proofs.Tickets.{rising-parts, rising-in, live-right, events-join}
-use Rattle.runs.proofs.Effects.{sound-formed}
-use Rattle.runs.proofs.DependsOnLaw.{depends-up}
+use Rattle.runs.proofs.public.Stores.{get-after}
+use Rattle.runs.proofs.public.StepOf.{run-determined}
+use Rattle.runs.proofs.public.Orders.{run-part}
+use Rattle.runs.proofs.public.Tickets.{rising-parts, rising-in, live-right, events-join}
+use Rattle.runs.proofs.public.Effects.{sound-formed}
+use Rattle.runs.proofs.public.DependsOnLaw.{depends-up}
 
 -- a live entry, with what stands before and after it
 pub record Split (l : Live) (t : ℕ) (e : Event) : Type 0 where

@@ -9,11 +9,11 @@ use Rattle.system.specs.declared.system.System.{System}
 use Rattle.system.specs.declared.system.Branch.{Branch}
 use Rattle.system.specs.declared.system.Branch.TheVariants.{Feed, Drain, Syncs}
 use Rattle.sharing_check.specs.Measure.{Measure, amount, sum_together, sending, receiving, syncing}
-use Rattle.runs.proofs.SharingWidths.{on_variable, variable_together, KeepsSharing}
+use Rattle.runs.proofs.public.SharingWidths.{on_variable, variable_together, KeepsSharing}
 use Rattle.sharing_check.specs.Rule.{is_sync, is_shared, sender_on, receiver_on, user_on, width, SharesWell}
 use Rattle.runs.proofs.Adding.{AddsUp, sums, variables_add_up}
 use Rattle.runs.proofs.Amounts.{amount_within, amount_along}
-use Rattle.runs.proofs.VariableRule.{variable_rule}
+use Rattle.runs.proofs.public.VariableRule.{variable_rule}
 
 -- a feed counts at most one send
 feed_amount : (M : Measure) (k c w : ℕ) (vs : List Word) → amount M (feed_from k c w vs) ≤ max (M.sends c) (M.holds c)

@@ -5,15 +5,15 @@ use Rattle.runs.specs.Moves.{Place}
 use Rattle.runs.specs.Events.{places}
 use Rattle.runs.specs.Steps.{State, Run}
 use Rattle.runs.specs.Dependence.{Directly, SomeBefore, OnOneChannel, OnOneVariable, WritesFor, Earlier, Causes, itself, onwards, Rearranged, Respecting}
-use Rattle.runs.proofs.SharingWidths.{KeepsSharing}
+use Rattle.runs.proofs.public.SharingWidths.{KeepsSharing}
 use Rattle.runs.proofs.OrderingLaw.{ordered}
-use Rattle.runs.proofs.Respecting.{run-distinct}
-use Rattle.runs.proofs.Elements.{Distinct, rearranged-turned, rearranged-distinct, one-order, either-order}
+use Rattle.runs.proofs.public.Respecting.{run-distinct}
+use Rattle.runs.proofs.public.Elements.{Distinct, rearranged-turned, rearranged-distinct, one-order, either-order}
 use Rattle.runs.specs.Related.{WritesOwn, Related, WritesShared, OnOneShared}
 use Rattle.runs.specs.declared.event.Event.{Event}
-use Rattle.runs.proofs.WellFormed.{WellFormed}
+use Rattle.runs.proofs.public.WellFormed.{WellFormed}
 use Rattle.runs.proofs.Clear.{Clear, clear-not-before}
-use Rattle.runs.proofs.Once.{clear-of}
+use Rattle.runs.proofs.public.Once.{clear-of}
 
 -- the variable written is shared or not
 own-or-shared : (is_shared : ℕ → Bool) (e f : Event) → WritesFor e f → WritesOwn is_shared e f ⊎ WritesShared is_shared e f

@@ -1,5 +1,5 @@
 -- Two neighbours of a run swap unless the second depends directly on the first.
-use Rattle.runs.proofs.Lists.{every-map}
+use Rattle.runs.proofs.public.Lists.{every-map}
 use Rattle.std.proofs.Common.{inl, inr, List, [], ◌∷◌, refl, sym, ◌∙◌, ap, subst}
 use Rattle.syntax.specs.Lists.{In, Every}
 use Rattle.runs.specs.Moves.{Place, Local}
@@ -10,11 +10,11 @@ use Rattle.runs.specs.Events.{Located, places, store_after}
 use Rattle.runs.specs.Steps.{State, Step, Moves}
 use Rattle.runs.specs.Dependence.{Directly}
 use Rattle.runs.specs.declared.event.Event.{Event}
-use Rattle.runs.proofs.WellFormed.{WellFormed}
-use Rattle.runs.proofs.Kept.{formed}
+use Rattle.runs.proofs.public.WellFormed.{WellFormed}
+use Rattle.runs.proofs.public.Kept.{formed}
 use Rattle.runs.proofs.Pair.{pair}
-use Rattle.runs.proofs.Stores.{get-after, after-other}
-use Rattle.runs.proofs.Stepping.{move-places, makes-agree}
+use Rattle.runs.proofs.public.Stores.{get-after, after-other}
+use Rattle.runs.proofs.public.Stepping.{move-places, makes-agree}
 
 -- moves keep a residual well formed
 pub moves-formed : (r q : Residual) (ls : List Located) → WellFormed r → Moves r ls q → WellFormed q

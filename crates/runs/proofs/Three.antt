@@ -6,7 +6,7 @@ use Rattle.address.specs.Places.{Apart}
 use Rattle.system.specs.Residual.{Residual, done, halted, inside, beside, assign, send, receive, sync, held, loop, while, test, choose, closing, drain}
 use Rattle.runs.specs.Events.{Located}
 use Rattle.sharing_check.specs.Measure.{amount, syncing}
-use Rattle.runs.proofs.WellFormed.{WellFormed}
+use Rattle.runs.proofs.public.WellFormed.{WellFormed}
 use Rattle.runs.proofs.Adding.{sums}
 use Rattle.runs.proofs.Later.{Later, later_inside, later_beside, after_child}
 use Rattle.runs.proofs.Clash.{count, counted, later_counted, clash, lone, bare, under_ordered, under_branch}

@@ -19,4 +19,4 @@ pub mod Sound
 pub mod Steps
 pub mod Tests
 pub mod WellFormed
-pub mod walking
+pub mod internal

@@ -124,7 +124,7 @@ impl PartialEq for Event {
     ghost use Rattle.std.specs.Prelude.{◌≡◌, ◌↔◌, IsTrue};
     ghost use Rattle.std.specs.Cmp.{partial_equiv_from_equiv};
     ghost use Rattle.runs.specs.Tests.{same_event};
-    ghost use Rattle.runs.specs.walking.EventLaws.{same_event-equivalence};
+    ghost use Rattle.runs.specs.internal.EventLaws.{same_event-equivalence};
 
     ghost eq = { same_event };
 
@@ -139,7 +139,7 @@ impl PartialEq for Event {
 }
 
 impl Eq for Event {
-    ghost use Rattle.runs.specs.walking.EventLaws.{same_event-equivalence};
+    ghost use Rattle.runs.specs.internal.EventLaws.{same_event-equivalence};
 
     ghost laws = { same_event-equivalence };
 }

@@ -1,6 +1,6 @@
 // The laws of runs, each the contract of a function that does nothing.
 ghost use Rattle.runs.specs.Laws.{NeighboursSwap, RunsWithout, RunsWithoutConsequences, CausesAlone, RespectingOrdersRun, LeadsToOneState, EventsAreDistinct, ActingOnce, EarlierPlaces, RelatedAreOrdered, SameEventsRespect, OrdersDependAlike, RunsDependAlike, OpeningIsWellFormed, StatesAreWellFormed, OneChoice, ApartMovesMeet, ApartMovesWereOffered};
-ghost use Rattle.runs.specs.walking.Agreement.{AllowedAreListed, AllowedWhereFormed, RunAsFunction};
+ghost use Rattle.runs.specs.internal.Agreement.{AllowedAreListed, AllowedWhereFormed, RunAsFunction};
 
 /// Two neighbours of a run swap unless the second depends directly on the first. This is the square lemma of Danos
 /// and Krivine (Reversible Communicating Systems, 2004).

@@ -4,8 +4,8 @@ use Rattle.address.specs.declared.Entry.{Entry}
 use Rattle.address.specs.declared.Entry.TheVariants.{Ordered, Branch}
 use Rattle.address.specs.Places.{Apart}
 use Rattle.syntax.specs.Lists.{In}
-use Rattle.sharing_check.specs.walking.Crossing.{Table, touched_here, noted}
-use Rattle.sharing_check.specs.walking.Gathering.{Gathered, gathered, Gathers}
+use Rattle.sharing_check.specs.internal.Crossing.{Table, touched_here, with_touched}
+use Rattle.sharing_check.specs.internal.Gathering.{Gathered, gathered, Gathers}
 use Rattle.sharing_check.specs.Uses.{VariableUse, farther, behind}
 use Rattle.sharing_check.proofs.FitsParts.{in_left, in_right, in_either, in_behind, from_behind, apart_behind}
 use Rattle.sharing_check.proofs.LeastOffsets.{Reaches}
@@ -63,7 +63,7 @@ adds_nothing shared g d = record {
 
 -- a use at the place itself
 pub adds_use : (shared : ℕ → Bool) (u : VariableUse) (g : Gathered) → u.place ≡ [] → Distinct g.touched →
-    Adds shared (u ∷ []) g (gathered (noted g.touched u.variable (touched_here u.offset u.writes)) g.least)
+    Adds shared (u ∷ []) g (gathered (with_touched g.touched u.variable (touched_here u.offset u.writes)) g.least)
 adds_use shared u g here d = record {
   touched = record {
     distinct = distinct_noted g.touched u.variable (touched_here u.offset u.writes) d;
@@ -90,7 +90,7 @@ adds_use shared u g here d = record {
     shown false false o n h = (refl, h)
 
     found : (x : ℕ) (w : Bool) (n : ℕ) (v : VariableUse) → v ≡ u → x ≡ v.variable → v.writes ≡ w → v.offset ≤ n
-        → Has (noted g.touched u.variable (touched_here u.offset u.writes)) x w n
+        → Has (with_touched g.touched u.variable (touched_here u.offset u.writes)) x w n
     found x w n v is e f h =
         noted_finds g.touched u.variable (touched_here u.offset u.writes) w n x (e ∙ ap (λ (z : VariableUse). z.variable) is)
         (subst (λ b. Reaches (side b (touched_here u.offset u.writes)) n) (sym (ap (λ (z : VariableUse). z.writes) is) ∙ f)

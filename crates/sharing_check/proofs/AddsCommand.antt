@@ -20,7 +20,7 @@ use Rattle.system.specs.declared.command.Labelled.{Labelled}
 use Rattle.system.specs.declared.command.Action.TheOpen.{Action-F}
 use Rattle.system.specs.declared.command.Action.TheFolds.{map-Action, fold-Action, fold-roll-Action, fold-roll-Arm, fold-roll-Command, fold-roll-Guarded, fold-roll-Labelled, ind-Command}
 use Rattle.system.specs.declared.command.Action.TheViews.{roll-Action, roll-Arm, roll-Command, roll-Guarded, roll-Labelled}
-use Rattle.sharing_check.specs.walking.Gathering.{gathered, Gathers, mentioned, reading, reading_layer, in_turn, side_by_side, gathering_layer, arm_layer, command_layer, guarded_layer, labelled_layer, gathering, gathering_arm, gathering_guarded, gathering_labelled}
+use Rattle.sharing_check.specs.internal.Gathering.{gathered, Gathers, mentioned, reading, reading_layer, in_turn, side_by_side, gathering_layer, arm_layer, command_layer, guarded_layer, labelled_layer, gathering, gathering_arm, gathering_guarded, gathering_labelled}
 use Rattle.sharing_check.specs.Refusal.{ClashesAt, Least}
 use Rattle.sharing_check.specs.Uses.{VariableUse, here, named, named_layer, numbered, reads, uses_layer, arm_uses, command_uses, guarded_uses, labelled_uses, uses_of}
 use Rattle.sharing_check.proofs.Adds.{ClashIn, Adds, Good, Unrelated, adds_equal, adds_nothing, adds_use, adds_both}

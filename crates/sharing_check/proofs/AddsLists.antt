@@ -4,7 +4,7 @@ use Rattle.address.specs.declared.Entry.{Entry}
 use Rattle.address.specs.declared.Entry.TheVariants.{Ordered}
 use Rattle.address.specs.Places.{Apart}
 use Rattle.syntax.specs.Lists.{In}
-use Rattle.sharing_check.specs.walking.Gathering.{Gathers, in_turn}
+use Rattle.sharing_check.specs.internal.Gathering.{Gathers, in_turn}
 use Rattle.sharing_check.specs.Uses.{VariableUse, behind, numbered}
 use Rattle.sharing_check.proofs.FitsParts.{in_either, from_behind}
 use Rattle.sharing_check.proofs.Adds.{Good, Unrelated, adds_nothing, adds_both, adds_behind}

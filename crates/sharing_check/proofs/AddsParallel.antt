@@ -6,8 +6,8 @@ use Rattle.address.specs.declared.Entry.TheVariants.{Branch}
 use Rattle.address.specs.Places.{Apart}
 use Rattle.syntax.specs.Lists.{In}
 use Rattle.system.specs.declared.system.Variable.{Variable}
-use Rattle.sharing_check.specs.walking.Crossing.{Table}
-use Rattle.sharing_check.specs.walking.Gathering.{Gathered, gathered, put_back, beside, all_beside, side_by_side}
+use Rattle.sharing_check.specs.internal.Crossing.{Table}
+use Rattle.sharing_check.specs.internal.Gathering.{Gathered, gathered, put_back, beside, all_beside, side_by_side}
 use Rattle.sharing_check.specs.Uses.{VariableUse, behind, numbered}
 use Rattle.sharing_check.proofs.Adds.{ClashIn, UsedAt, Touches, Adds, Good, adds_behind, adds_nothing, used_left, used_right, used_either, clash_left, clash_right}
 use Rattle.sharing_check.proofs.AddsLists.{Part, gathers_of, uses_of_parts}

@@ -8,7 +8,7 @@ use Rattle.std.specs.Map.{keys_of, lookup}
 use Rattle.sharing_check.specs.declared.widths.Together.{Together}
 use Rattle.sharing_check.specs.declared.widths.Together.TheVariants.{InOneBranch, InBranches}
 use Rattle.sharing_check.specs.declared.widths.Width.{Width}
-use Rattle.sharing_check.specs.walking.Counting.{Side, senders, receivers, users, Table, cut, nothing, joined, join, no_use, join_widths, of_side, stored, listed, uses}
+use Rattle.sharing_check.specs.internal.Counting.{Side, senders, receivers, users, Table, cut, nothing, joined, join, no_use, join_widths, of_side, stored, listed, uses}
 
 -- tables that agree everywhere
 pub same_table : (f g : Table) → ((side : Side) (c : ℕ) → f side c ≡ g side c) → f ≡ g

@@ -1,6 +1,6 @@
 -- Offsets that may be missing, and the lesser of two.
 use Rattle.std.proofs.Common.{◌⊎◌, inl, inr, ⊎_elim, ℕ, zero, suc, ◌≤◌, ◌<◌, min, Option, None, Some, arith}
-use Rattle.sharing_check.specs.walking.Crossing.{lesser}
+use Rattle.sharing_check.specs.internal.Crossing.{lesser}
 
 pub at_most : (a n : ℕ) → (a ≤ n) ⊎ (n < a)
 at_most zero n = inl (omega arith)

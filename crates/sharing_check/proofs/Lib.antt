@@ -4,9 +4,9 @@ mod AddsCommand
 mod AddsLists
 mod AddsParallel
 mod CountLeast
-pub mod CountParts
+mod CountParts
 mod CountSystem
-pub mod CountTables
+mod CountTables
 mod FitsLists
 mod FitsParts
 mod LeastOffsets

@@ -3,8 +3,8 @@ use Rattle.std.proofs.Common.{◌≡◌, ◌⊎◌, inl, inr, ⊎_elim, ℕ, Lis
 use Rattle.syntax.specs.Lists.{In}
 use Rattle.system.specs.declared.system.Variable.{Variable}
 use Rattle.sharing_check.specs.declared.touched.Touched.{Touched}
-use Rattle.sharing_check.specs.walking.Crossing.{Table, lesser, together, clashing, clash, touched_at, noted, least_after, least_with}
-use Rattle.sharing_check.specs.walking.Gathering.{Gathered, joined}
+use Rattle.sharing_check.specs.internal.Crossing.{Table, lesser, together, clashing, clash, touched_at, with_touched, least_after, least_with}
+use Rattle.sharing_check.specs.internal.Gathering.{Gathered, joined}
 use Rattle.sharing_check.specs.Rule.{is_shared_variable}
 use Rattle.sharing_check.proofs.LeastOffsets.{Reaches, lesser_left, lesser_right, lesser_either}
 use Rattle.sharing_check.proofs.TouchTables.{Distinct, side, entry_in, touched_entry, touched_noted}
@@ -70,7 +70,7 @@ module _ (variables : List Variable) where
 
   -- what another entry notes does not change what the table has of a variable
   meets_behind : (d e : ℕ × Touched) (es t : Table) (n : ℕ) → Distinct (d ∷ es) → In e es
-      → touched_at (noted t d.0 d.1) e.0 ≡ touched_at t e.0
+      → touched_at (with_touched t d.0 d.1) e.0 ≡ touched_at t e.0
   meets_behind d e es t n h i =
       touched_noted t d.0 d.1 e.0 ∙ ap (λ b. cond b (together (touched_at t d.0) d.1) (touched_at t e.0)) (h.0 e i)
 
@@ -80,7 +80,7 @@ module _ (variables : List Variable) where
 
     least_keeps : (es t : Table) (l : Option ℕ) → Reaches l n → Reaches (least_with variables es t l) n
     least_keeps [] t l h = h
-    least_keeps (e ∷ es) t l h = least_keeps es (noted t e.0 e.1) (least_after variables t l e) (go (shared_in e.0))
+    least_keeps (e ∷ es) t l h = least_keeps es (with_touched t e.0 e.1) (least_after variables t l e) (go (shared_in e.0))
       where
         go : (shared : Bool) → After t l e shared
         go true = h
@@ -89,12 +89,12 @@ module _ (variables : List Variable) where
     least_finds : (es t : Table) (l : Option ℕ) → Distinct es → EntriesMeet es t n → Reaches (least_with variables es t l) n
     least_finds [] t l d h = absurd h.1
     least_finds (e ∷ es) t l d (f, inl is, clear, m) =
-        least_keeps es (noted t e.0 e.1) (least_after variables t l e)
+        least_keeps es (with_touched t e.0 e.1) (least_after variables t l e)
         (subst (λ (z : ℕ × Touched). Reaches (least_after variables t l z) n) is
         (subst (λ b. After t l f b) (sym clear)
         (lesser_right l (clash (touched_at t f.0) f.1) n (clash_finds (touched_at t f.0) f.1 n m))))
     least_finds (e ∷ es) t l d (f, inr i, clear, m) =
-        least_finds es (noted t e.0 e.1) (least_after variables t l e) d.1
+        least_finds es (with_touched t e.0 e.1) (least_after variables t l e) d.1
         (f, i, clear, subst (λ (z : Touched). Meet z f.1 n) (sym (meets_behind e f es t n d i)) m)
 
     least_from : (es t : Table) (l : Option ℕ) → Distinct es → Reaches (least_with variables es t l) n → Reaches l n ⊎ EntriesMeet es t n
@@ -103,7 +103,7 @@ module _ (variables : List Variable) where
         ⊎_elim
         (λ k. go (shared_in e.0) refl k)
         (λ k. inr (k.0, inr k.1, k.2, subst (λ (z : Touched). Meet z k.0.1 n) (meets_behind e k.0 es t n d k.1) k.3))
-        (least_from es (noted t e.0 e.1) (least_after variables t l e) d.1 h)
+        (least_from es (with_touched t e.0 e.1) (least_after variables t l e) d.1 h)
       where
         go : (shared : Bool) → shared_in e.0 ≡ shared → After t l e shared → Reaches l n ⊎ EntriesMeet (e ∷ es) t n
         go true is k = inl k

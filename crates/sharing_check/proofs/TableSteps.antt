@@ -6,7 +6,7 @@ use Rattle.std.specs.Map.{lookup, set_value}
 use Rattle.indexmap.specs.IndexMap.{insert_entry}
 use Rattle.system.specs.declared.system.Variable.{Variable}
 use Rattle.sharing_check.specs.declared.touched.Touched.{Touched}
-use Rattle.sharing_check.specs.walking.Crossing.{Table, together, nowhere, touched_at, noted, noted_all, clash, with_clash, least_with}
+use Rattle.sharing_check.specs.internal.Crossing.{Table, together, nowhere, touched_at, with_touched, noted_all, clash, with_clash, least_with}
 
 -- what is put in the place of an entry's value is inserted
 set_inserts : (x : ℕ) (v w : Touched) (t : Table) → lookup (nat_eq x) t ≡ Some v → set_value (nat_eq x) t w ≡ insert_entry nat_eq t x w
@@ -20,7 +20,7 @@ set_inserts x v w (e ∷ t) found = go (λ here. set_inserts x v w t here) (nat_
 
 -- where a variable was touched before, more is noted in its place
 pub added_in_place : (old new : Table) (x : ℕ) (s before both : Touched) (found : Option Touched)
-    → new ≡ set_value (nat_eq x) old both → both ≡ together before s → found ≡ lookup (nat_eq x) old → found ≡ Some before → new ≡ noted old x s
+    → new ≡ set_value (nat_eq x) old both → both ≡ together before s → found ≡ lookup (nat_eq x) old → found ≡ Some before → new ≡ with_touched old x s
 added_in_place old new x s before both found e is at some =
     e
     ∙ (set_inserts x before both old (sym at ∙ some)
@@ -32,18 +32,18 @@ drop_entry es i e h =
     at_drop_more (λ xs. xs) es i e (slice_get_within es i e h)
     ∙ ap (λ d. d ∷ drop (i + 1) es) (get_or_from_slice_get es i e e h)
 
-pub noted_step : (es old new : Table) (i x : ℕ) (s : Touched) → slice_get es i ≡ Some (x, s) → new ≡ noted old x s
+pub noted_step : (es old new : Table) (i x : ℕ) (s : Touched) → slice_get es i ≡ Some (x, s) → new ≡ with_touched old x s
     → noted_all (drop (i + 1) es) new ≡ noted_all (drop i es) old
 noted_step es old new i x s h is =
     ap (noted_all (drop (i + 1) es)) is ∙ ap (λ xs. noted_all xs old) (sym (drop_entry es i (x, s) h))
 
 pub least_step : (variables : List Variable) (es old new : Table) (i x : ℕ) (s before : Touched) (offset least less : Option ℕ)
-    → slice_get es i ≡ Some (x, s) → new ≡ noted old x s → before ≡ touched_at old x → offset ≡ clash before s
+    → slice_get es i ≡ Some (x, s) → new ≡ with_touched old x s → before ≡ touched_at old x → offset ≡ clash before s
     → less ≡ with_clash variables x offset least
     → least_with variables (drop (i + 1) es) new less ≡ least_with variables (drop i es) old least
 least_step variables es old new i x s before offset least less h is at clashes lesser =
     ap (λ t. least_with variables (drop (i + 1) es) t less) is
-    ∙ (ap (least_with variables (drop (i + 1) es) (noted old x s))
+    ∙ (ap (least_with variables (drop (i + 1) es) (with_touched old x s))
     (lesser ∙ ap (λ o. with_clash variables x o least) (clashes ∙ ap (λ b. clash b s) at))
     ∙ ap (λ xs. least_with variables xs old least) (sym (drop_entry es i (x, s) h)))
 

@@ -4,8 +4,8 @@ use Rattle.std.specs.Map.{lookup}
 use Rattle.indexmap.specs.IndexMap.{insert_entry}
 use Rattle.syntax.specs.Lists.{In}
 use Rattle.sharing_check.specs.declared.touched.Touched.{Touched}
-use Rattle.sharing_check.specs.walking.Crossing.{Table, lesser, nowhere, together, touched_at, noted, noted_all}
-use Rattle.sharing_check.specs.walking.Gathering.{in_one}
+use Rattle.sharing_check.specs.internal.Crossing.{Table, lesser, nowhere, together, touched_at, with_touched, noted_all}
+use Rattle.sharing_check.specs.internal.Gathering.{in_one}
 use Rattle.sharing_check.proofs.LeastOffsets.{Reaches, lesser_left, lesser_right, lesser_either}
 
 -- the value at a key after an insertion
@@ -26,7 +26,7 @@ lookup_inserted k v q (e ∷ es) = go (lookup_inserted k v q es) (nat_eq k e.0) 
         (ap (cond (nat_eq q e.0) (Some e.1)) (rest ∙ ap (λ d. cond d (Some v) (lookup (nat_eq q) es)) other)))
 
 -- where a variable is touched after more is noted
-pub touched_noted : (t : Table) (x : ℕ) (s : Touched) (y : ℕ) → touched_at (noted t x s) y ≡ cond (nat_eq y x) (together (touched_at t x) s) (touched_at t y)
+pub touched_noted : (t : Table) (x : ℕ) (s : Touched) (y : ℕ) → touched_at (with_touched t x s) y ≡ cond (nat_eq y x) (together (touched_at t x) s) (touched_at t y)
 touched_noted t x s y =
     ap (λ o. unwrap_or o nowhere) (lookup_inserted x (together (touched_at t x) s) y t)
     ∙ out (nat_eq y x) (together (touched_at t x) s) (lookup (nat_eq y) t)
@@ -67,12 +67,12 @@ distinct_inserted k v (d ∷ t) h = go (distinct_inserted k v t h.1) (nat_eq k d
       rest,
     )
 
-pub distinct_noted : (t : Table) (x : ℕ) (s : Touched) → Distinct t → Distinct (noted t x s)
+pub distinct_noted : (t : Table) (x : ℕ) (s : Touched) → Distinct t → Distinct (with_touched t x s)
 distinct_noted t x s h = distinct_inserted x (together (touched_at t x) s) t h
 
 distinct_all : (es t : Table) → Distinct t → Distinct (noted_all es t)
 distinct_all [] t h = h
-distinct_all (e ∷ es) t h = distinct_all es (noted t e.0 e.1) (distinct_noted t e.0 e.1 h)
+distinct_all (e ∷ es) t h = distinct_all es (with_touched t e.0 e.1) (distinct_noted t e.0 e.1 h)
 
 -- an entry has what the table has of its variable, where no other one has it
 pub touched_entry : (t : Table) (e : ℕ × Touched) → Distinct t → In e t → touched_at t e.0 ≡ e.1
@@ -113,7 +113,7 @@ entry_in (e ∷ t) x w n h = go (λ k. entry_in t x w n k) (nat_eq x e.0) refl h
     go rest false is k = inr (rest k)
 
 module _ (t : Table) (x : ℕ) (s : Touched) (w : Bool) (n : ℕ) where
-  pub noted_keeps : (y : ℕ) → Has t y w n → Has (noted t x s) y w n
+  pub noted_keeps : (y : ℕ) → Has t y w n → Has (with_touched t x s) y w n
   noted_keeps y h = subst (λ (z : Touched). Reaches (side w z) n) (sym (touched_noted t x s y)) (go (nat_eq y x) refl)
     where
       go : (b : Bool) → nat_eq y x ≡ b → Reaches (side w (cond b (together (touched_at t x) s) (touched_at t y))) n
@@ -122,13 +122,13 @@ module _ (t : Table) (x : ℕ) (s : Touched) (w : Bool) (n : ℕ) where
           (lesser_left (side w (touched_at t x)) (side w s) n (subst (λ z. Has t z w n) (eqb-true y x is) h))
       go false is = h
 
-  pub noted_finds : (y : ℕ) → y ≡ x → Reaches (side w s) n → Has (noted t x s) y w n
+  pub noted_finds : (y : ℕ) → y ≡ x → Reaches (side w s) n → Has (with_touched t x s) y w n
   noted_finds y is h =
       subst (λ (z : Touched). Reaches (side w z) n) (sym (touched_noted t x s y))
       (subst (λ b. Reaches (side w (cond b (together (touched_at t x) s) (touched_at t y))) n) (sym (eq-eqb y x is))
       (subst (λ o. Reaches o n) (sym (side_together w (touched_at t x) s)) (lesser_right (side w (touched_at t x)) (side w s) n h)))
 
-  pub noted_from : (y : ℕ) → Has (noted t x s) y w n → Has t y w n ⊎ ((y ≡ x) × Reaches (side w s) n)
+  pub noted_from : (y : ℕ) → Has (with_touched t x s) y w n → Has t y w n ⊎ ((y ≡ x) × Reaches (side w s) n)
   noted_from y h = go (nat_eq y x) refl (subst (λ (z : Touched). Reaches (side w z) n) (touched_noted t x s y) h)
     where
       go : (b : Bool) → nat_eq y x ≡ b → Reaches (side w (cond b (together (touched_at t x) s) (touched_at t y))) n → Has t y w n ⊎ ((y ≡ x) × Reaches (side w s) n)
@@ -142,14 +142,14 @@ module _ (t : Table) (x : ℕ) (s : Touched) (w : Bool) (n : ℕ) where
 module _ (y : ℕ) (w : Bool) (n : ℕ) where
   all_keeps : (es t : Table) → Has t y w n → Has (noted_all es t) y w n
   all_keeps [] t h = h
-  all_keeps (e ∷ es) t h = all_keeps es (noted t e.0 e.1) (noted_keeps t e.0 e.1 w n y h)
+  all_keeps (e ∷ es) t h = all_keeps es (with_touched t e.0 e.1) (noted_keeps t e.0 e.1 w n y h)
 
   all_finds : (es t : Table) (s : Touched) → In (y, s) es → Reaches (side w s) n → Has (noted_all es t) y w n
   all_finds [] t s i h = absurd i
   all_finds (e ∷ es) t s (inl is) h =
-      all_keeps es (noted t e.0 e.1)
-      (subst (λ (z : ℕ × Touched). Has (noted t z.0 z.1) y w n) is (noted_finds t y s w n y refl h))
-  all_finds (e ∷ es) t s (inr i) h = all_finds es (noted t e.0 e.1) s i h
+      all_keeps es (with_touched t e.0 e.1)
+      (subst (λ (z : ℕ × Touched). Has (with_touched t z.0 z.1) y w n) is (noted_finds t y s w n y refl h))
+  all_finds (e ∷ es) t s (inr i) h = all_finds es (with_touched t e.0 e.1) s i h
 
   all_from : (es t : Table) → Distinct es → Has (noted_all es t) y w n → Has t y w n ⊎ Has es y w n
   all_from [] t d h = inl h
@@ -157,7 +157,7 @@ module _ (y : ℕ) (w : Bool) (n : ℕ) where
       ⊎_elim
       (λ k. ⊎_elim (λ m. inl m) (λ m. inr (first m.0 m.1)) (noted_from t e.0 e.1 w n y k))
       (λ k. inr (later k))
-      (all_from es (noted t e.0 e.1) d.1 h)
+      (all_from es (with_touched t e.0 e.1) d.1 h)
     where
       first : y ≡ e.0 → Reaches (side w e.1) n → Has (e ∷ es) y w n
       first is m = subst (λ b. Reaches (side w (unwrap_or (cond b (Some e.1) (lookup (nat_eq y) es)) nowhere)) n) (sym (eq-eqb y e.0 is)) m

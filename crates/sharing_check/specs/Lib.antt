@@ -4,4 +4,4 @@ pub mod Refusal
 pub mod Rule
 pub mod Sharing
 pub mod Uses
-pub mod walking
+pub mod internal

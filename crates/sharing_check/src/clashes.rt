@@ -2,7 +2,7 @@
 // together the smaller one's entries move, so that each moves no oftener than the logarithm of their number.
 ghost use Rattle.std.specs.Prelude.{◌≡◌, ◌≤◌, ℕ, map, IfOk, MatchOption};
 ghost use Rattle.std.specs.Option.{option_map};
-ghost use Rattle.sharing_check.specs.walking.Gathering as model;
+ghost use Rattle.sharing_check.specs.internal.Gathering as model;
 ghost use Rattle.sharing_check.specs.Refusal.{ClashesAt, Least};
 
 use crate::found::Found;

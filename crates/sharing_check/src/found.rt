@@ -1,6 +1,6 @@
 ghost use Rattle.std.specs.Prelude.{◌≡◌, [], None, IfOk};
 ghost use Rattle.std.specs.Option.{IfSome};
-ghost use Rattle.sharing_check.specs.walking.Gathering as model;
+ghost use Rattle.sharing_check.specs.internal.Gathering as model;
 
 use crate::touched::Touched;
 use crate::touches::{Touches, put_larger_first};
@@ -22,7 +22,7 @@ pub struct Found {
 impl Model for Found {
     ghost use Rattle.std.specs.Prelude.{◌≡◌, []};
     ghost use Rattle.std.specs.Option.{IfSome};
-    ghost use Rattle.sharing_check.specs.walking.Gathering.{Gathered, gathered};
+    ghost use Rattle.sharing_check.specs.internal.Gathering.{Gathered, gathered};
 
     ghost Value = { Gathered };
 

@@ -5,7 +5,7 @@ mod checked;
 mod clashes;
 mod found;
 mod laws;
-mod naming;
+mod names;
 mod places;
 mod touched;
 mod touches;

@@ -1,5 +1,5 @@
 ghost use Rattle.std.specs.Prelude.{◌≡◌};
-ghost use Rattle.sharing_check.specs.walking.Crossing as model;
+ghost use Rattle.sharing_check.specs.internal.Crossing as model;
 
 /// The least offsets in bytes, in the source, at which a variable is read and written; none where it is not.
 #[derive(Clone, Copy)]

@@ -1,5 +1,5 @@
 ghost use Rattle.std.specs.Prelude.{◌≡◌, [], length, IfOk, OnOk, slice_get};
-ghost use Rattle.sharing_check.specs.walking.Crossing as model;
+ghost use Rattle.sharing_check.specs.internal.Crossing as model;
 ghost use Rattle.sharing_check.specs.Rule.{is_shared_variable};
 
 use crate::touched::{Touched, lesser};
@@ -19,7 +19,7 @@ pub struct Touches {
 }
 
 impl Model for Touches {
-    ghost use Rattle.sharing_check.specs.walking.Crossing.{Table};
+    ghost use Rattle.sharing_check.specs.internal.Crossing.{Table};
 
     ghost Value = { Table };
 
@@ -69,7 +69,7 @@ impl Touches {
     /// Adds where the variable is touched, and answers where it was touched before.
     pub fn add(&mut self, variable: u32, touched: Touched) -> Result<Touched, AllocError>
         ensures before { IfOk result (λ before. before ≡ model.touched_at self.old variable) }
-        ensures added { OnOk result (self.new ≡ model.noted self.old variable touched) }
+        ensures added { OnOk result (self.new ≡ model.with_touched self.old variable touched) }
     {
         if let Some(held) = self.by_variable.get_mut(&variable) {
             let before = *held;

@@ -6,8 +6,8 @@ ghost use Rattle.std.specs.Prelude.{◌≡◌, ℕ, None, nat_eq, map, IfOk, OnO
 ghost use Rattle.std.specs.Option.{option_map};
 ghost use Rattle.indexmap.specs.IndexMap.{IsUnique};
 ghost use Rattle.system.specs.Translation.{residual_of};
-ghost use Rattle.system.specs.walking.ArmParts.{guarded_of, labelled_of, arm_of};
-ghost use Rattle.sharing_check.specs.walking.Counting as model;
+ghost use Rattle.system.specs.internal.ArmParts.{guarded_of, labelled_of, arm_of};
+ghost use Rattle.sharing_check.specs.internal.Counting as model;
 ghost use Rattle.sharing_check.specs.Rule.{is_sync};
 ghost use Rattle.sharing_check.specs.Refusal.{PassesAt, Least};
 
@@ -93,7 +93,7 @@ struct Widths {
 impl Widths {
     /// No uses.
     fn new(alloc: Global) -> Widths
-        ensures { model.noted result ≡ model.nothing }
+        ensures { model.table_of_widths result ≡ model.nothing }
     {
         Widths {
             by_channel: IndexMap::new(alloc),
@@ -112,8 +112,8 @@ impl Widths {
 
     /// Adds uses of the channel.
     fn add(&mut self, how: Together, channel: u32, width: Width) -> Result<(), AllocError>
-        ensures { OnOk result (model.noted self.new
-            ≡ model.join how (model.noted self.old) (model.uses channel width)) }
+        ensures { OnOk result (model.table_of_widths self.new
+            ≡ model.join how (model.table_of_widths self.old) (model.uses channel width)) }
     {
         let width = self.of(channel).join(how, width);
         self.by_channel.insert(channel, width)?;
@@ -122,7 +122,8 @@ impl Widths {
 
     /// Adds each of the uses.
     fn add_each(&mut self, how: Together, other: &Widths) -> Result<(), AllocError>
-        ensures { OnOk result (model.noted self.new ≡ model.join how (model.noted self.old) (model.noted other.now)) }
+        ensures { OnOk result (model.table_of_widths self.new
+            ≡ model.join how (model.table_of_widths self.old) (model.table_of_widths other.now)) }
     {
         for (channel, width) in &other.by_channel {
             self.add(how, *channel, *width)?;
@@ -132,7 +133,7 @@ impl Widths {
 
     /// Forgets all uses. A table of few keeps its memory: to empty a large one takes long.
     fn clear(&mut self)
-        ensures { model.noted self.new ≡ model.nothing }
+        ensures { model.table_of_widths self.new ≡ model.nothing }
     {
         if self.by_channel.len() > FEW {
             *self = Widths::new(*self.by_channel.allocator());
@@ -144,9 +145,9 @@ impl Widths {
     /// Puts both together, and leaves the other one without uses, so that its memory serves again.
     #[tactic(auto, using(crate::proofs::CountTables::join_swaps))]
     fn merge(&mut self, how: Together, other: &mut Widths) -> Result<(), AllocError>
-        ensures merged { OnOk result (model.noted self.new
-            ≡ model.join how (model.noted self.old) (model.noted other.old)) }
-        ensures emptied { OnOk result (model.noted other.new ≡ model.nothing) }
+        ensures merged { OnOk result (model.table_of_widths self.new
+            ≡ model.join how (model.table_of_widths self.old) (model.table_of_widths other.old)) }
+        ensures emptied { OnOk result (model.table_of_widths other.new ≡ model.nothing) }
     {
         put_larger_first(self, other);
         self.add_each(how, other)?;
@@ -168,7 +169,8 @@ fn put_larger_first(one: &mut Widths, other: &mut Widths)
 /// Adds the uses of a command.
 #[cycle(widths)]
 fn add_command(alloc: Global, command: &Command, widths: &mut Widths) -> Result<(), AllocError>
-    ensures { OnOk result (model.noted widths.new ≡ model.adding (model.noted widths.old) (residual_of command.now)) }
+    ensures { OnOk result (model.table_of_widths widths.new
+        ≡ model.adding (model.table_of_widths widths.old) (residual_of command.now)) }
 {
     let one = Together::InOneBranch;
     match command.action.get() {
@@ -202,8 +204,8 @@ fn add_command(alloc: Global, command: &Command, widths: &mut Widths) -> Result<
 /// Adds the uses of commands in one branch.
 #[cycle(widths)]
 fn add_commands(alloc: Global, commands: &[Command], widths: &mut Widths) -> Result<(), AllocError>
-    ensures { OnOk result (model.noted widths.new
-        ≡ model.in_turn (model.noted widths.old) (map residual_of commands.now)) }
+    ensures { OnOk result (model.table_of_widths widths.new
+        ≡ model.in_turn (model.table_of_widths widths.old) (map residual_of commands.now)) }
 {
     for command in commands {
         add_command(alloc, command, widths)?;
@@ -214,8 +216,8 @@ fn add_commands(alloc: Global, commands: &[Command], widths: &mut Widths) -> Res
 /// Adds the uses of the arms of an `if`.
 #[cycle(widths)]
 fn add_guarded(alloc: Global, arms: &[Guarded], widths: &mut Widths) -> Result<(), AllocError>
-    ensures { OnOk result (model.noted widths.new
-        ≡ model.in_turn (model.noted widths.old) (map (λ a. a.body) (map guarded_of arms.now))) }
+    ensures { OnOk result (model.table_of_widths widths.new
+        ≡ model.in_turn (model.table_of_widths widths.old) (map (λ a. a.body) (map guarded_of arms.now))) }
 {
     for arm in arms {
         add_command(alloc, &arm.body, widths)?;
@@ -226,8 +228,8 @@ fn add_guarded(alloc: Global, arms: &[Guarded], widths: &mut Widths) -> Result<(
 /// Adds the uses of the arms of a `case`.
 #[cycle(widths)]
 fn add_labelled(alloc: Global, arms: &[Labelled], widths: &mut Widths) -> Result<(), AllocError>
-    ensures { OnOk result (model.noted widths.new
-        ≡ model.in_turn (model.noted widths.old) (map (λ a. a.body) (map labelled_of arms.now))) }
+    ensures { OnOk result (model.table_of_widths widths.new
+        ≡ model.in_turn (model.table_of_widths widths.old) (map (λ a. a.body) (map labelled_of arms.now))) }
 {
     for arm in arms {
         add_command(alloc, &arm.body, widths)?;
@@ -238,7 +240,8 @@ fn add_labelled(alloc: Global, arms: &[Labelled], widths: &mut Widths) -> Result
 /// Adds the uses of the arms of a `select` or an `arbitrate`, each with the input that opens it.
 #[cycle(widths)]
 fn add_arms(alloc: Global, arms: &[Arm], widths: &mut Widths) -> Result<(), AllocError>
-    ensures { OnOk result (model.noted widths.new ≡ model.arms_in_turn (model.noted widths.old) (map arm_of arms.now)) }
+    ensures { OnOk result (model.table_of_widths widths.new
+        ≡ model.arms_in_turn (model.table_of_widths widths.old) (map arm_of arms.now)) }
 {
     for arm in arms {
         widths.add(Together::InOneBranch, arm.channel.number, Width::RECEIVE)?;
@@ -250,8 +253,8 @@ fn add_arms(alloc: Global, arms: &[Arm], widths: &mut Widths) -> Result<(), Allo
 /// Adds the uses of what stands behind an `else`.
 #[cycle(widths)]
 fn add_last(alloc: Global, last: &Option<Command>, widths: &mut Widths) -> Result<(), AllocError>
-    ensures { OnOk result (model.noted widths.new
-        ≡ model.last_in_turn (model.noted widths.old) (option_map residual_of last.now)) }
+    ensures { OnOk result (model.table_of_widths widths.new
+        ≡ model.last_in_turn (model.table_of_widths widths.old) (option_map residual_of last.now)) }
 {
     match last {
         Some(body) => add_command(alloc, body, widths),
@@ -263,7 +266,7 @@ fn add_last(alloc: Global, last: &Option<Command>, widths: &mut Widths) -> Resul
 #[cycle(widths)]
 fn of_branches(alloc: Global, children: &[Command]) -> Result<Widths, AllocError>
     ensures { IfOk result (λ widths.
-        model.noted widths ≡ model.side_by_side model.nothing (map residual_of children.now)) }
+        model.table_of_widths widths ≡ model.side_by_side model.nothing (map residual_of children.now)) }
 {
     let mut widths = Widths::new(alloc);
     let mut branch = Widths::new(alloc);
@@ -278,15 +281,15 @@ fn of_branches(alloc: Global, children: &[Command]) -> Result<Widths, AllocError
 #[cycle(widths)]
 #[tactic(auto, using(crate::proofs::CountTables::join_nothing))]
 fn put_command(alloc: Global, command: &Command, widths: &mut Widths) -> Result<(), AllocError>
-    requires { model.noted widths.old ≡ model.nothing }
-    ensures { OnOk result (model.noted widths.new ≡ model.used_by (residual_of command.now)) }
+    requires { model.table_of_widths widths.old ≡ model.nothing }
+    ensures { OnOk result (model.table_of_widths widths.new ≡ model.used_by (residual_of command.now)) }
 {
     add_command(alloc, command, widths)
 }
 
 /// The uses of a command.
 fn of_command(alloc: Global, command: &Command) -> Result<Widths, AllocError>
-    ensures { IfOk result (λ widths. model.noted widths ≡ model.used_by (residual_of command.now)) }
+    ensures { IfOk result (λ widths. model.table_of_widths widths ≡ model.used_by (residual_of command.now)) }
 {
     let mut widths = Widths::new(alloc);
     put_command(alloc, command, &mut widths)?;
@@ -295,7 +298,8 @@ fn of_command(alloc: Global, command: &Command) -> Result<Widths, AllocError>
 
 /// Adds the uses of the environment, each of its branches beside all others.
 fn add_environment(environment: &[Branch], widths: &mut Widths) -> Result<(), AllocError>
-    ensures { OnOk result (model.noted widths.new ≡ model.with_environment (model.noted widths.old) environment.now) }
+    ensures { OnOk result (model.table_of_widths widths.new
+        ≡ model.with_environment (model.table_of_widths widths.old) environment.now) }
 {
     for outside in environment {
         let (channel, width) = use_of(outside);
@@ -317,7 +321,7 @@ fn use_of(outside: &Branch) -> (u32, Width)
 
 /// The uses of a system.
 fn of_system(alloc: Global, system: &System) -> Result<Widths, AllocError>
-    ensures { IfOk result (λ widths. model.noted widths ≡ model.used_in system.now) }
+    ensures { IfOk result (λ widths. model.table_of_widths widths ≡ model.used_in system.now) }
 {
     let mut widths = of_command(alloc, &system.main)?;
     add_environment(system.environment.as_slice(), &mut widths)?;

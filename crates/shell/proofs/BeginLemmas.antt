@@ -8,7 +8,7 @@ use Rattle.trace_file.specs.declared.fault.Fault as trace
 use Rattle.debug_session.specs.Accepting.{AcceptedAs, IsRefused}
 use Rattle.debug_session.specs.Wrapping.{of_trace}
 use Rattle.debug_session.specs.declared.fault.Fault.{Fault}
-use Rattle.debug_session.proofs.ReplayLemmas.{refuses}
+use Rattle.debug_session.proofs.public.ReplayLemmas.{refuses}
 use Rattle.shell.specs.Beginning.{RefusesTexts}
 
 -- a machine of a trace

@@ -5,7 +5,7 @@ use Rattle.locked_execution.specs.AtDesk.{AtDesk, new_desk}
 use Rattle.locked_execution.specs.Answered.{Answered}
 use Rattle.locked_execution.specs.declared.command.Command.{Command}
 use Rattle.locked_execution.specs.declared.command.Reply.{Reply}
-use Rattle.locked_execution.proofs.AskedLists.{answered-joins}
+use Rattle.locked_execution.proofs.public.AskedLists.{answered-joins}
 use Rattle.shell_desk.specs.AtBench.{AtBench}
 use Rattle.shell_desk.specs.Laws.{EachDeedIsCommands, of_session}
 use Rattle.shell_desk.specs.declared.deed.Deed.{Deed}

@@ -15,7 +15,7 @@ use Rattle.shell_desk.specs.AtBench.{AtBench}
 use Rattle.shell_desk.specs.Does.{Does, NamesSession, TurnsTo}
 use Rattle.shell_desk.specs.Tidied.{tidied}
 use Rattle.shell_desk.specs.Words.{spelling, AsksDeed}
-use Rattle.shell_desk.specs.walking.Spelled.{AsksNoDeed, SpellsNothing}
+use Rattle.shell_desk.specs.internal.Spelled.{AsksNoDeed, SpellsNothing}
 use Rattle.shell_desk.specs.declared.deed.Deed.{Deed}
 use Rattle.shell_desk.specs.declared.deed.Done.{Done}
 use Rattle.shell_desk.specs.declared.word.Word.{Word}
@@ -23,7 +23,7 @@ use Rattle.shell_desk.specs.declared.word.Word.TheVariants.{R, N, Run, Next, Und
 use Rattle.shell.specs.Asking.{GoesOnWith, IsWordWith, LineAsks, ShellAsks, TextAsks, deed_of}
 use Rattle.shell.specs.Beginning.{BeginsAt}
 use Rattle.shell.specs.Lines.{AnsweredAsScript, AnsweredAsTyped, Holding, Leaves, LineLeaves, SaidAsScript, line_count}
-use Rattle.shell.specs.walking.Parts.{AsksNoDeedAtAll, Begun, LoadsTrace, Quits, RestsWith, SavesTrace, WordMeans, WordsAsk, is_want}
+use Rattle.shell.specs.internal.Parts.{AsksNoDeedAtAll, Begun, LoadsTrace, Quits, RestsWith, SavesTrace, WordMeans, WordsAsk, is_want}
 use Rattle.shell.specs.declared.answer.Outcome.{Outcome}
 use Rattle.shell.proofs.OwnLemmas.{if-some, if-some-by}
 

@@ -1,5 +1,5 @@
-pub mod BeginLemmas
-pub mod LawLemmas
-pub mod LeavesLemmas
-pub mod OwnLemmas
-pub mod TakenLemmas
+mod BeginLemmas
+mod LawLemmas
+mod LeavesLemmas
+mod OwnLemmas
+mod TakenLemmas

@@ -6,9 +6,9 @@ use Rattle.std.specs.Io.KnownBytes.{Appends, Consumes, IsAtEnd}
 use Rattle.std.proofs.lemmas.Bool.{false≢true}
 use Rattle.std.proofs.lemmas.List.Elements.{All-nil}
 use Rattle.devices.specs.Counting.{IsNoEnd}
-use Rattle.devices.proofs.KnownLemmas.{Appends-then, Consumes-none, Consumes-then, end-known}
+use Rattle.devices.proofs.public.KnownLemmas.{Appends-then, Consumes-none, Consumes-then, end-known}
 use Rattle.debug_session.specs.Script.{AreLines, IsLine, with_end}
-use Rattle.debug_session.specs.walking.OneLine.{TakesLine}
+use Rattle.debug_session.specs.internal.OneLine.{TakesLine}
 use Rattle.debug_session.specs.declared.fault.Fault.{Fault}
 use Rattle.shell_desk.specs.AtBench.{AtBench}
 use Rattle.shell_desk.specs.Tidied.{tidied}
@@ -16,7 +16,7 @@ use Rattle.shell_desk.specs.declared.word.Word.TheVariants.{Quit}
 use Rattle.shell.specs.Asking.{IsWordWith}
 use Rattle.shell.specs.Lines.{AnsweredAsTyped, Holding, LineLeaves, LinesLeave}
 use Rattle.shell.specs.Taken.{EndsAt, Finished, IsPrompt, IsStop, LinesShown, Shown, Stopped, TellsLack}
-use Rattle.shell.specs.walking.Next.{Answers, Ended, FinishedOn, GoesOn, NextEnds, OneShown, OwnShown, TakenEnds}
+use Rattle.shell.specs.internal.Next.{Answers, Ended, FinishedOn, GoesOn, NextEnds, OneShown, OwnShown, TakenEnds}
 use Rattle.shell.specs.declared.answer.Outcome.{Outcome}
 
 -- no byte is a line

@@ -3,4 +3,4 @@ pub mod Beginning
 pub mod Laws
 pub mod Lines
 pub mod Taken
-pub mod walking
+pub mod internal

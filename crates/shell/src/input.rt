@@ -4,7 +4,7 @@ ghost use Rattle.std.specs.IoError.{error_kind};
 ghost use Rattle.std.specs.Io.BufRead.{ends_with_byte};
 ghost use Rattle.syntax.specs.Texts.{line_end};
 ghost use Rattle.devices.specs.Counting.{device};
-ghost use Rattle.debug_session.specs.walking.OneLine.{TakesLine, ReadingStops};
+ghost use Rattle.debug_session.specs.internal.OneLine.{TakesLine, ReadingStops};
 ghost use Rattle.debug_session.specs.declared.fault.Fault.TheVariants.{Memory, ReadFailed};
 
 use debug_session::Fault;

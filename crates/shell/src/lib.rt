@@ -3,27 +3,27 @@
 #![tactic(auto)]
 
 mod answer;
-mod beginning;
 mod host;
 mod input;
-mod keeping;
 mod laws;
-mod loading;
+mod lines;
+mod load;
 mod notes;
 mod output;
 mod progress;
-mod running;
+mod save;
 mod script_line;
 mod session;
 mod spoken;
+mod start;
 mod texts;
 
 pub use answer::{Answer, Outcome};
-pub use beginning::{begin, setting_of};
 pub use debug_session::Fault;
 pub use devices::Counted;
 pub use host::{FileFault, Host, Local};
 pub use laws::session_laws;
-pub use running::run;
+pub use lines::run;
 pub use session::{Session, Setting};
+pub use start::{begin, setting_of};
 pub use texts::Texts;

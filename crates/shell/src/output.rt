@@ -4,7 +4,7 @@ ghost use Rattle.std.specs.Io.KnownBytes.{Appends};
 ghost use Rattle.devices.specs.Counting.{device};
 ghost use Rattle.debug_session.specs.declared.fault.Fault.TheVariants.{WriteFailed};
 ghost use Rattle.shell.specs.Taken.{TellsLack};
-ghost use Rattle.shell.specs.walking.Next.{Answers};
+ghost use Rattle.shell.specs.internal.Next.{Answers};
 
 use crate::{Answer, Outcome};
 use debug_session::{Counted, Fault, write_out};

@@ -43,7 +43,8 @@ impl Session {
         ensures outcome { result.outcome ≡ outcomes.Done }
         ensures done { (done : DoneAt) × Does self.old.bench (deed_of (lines.Asked command.now)) done self.new.bench }
         ensures own { IfSome result.own (λ text.
-            SaidAsScript setting.now.texts.source.now self.old.bench (lines.Asked command.now) text.items self.new.bench) }
+            SaidAsScript setting.now.texts.source.now self.old.bench (lines.Asked command.now) text.items
+            self.new.bench) }
     {
         self.notes.begin_line(Shows::None);
         let reply = self.bench.ask(command, &mut self.notes);
@@ -59,7 +60,8 @@ impl Session {
         ensures outcome { result.outcome ≡ outcomes.Done }
         ensures done { (done : DoneAt) × Does self.old.bench (deed_of (lines.Session session)) done self.new.bench }
         ensures own { IfSome result.own (λ text.
-            SaidAsScript setting.now.texts.source.now self.old.bench (lines.Session session) text.items self.new.bench) }
+            SaidAsScript setting.now.texts.source.now self.old.bench (lines.Session session) text.items
+            self.new.bench) }
     {
         let _done = self.bench.perform(&Deed::Turn(session), &mut self.notes);
         let own = write_session(setting.alloc, session);

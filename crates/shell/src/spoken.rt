@@ -6,7 +6,7 @@ ghost use Rattle.shell_desk.specs.declared.deed.Done.{Done as DoneAt};
 ghost use Rattle.shell_desk.specs.Tidied.{tidied};
 ghost use Rattle.shell.specs.Asking.{IsWordWith, ShellAsks, TextAsks};
 ghost use Rattle.shell.specs.Lines.{AnsweredAsScript, AnsweredAsTyped, LineLeaves, Leaves};
-ghost use Rattle.shell.specs.walking.Parts.{WordsAsk, WordMeans, Begun, Quits, RestsWith, is_want};
+ghost use Rattle.shell.specs.internal.Parts.{WordsAsk, WordMeans, Begun, Quits, RestsWith, is_want};
 ghost use Rattle.shell.specs.declared.answer.Outcome.TheVariants as outcomes;
 
 use crate::answer::{spoken, unread};

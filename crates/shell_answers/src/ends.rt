@@ -2,8 +2,8 @@
 use crate::Scene;
 use crate::refused::add_refused;
 use crate::steps::{add_possible, steps_word};
+use local_actions::{ActionKind, LocalAction};
 use locked_execution::{Command, Reply};
-use offered_sides::{OfferedSide, Side};
 use plain_words::{Text, add_reason, add_value};
 use shell_desk::{Deed, End};
 use system::{Branch, System};
@@ -74,13 +74,13 @@ fn add_why_still(text: &mut Text, scene: &Scene<'_>, waiting: &Waiting) {
     text.add(b"\n");
 }
 
-/// The channel of the first side of the circuit that waits for more than the stimulus has, if there is one.
+/// The channel of the first action of the circuit that waits for more than the stimulus has, if there is one.
 fn used_up(scene: &Scene<'_>, waiting: &Waiting) -> Option<u32> {
-    for (index, offered) in waiting.sides.as_slice().iter().enumerate() {
+    for (index, offered) in waiting.actions.as_slice().iter().enumerate() {
         let is_of_circuit = scene.machine().line(&offered.place).is_some();
         if let (Some(Partner::Gone), Some(channel)) = (
             waiting.partners.get(index),
-            channel_taken(&offered.side),
+            channel_taken(&offered.action),
         ) {
             if is_of_circuit && is_fed(scene.system(), channel) {
                 return Some(channel);
@@ -90,12 +90,12 @@ fn used_up(scene: &Scene<'_>, waiting: &Waiting) -> Option<u32> {
     None
 }
 
-/// The channel on which the side takes something, if it does.
-fn channel_taken(side: &Side) -> Option<u32> {
-    match side {
-        Side::Receives(channel, _) | Side::Opens(channel, _) | Side::Syncs(channel) => Some(
-            *channel,
-        ),
+/// The channel on which the action takes something, if it does.
+fn channel_taken(action: &ActionKind) -> Option<u32> {
+    match action {
+        ActionKind::Receives(channel, _)
+        | ActionKind::Opens(channel, _)
+        | ActionKind::Syncs(channel) => Some(*channel),
         _ => None,
     }
 }
@@ -137,8 +137,8 @@ fn add_elements(text: &mut Text, scene: &Scene<'_>, waiting: &Waiting) {
             }
         }
     }
-    for offered in waiting.sides.as_slice() {
-        if let Side::Sends(channel, value, _) = &offered.side {
+    for offered in waiting.actions.as_slice() {
+        if let ActionKind::Sends(channel, value, _) = &offered.action {
             if scene.names(*channel, *value) {
                 add_sender(text, scene, offered, *channel, *value);
             }
@@ -146,11 +146,11 @@ fn add_elements(text: &mut Text, scene: &Scene<'_>, waiting: &Waiting) {
     }
 }
 
-/// Adds that a side waits to send the value.
+/// Adds that an action waits to send the value.
 fn add_sender(
     text: &mut Text,
     scene: &Scene<'_>,
-    offered: &OfferedSide,
+    offered: &LocalAction,
     channel: u32,
     value: Value,
 ) {

@@ -2,9 +2,9 @@
 use crate::Scene;
 use crate::ends::add_waiting;
 use crate::help::add_help;
-use crate::listing::add_lines;
 use crate::names::add_unknown_name;
-use crate::showing::{add_past, add_shown};
+use crate::show::{add_past, add_shown};
+use crate::source_lines::add_lines;
 use crate::usage::add_usage;
 use crate::values::{add_valued, add_variables};
 use line_text::read_ticket;

@@ -1,6 +1,6 @@
 // What is said behind the answer to a command.
 use crate::Scene;
-use crate::numbering::add_numbered;
+use crate::numbers::add_numbered;
 use crate::refused::add_refused;
 use crate::steps::{add_done, add_newest, add_step, add_step_lines, steps_word};
 use crate::values::add_valued;

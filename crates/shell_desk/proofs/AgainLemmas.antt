@@ -9,9 +9,9 @@ use Rattle.locked_execution.specs.AtDesk.{AtDesk, breaks_of}
 use Rattle.locked_execution.specs.Performs.{Answers}
 use Rattle.locked_execution.specs.declared.command.Command.{Command}
 use Rattle.locked_execution.specs.declared.command.Reply.{Reply}
-use Rattle.locked_execution.proofs.AskedLists.{answered-joins}
+use Rattle.locked_execution.proofs.public.AskedLists.{answered-joins}
 use Rattle.shell_desk.specs.Does.{AreBreaksAt}
-use Rattle.shell_desk.specs.walking.Again.{SetsAgain, IsAt, IsUpTo, IsOfFirst}
+use Rattle.shell_desk.specs.internal.Again.{SetsAgain, IsAt, IsUpTo, IsOfFirst}
 use Rattle.shell_desk.proofs.DeedLemmas.{true-false}
 
 -- what holds of the elements of two lists holds of those of both

@@ -1,3 +1,3 @@
-pub mod AgainLemmas
-pub mod DeedLemmas
-pub mod WordLemmas
+mod AgainLemmas
+mod DeedLemmas
+mod WordLemmas

@@ -6,7 +6,7 @@ use Rattle.std.specs.Cmp.Lexicographic.{same_text}
 use Rattle.shell_desk.specs.declared.word.Word.{Word}
 use Rattle.shell_desk.specs.declared.word.Word.TheVariants.{R, N, Run, Next, Undo, Back, Why, Waiting, Outline, Vars, List as ListWord, Show, Save, SaveOver, Load, Script, ScriptOver, Help, Quit}
 use Rattle.shell_desk.specs.Words.{spelling}
-use Rattle.shell_desk.specs.walking.Spelled.{first_spelled, SpellsNothing}
+use Rattle.shell_desk.specs.internal.Spelled.{first_spelled, SpellsNothing}
 
 -- all words
 abbrev pub all_words : List Word

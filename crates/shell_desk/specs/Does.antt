@@ -20,7 +20,8 @@ use Rattle.shell_desk.specs.declared.deed.Deed.{Deed}
 use Rattle.shell_desk.specs.declared.deed.Done.{Done}
 use Rattle.shell_desk.specs.declared.deed.End.{End}
 
--- the branch that was stepped last behind a reply: that of the acting place of the event that was taken, where it lies in one
+-- the branch that was stepped last behind a reply: that of the acting place of the event that was taken, where it lies
+-- in one
 abbrev pub branch_or : Option ℕ → Option ℕ → Option ℕ
 branch_or None before = before
 branch_or (Some k) before = Some k
@@ -82,8 +83,8 @@ abbrev pub ends_way : Reply → Bool
 ends_way (Reply.Undone t e) = false
 ends_way _ = true
 
--- `left` branches from k on are asked in turn for a step, up to the first that is not idle, which answers `reply`; where all
--- are idle, that is the reply
+-- `left` branches from k on are asked in turn for a step, up to the first that is not idle, which answers `reply`;
+-- where all are idle, that is the reply
 abbrev pub InTurn : ℕ → AtBench → ℕ → ℕ → Reply → AtBench → Type 0
 InTurn count b zero k reply b' = (reply ≡ Reply.Idle) × (b' ≡ b)
 InTurn count b (suc left) k reply b' =
@@ -101,11 +102,13 @@ end_of (Reply.Stopped line) = End.AtBreak line
 end_of (Reply.Refused why) = End.Refused why
 end_of _ = End.Idle
 
--- a run of so many steps at most: each is the first that the branches have in turn, and it ends before, where there is none
+-- a run of so many steps at most: each is the first that the branches have in turn, and it ends before, where there is
+-- none
 abbrev pub Runs : AtBench → ℕ → End → AtBench → Type 0
 Runs b zero end b' = (end ≡ End.Enough) × (b' ≡ b)
 Runs b (suc left) end b' =
-    (r : Reply) × (m : AtBench) × OneTurn b r m × MatchBool (ends_run r) ((end ≡ end_of r) × (b' ≡ m)) (Runs m left end b')
+    (r : Reply) × (m : AtBench) × OneTurn b r m
+    × MatchBool (ends_run r) ((end ≡ end_of r) × (b' ≡ m)) (Runs m left end b')
 
 -- the same where the last run ended at the breakpoint on this line: the first step is taken without it, and it is set
 -- again
@@ -140,8 +143,8 @@ ended_at _ b = b
 abbrev pub IsNewest : Live → ℕ → Type 0
 IsNewest live t = (e : Event) × (slice_get live (length live - 1) ≡ Some (t, e))
 
--- so many of the newest steps are taken back, or all where there are fewer; where one cannot be taken back, it ends there,
--- with the answer to that
+-- so many of the newest steps are taken back, or all where there are fewer; where one cannot be taken back, it ends
+-- there, with the answer to that
 abbrev pub GoesBack : AtBench → ℕ → Option Reply → AtBench → Type 0
 GoesBack b zero told b' = (told ≡ None) × (b' ≡ b)
 GoesBack b (suc left) told b' =

@@ -3,4 +3,4 @@ pub mod Does
 pub mod Laws
 pub mod Tidied
 pub mod Words
-pub mod walking
+pub mod internal

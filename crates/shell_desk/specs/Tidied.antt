@@ -30,8 +30,8 @@ abbrev pub behind_blank : Part → Part
 behind_blank Start = Start
 behind_blank _ = Gap
 
--- the bytes of a line from this part on: no blanks before, one space between fields, none behind, and small letters in the
--- first field
+-- the bytes of a line from this part on: no blanks before, one space between fields, none behind, and small letters in
+-- the first field
 abbrev pub tidy_from : Part → List ℕ → List ℕ
 tidy_from part [] = []
 tidy_from part (byte ∷ bytes) =

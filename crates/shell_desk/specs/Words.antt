@@ -38,7 +38,8 @@ abbrev pub AsksDeed : Word → List ℕ → Deed → Type 0
 AsksDeed R rest deed = (rest ≡ []) × (deed ≡ Deed.Ask Command.Ready)
 AsksDeed N rest deed = ((rest ≡ []) × (deed ≡ Deed.NextAgain)) ⊎ ((k : ℕ) × IsBranch k rest × (deed ≡ Deed.Next k))
 AsksDeed Next rest deed = ((rest ≡ []) × (deed ≡ Deed.NextAgain)) ⊎ ((k : ℕ) × IsBranch k rest × (deed ≡ Deed.Next k))
-AsksDeed Run rest deed = ((rest ≡ []) × (deed ≡ Deed.Run most_steps)) ⊎ ((n : ℕ) × IsNumber n rest × (deed ≡ Deed.Run n))
+AsksDeed Run rest deed =
+    ((rest ≡ []) × (deed ≡ Deed.Run most_steps)) ⊎ ((n : ℕ) × IsNumber n rest × (deed ≡ Deed.Run n))
 AsksDeed Undo rest deed = (rest ≡ []) × (deed ≡ Deed.Back 1)
 AsksDeed Back rest deed = ((rest ≡ []) × (deed ≡ Deed.Back 1)) ⊎ ((n : ℕ) × IsNumber n rest × (deed ≡ Deed.Back n))
 -- the other words ask nothing of the desk

@@ -6,8 +6,8 @@ use crate::{Bench, Watch};
 use locked_execution::{Command, Machine, Reply};
 
 impl Bench {
-    /// Takes back so many of the newest steps, or all where there are fewer; where one cannot be taken back it ends, and tells
-    /// the reply to that.
+    /// Takes back so many of the newest steps, or all where there are fewer; where one cannot be taken back it ends,
+    /// and tells the reply to that.
     pub(crate) fn go_back<W: Watch>(&mut self, count: u64, watch: &mut W) -> Option<Reply>
         ensures { GoesBack self.old count result self.new }
     {

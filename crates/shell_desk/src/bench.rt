@@ -9,8 +9,8 @@ use locked_execution::{Command, Desk, Machine};
 use std::alloc::Global;
 use std::marker::Model;
 
-/// A desk, the session whose lines come, the steps that were numbered last, the branch that was stepped last, and the line
-/// of the breakpoint at which a run ended, as long as no step is taken or taken back.
+/// A desk, the session whose lines come, the steps that were numbered last, the branch that was stepped last, and the
+/// line of the breakpoint at which a run ended, as long as no step is taken or taken back.
 #[derive(Drop)]
 pub struct Bench {
     pub(crate) desk: Desk,
@@ -77,7 +77,8 @@ impl Bench {
         self.branch
     }
 
-    /// Does what a line asks, with each command that it takes seen by `watch`. A deed that names a session names one of 0 to 15.
+    /// Does what a line asks, with each command that it takes seen by `watch`. A deed that names a session names one of
+    /// 0 to 15.
     pub fn perform<W: Watch>(&mut self, deed: &Deed, watch: &mut W) -> Done
         requires { NamesSession deed.now }
         ensures { Does self.old deed.now result self.new }

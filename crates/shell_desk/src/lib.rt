@@ -1,8 +1,8 @@
-//! What a line of a shell asks of a desk: a command of the session, the step of a number, runs in which the branches step in
-//! turn, and going back by so many steps. Whatever is asked, the desk is then what a list of commands leaves.
+//! What a line of a shell asks of a desk: a command of the session, the step of a number, runs in which the branches
+//! step in turn, and going back by so many steps. Whatever is asked, the desk is then what a list of commands leaves.
 #![tactic(auto)]
 
-mod asking;
+mod ask;
 mod back;
 mod bench;
 mod deed;

@@ -3,14 +3,14 @@ ghost use Rattle.std.specs.Prelude.{◌≡◌, ◌<◌, MatchBool, true, false};
 ghost use Rattle.system.specs.Expression.{is_in};
 ghost use Rattle.locked_execution.specs.AtDesk.{breaks_of, new_desk};
 ghost use Rattle.shell_desk.specs.Does.{SetsBreaksOf, TurnsTo};
-ghost use Rattle.shell_desk.specs.walking.Again.{SetsAgain, IsAt, IsUpTo};
+ghost use Rattle.shell_desk.specs.internal.Again.{SetsAgain, IsAt, IsUpTo};
 
 use crate::{Bench, Watch};
 use locked_execution::{Command, Desk, Machine};
 
 impl Bench {
-    /// Puts this machine in place of the one at hand. The session stays the same, and each session has the breakpoints that it
-    /// had on the lines from 1 to this one. No step was numbered or taken yet.
+    /// Puts this machine in place of the one at hand. The session stays the same, and each session has the breakpoints
+    /// that it had on the lines from 1 to this one. No step was numbered or taken yet.
     pub fn turn_to<W: Watch>(&mut self, machine: Machine, last_line: u64, watch: &mut W)
         ensures { TurnsTo self.old last_line machine self.new }
     {

@@ -16,8 +16,8 @@ pub enum Part {
     Field,
 }
 
-/// The line with one space between its fields, no blanks before and behind, and small letters in the first field. It is an
-/// error if there is no memory.
+/// The line with one space between its fields, no blanks before and behind, and small letters in the first field. It is
+/// an error if there is no memory.
 pub fn tidied(alloc: Global, line: &[u8]) -> Result<Vec<u8>, AllocError>
     ensures { IfOk result (λ text. text.items ≡ tidied line.now) }
 {

@@ -1,6 +1,6 @@
 ghost use Rattle.std.specs.Prelude.{◌≡◌, ◌≢◌, MatchOption, [], ◌⊎◌};
 ghost use Rattle.shell_desk.specs.Words.{spelling, AsksDeed, most_steps};
-ghost use Rattle.shell_desk.specs.walking.Spelled as spec;
+ghost use Rattle.shell_desk.specs.internal.Spelled as spec;
 
 use crate::Deed;
 use line_text::{read_branch, read_ticket};
@@ -57,7 +57,8 @@ const ALL: [Word; 19] = [
     Word::Quit,
 ];
 
-/// So many steps a run takes at most where it is not said: one more than can be live, so that it ends for another reason.
+/// So many steps a run takes at most where it is not said: one more than can be live, so that it ends for another
+/// reason.
 const MOST_STEPS: u64 = 65_537;
 
 impl Word {

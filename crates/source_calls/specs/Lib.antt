@@ -1,4 +1,4 @@
 pub mod Counts
-pub mod Seen
+pub mod SpotView
 pub mod Stands
-pub mod walking
+pub mod internal

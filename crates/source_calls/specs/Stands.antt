@@ -1,8 +1,8 @@
 -- To which call a place belongs.
 --
 -- A system has the body of a procedure in place of each call of it. So the way to a place is gone in the bodies as they
--- are written: where it comes to a call, it goes on in the body of the procedure that is called, and stands in that call
--- from there.
+-- are written: where it comes to a call, it goes on in the body of the procedure that is called, and stands in that
+-- call from there.
 use Rattle.std.specs.Prelude.{ℕ, zero, suc, ◌==◌, ◌||◌, ◌%◌, not, if◌then◌else◌, List, [], ◌∷◌, ◌++◌, Bool, true, false, Option, None, Some, length, map, take, nat_lt, option_map, option_and_then, slice_get}
 use Rattle.std.specs.Option.{option_or}
 use Rattle.address.specs.declared.Entry.{Entry}
@@ -15,7 +15,7 @@ use Rattle.typed.specs.declared.tree.Guarded.{Guarded, out-Guarded}
 use Rattle.typed.specs.declared.tree.Labelled.{Labelled, out-Labelled}
 use Rattle.typed.specs.declared.tree.Procedure.{Procedure}
 use Rattle.source_calls.specs.Counts.{calls_in, together, with_all}
-use Rattle.source_calls.specs.walking.Parts.{calls_in_arm, calls_in_guarded, calls_in_labelled}
+use Rattle.source_calls.specs.internal.Parts.{calls_in_arm, calls_in_guarded, calls_in_labelled}
 use Rattle.source_calls.specs.declared.calls.Call.{Call}
 use Rattle.source_calls.specs.declared.calls.Calls.{Calls}
 

@@ -2,15 +2,15 @@
 ghost use Rattle.std.specs.Prelude.{◌≡◌};
 ghost use Rattle.std.specs.Option.{option_copied};
 
-use crate::entering::{Waiting, enter_root, go_through};
+use crate::enter::{Waiting, enter_root, go_through};
 use std::alloc::{AllocError, Global};
 use typed::{Procedure, Typed};
 
 /// A call, with what the names of its procedure stand for.
 #[derive(Drop)]
 pub struct Call {
-    /// what stands before the names that it makes: the numbers of the calls around it and its own, a `:` behind each; nothing for the
-    /// root
+    /// what stands before the names that it makes: the numbers of the calls around it and its own, a `:` behind each;
+    /// nothing for the root
     pub prefix: String,
     /// the place of its procedure in the description
     pub procedure: usize,
@@ -24,8 +24,8 @@ pub struct Call {
     pub(crate) calls: Vec<usize>,
 }
 
-/// A description, and its calls: first the root, behind each call those that it makes. A call of a procedure that does nothing but
-/// call another, and has no locals, is left out: the one that it makes stands for it.
+/// A description, and its calls: first the root, behind each call those that it makes. A call of a procedure that does
+/// nothing but call another, and has no locals, is left out: the one that it makes stands for it.
 #[derive(Drop)]
 pub struct Calls {
     typed: Typed,

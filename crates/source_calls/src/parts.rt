@@ -2,7 +2,7 @@
 ghost use Rattle.std.specs.Prelude.{◌≡◌, map};
 ghost use Rattle.std.specs.Option.{option_map};
 ghost use Rattle.source_calls.specs.Counts as model;
-ghost use Rattle.source_calls.specs.walking.Parts as parts;
+ghost use Rattle.source_calls.specs.internal.Parts as parts;
 
 use typed::{Action, Arm, Command, Guarded, Labelled};
 

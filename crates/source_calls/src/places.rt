@@ -3,9 +3,9 @@ ghost use Rattle.std.specs.Prelude.{◌≡◌, ◌≤◌, length, take, drop, op
 ghost use Rattle.std.specs.Option.{option_copied};
 ghost use Rattle.event_places.specs.EventPlaces.{taken_by};
 ghost use Rattle.runs.specs.Live.{events};
-ghost use Rattle.source_calls.specs.Seen.{seen};
+ghost use Rattle.source_calls.specs.SpotView.{spot_view};
 ghost use Rattle.source_calls.specs.Stands as model;
-ghost use Rattle.source_calls.specs.walking.Parts as parts;
+ghost use Rattle.source_calls.specs.internal.Parts as parts;
 
 use crate::calls::{Call, Calls};
 use crate::parts::{calls_in_all, calls_in_arms, calls_in_guarded, calls_in_labelled};
@@ -25,8 +25,8 @@ pub(crate) struct Spot<'a> {
 }
 
 impl Calls {
-    /// The index of the call in whose body the command with this place stands, after the live events. None for a place of the
-    /// environment, and for an address that is no place of a command in any arm that was taken.
+    /// The index of the call in whose body the command with this place stands, after the live events. None for a place
+    /// of the environment, and for an address that is no place of a command in any arm that was taken.
     pub fn at(&self, live: &Live, place: &Address) -> Option<usize>
         ensures { result ≡ model.call_at self.now (taken_by (events live.now.live)) place.now }
     {
@@ -43,7 +43,7 @@ impl Calls {
     fn found_in(&self, live: &Live, place: &[Entry], depth: usize, spot: Spot<'_>) -> Option<usize>
         requires { depth ≤ length place.now }
         ensures { result
-            ≡ model.call_in self.now (taken_by (events live.now.live)) (take depth place.now) (seen spot.entry)
+            ≡ model.call_in self.now (taken_by (events live.now.live)) (take depth place.now) (spot_view spot.entry)
             (drop depth place.now) }
     {
         let (before, way) = place.split_at(depth);
@@ -55,8 +55,8 @@ impl Calls {
         self.found_in(live, place, depth + 1, inner)
     }
 
-    /// The index of the call in which this branch of the body begins: a child of it where it is a parallel, else the body as branch 0.
-    /// The root, where there is no such branch.
+    /// The index of the call in which this branch of the body begins: a child of it where it is a parallel, else the
+    /// body as branch 0. The root, where there is no such branch.
     pub fn of_branch(&self, branch: u32) -> usize {
         let Some(root) = self.root() else {
             return 0;
@@ -69,14 +69,14 @@ impl Calls {
 
     /// The body of the root.
     fn root(&self) -> Option<Spot<'_>>
-        ensures { option_map (λ s. seen s) result ≡ model.root_body self.now }
+        ensures { option_map (λ s. spot_view s) result ≡ model.root_body self.now }
     {
         Some(self.standing(self.body_of(0)?))
     }
 
     /// The body of the call of this index.
     fn body_of(&self, call: usize) -> Option<Spot<'_>>
-        ensures { option_map (λ s. seen s) result ≡ model.body_of self.now call }
+        ensures { option_map (λ s. spot_view s) result ≡ model.body_of self.now call }
     {
         let procedure = self.procedure(call)?;
         Some(Spot {
@@ -88,7 +88,7 @@ impl Calls {
 
     /// The part at this entry, in its call.
     fn part_in<'a>(&'a self, arm: Option<u32>, spot: Spot<'a>, entry: Entry) -> Option<Spot<'a>>
-        ensures { option_map (λ s. seen s) result ≡ model.part_in self.now arm (seen spot.entry) entry }
+        ensures { option_map (λ s. spot_view s) result ≡ model.part_in self.now arm (spot_view spot.entry) entry }
     {
         let command = part(spot.command, arm, entry)?;
         let passed = spot
@@ -103,7 +103,7 @@ impl Calls {
 
     /// What stands for the command: where it is a call, the body of that.
     fn standing<'a>(&'a self, spot: Spot<'a>) -> Spot<'a>
-        ensures { seen result ≡ model.standing self.now (seen spot.entry) }
+        ensures { spot_view result ≡ model.standing self.now (spot_view spot.entry) }
     {
         let mut spot = spot;
         let mut left = self.as_slice().len();
@@ -119,7 +119,7 @@ impl Calls {
 
     /// The body of the call that the command is, if it is one.
     fn inner(&self, spot: Spot<'_>) -> Option<Spot<'_>>
-        ensures { option_map (λ s. seen s) result ≡ model.inner self.now (seen spot.entry) }
+        ensures { option_map (λ s. spot_view s) result ≡ model.inner self.now (spot_view spot.entry) }
     {
         if is_call(spot.command) {
             self.body_of(self.called(spot.call, spot.passed)?)

@@ -13,7 +13,7 @@ use Rattle.event_places.specs.EventPlaces.{line_after}
 use Rattle.machine.specs.AtMachine.{AtMachine, object}
 use Rattle.syntax.specs.Texts.{lines}
 use Rattle.source_view.specs.View.{is_line, acts_on, is_ready_on, marks_on, line_text, lines_text, view_text}
-use Rattle.source_view.specs.walking.Marking.{no_marks, marks_at, AreMarks, break_mark, conflicts_with_next, neighbours_on, with_event, with_events}
+use Rattle.source_view.specs.internal.Marking.{no_marks, marks_at, AreMarks, break_mark, conflicts_with_next, neighbours_on, with_event, with_events}
 use Rattle.source_view.specs.declared.marks.Marks.{Marks}
 use Rattle.source_view.proofs.Neighbours.{neighbours-are-all}
 

@@ -1,3 +1,3 @@
-pub mod Agreeing
-pub mod Cuts
-pub mod Neighbours
+mod Agreeing
+mod Cuts
+mod Neighbours

@@ -5,23 +5,23 @@ use Rattle.std.specs.declared.cmp.Ordering.TheVariants.{Less}
 use Rattle.std.specs.Ordering.{ordering_reverse}
 use Rattle.std.proofs.lemmas.Bool.{eqb-true, eqb-false, ne_eqb, not-true, not_from_false, and_parts, and_from, or_cases, or_left, or_right}
 use Rattle.address.specs.Order.{order_of}
-use Rattle.address.specs.walking.OrderLaws.{greater-not-less}
-use Rattle.address.proofs.Total.{order-antisymmetric}
+use Rattle.address.specs.internal.OrderLaws.{greater-not-less}
+use Rattle.address.proofs.public.Total.{order-antisymmetric}
 use Rattle.syntax.specs.Lists.{In}
 use Rattle.runs.specs.Choices.{choice_of}
 use Rattle.runs.specs.Events.{acting}
-use Rattle.runs.specs.walking.EventLaws.{same_place-decides}
+use Rattle.runs.specs.internal.EventLaws.{same_place-decides}
 use Rattle.runs.specs.InOrder.{InOrder}
 use Rattle.runs.specs.Live.{events}
 use Rattle.runs.specs.Moves.{Place}
 use Rattle.runs.specs.Ready.{Sooner}
 use Rattle.runs.specs.Tests.{same_place}
 use Rattle.runs.specs.declared.event.Event.{Event}
-use Rattle.runs.proofs.Lists.{every-in}
+use Rattle.runs.proofs.public.Lists.{every-in}
 use Rattle.event_places.specs.EventPlaces.{line_after, is_open_after}
 use Rattle.machine.specs.AtMachine.{AtMachine}
 use Rattle.source_view.specs.View.{is_line, acts_on, are_in_conflict, is_conflict_on}
-use Rattle.source_view.specs.walking.Marking.{conflicts_with_next, neighbours_on}
+use Rattle.source_view.specs.internal.Marking.{conflicts_with_next, neighbours_on}
 
 -- events between two at one place act there too
 between : (x y f : Event) → Sooner x y → Sooner y f → acting x ≡ acting f → acting x ≡ acting y

@@ -43,7 +43,11 @@ is_conflict_on machine es n = list_any (λ e. acts_on machine n e && list_any (a
 -- the marks of line n, where these events are ready
 abbrev pub marks_on : AtMachine → List Event → List ℕ → ℕ → Marks
 marks_on machine es breaks n =
-    record { is_ready = is_ready_on machine es n; has_break = is_in n breaks; in_conflict = is_conflict_on machine es n }
+    record {
+      is_ready = is_ready_on machine es n;
+      has_break = is_in n breaks;
+      in_conflict = is_conflict_on machine es n;
+    }
 
 -- digits in 5 places, or in as many as they need
 abbrev pub right_aligned : List ℕ → List ℕ
@@ -72,4 +76,5 @@ view_text machine es breaks source = lines_text (marks_on machine es breaks) 1 (
 -- the bytes are the view, where just those events are ready that are allowed after the live ones
 abbrev pub IsView : AtMachine → List ℕ → List ℕ → List ℕ → Type 0
 IsView machine breaks source bytes =
-    (T : State) × (es : List Event) × Reaches (object machine) T × ReadyList T es × (bytes ≡ view_text machine es breaks source)
+    (T : State) × (es : List Event) × Reaches (object machine) T × ReadyList T es
+    × (bytes ≡ view_text machine es breaks source)

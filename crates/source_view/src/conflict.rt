@@ -2,7 +2,7 @@
 ghost use Rattle.std.specs.Prelude.{◌≡◌};
 ghost use Rattle.runs.specs.Tests.{same_place};
 ghost use Rattle.source_view.specs.View.{are_in_conflict};
-ghost use Rattle.source_view.specs.walking.Marking.{conflicts_with_next};
+ghost use Rattle.source_view.specs.internal.Marking.{conflicts_with_next};
 
 use address::Address;
 use machine::Machine;

@@ -3,9 +3,9 @@ ghost use Rattle.std.specs.Prelude.{IfOk};
 ghost use Rattle.runs.specs.InOrder.{InOrder};
 ghost use Rattle.runs.specs.Ready.{Sooner};
 ghost use Rattle.source_view.specs.View.{marks_on};
-ghost use Rattle.source_view.specs.walking.Marking.{AreMarks, break_mark};
+ghost use Rattle.source_view.specs.internal.Marking.{AreMarks, break_mark};
 
-use crate::adding::add_ready;
+use crate::ready_marks::add_ready;
 use machine::{Breaks, Machine};
 use runs::Event;
 use std::alloc::{AllocError, Global};

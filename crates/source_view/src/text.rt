@@ -3,7 +3,7 @@ ghost use Rattle.std.specs.Prelude.{◌≡◌, ◌≤◌, ◌++◌, length, repl
 ghost use Rattle.std.specs.Fmt.{decimal};
 ghost use Rattle.syntax.specs.Texts.{lines};
 ghost use Rattle.source_view.specs.View.{lines_text, line_text, right_aligned, mark};
-ghost use Rattle.source_view.specs.walking.Marking.{marks_at};
+ghost use Rattle.source_view.specs.internal.Marking.{marks_at};
 
 use crate::lines::first_line;
 use crate::marks::Marks;

@@ -1,7 +1,7 @@
 -- A text is cut at the first of a byte in one way.
 use Rattle.std.proofs.Common.{◌≡◌, ℕ, ◌<◌, ◌+◌, List, [], ◌∷◌, ◌++◌, length, take, get_or, refl, ap, sym, ◌∙◌, subst}
 use Rattle.std.proofs.lemmas.List.{take_more}
-use Rattle.stimulus.specs.walking.CutAt.{Lacks, StartsWith}
+use Rattle.stimulus.specs.internal.CutAt.{Lacks, StartsWith}
 
 first_of : List ℕ → ℕ
 first_of [] = 0

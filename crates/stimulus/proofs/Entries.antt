@@ -5,10 +5,10 @@ use Rattle.std.specs.List.{list_all}
 use Rattle.std.specs.Fmt.{decimal}
 use Rattle.lexer.specs.Bytes.{is_name_byte}
 use Rattle.lexer.specs.Names.{is_name, is_word}
-use Rattle.stimulus.specs.walking.CutAt.{Lacks, StartsWith, IsBefore}
+use Rattle.stimulus.specs.internal.CutAt.{Lacks, StartsWith, IsBefore}
 use Rattle.syntax.specs.Texts.{Text}
 use Rattle.stimulus.specs.StimulusText.{numbers_text, given_text, Gives, HasForm}
-use Rattle.stimulus.specs.walking.LineParts.{IsNoNumbers, ReadsGiven, IsNoGiven, IsNoEntry}
+use Rattle.stimulus.specs.internal.LineParts.{IsNoNumbers, ReadsGiven, IsNoGiven, IsNoEntry}
 use Rattle.stimulus.specs.declared.stimulus.Given.{Given}
 use Rattle.stimulus.specs.declared.stimulus.Given.TheVariants.{Values, Syncs}
 use Rattle.stimulus.proofs.Cuts.{heads, tails, cut_once}

@@ -4,8 +4,8 @@ use Rattle.std.proofs.lemmas.Bool.{false≢true}
 use Rattle.std.proofs.lemmas.List.{append-nil, length-append}
 use Rattle.syntax.specs.Texts.{Text, lines}
 use Rattle.stimulus.specs.StimulusText.{AreEntries}
-use Rattle.stimulus.specs.walking.CutAt.{IsBefore}
-use Rattle.stimulus.specs.walking.LineParts.{IsAdded, IsEntry, IsPassed}
+use Rattle.stimulus.specs.internal.CutAt.{IsBefore}
+use Rattle.stimulus.specs.internal.LineParts.{IsAdded, IsEntry, IsPassed}
 use Rattle.stimulus.specs.declared.stimulus.Entry.{Entry}
 use Rattle.stimulus.proofs.Lines.{Progress, progress_start, progress_more, progress_end}
 

@@ -1,7 +1,7 @@
-pub mod Cuts
-pub mod Numbers
-pub mod Readings
-pub mod Entries
-pub mod Lines
-pub mod Fronts
-pub mod Fewness
+mod Cuts
+mod Numbers
+mod Readings
+mod Entries
+mod Lines
+mod Fronts
+mod Fewness

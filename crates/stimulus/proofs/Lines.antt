@@ -2,10 +2,10 @@
 use Rattle.std.proofs.Common.{◌≡◌, ℕ, ◌+◌, ◌<◌, ◌≤◌, ◌==◌, List, [], ◌∷◌, ◌++◌, length, take, drop, refl, ap, sym, ◌∙◌, subst, true, false, arith, inl, inr, append_assoc, eq-eqb, ne_eqb, length-drop, add-one}
 use Rattle.std.specs.List.{onto_first}
 use Rattle.std.proofs.lemmas.List.{take-append-drop, append-nil}
-use Rattle.stimulus.specs.walking.CutAt.{Lacks, StartsWith, IsBefore}
+use Rattle.stimulus.specs.internal.CutAt.{Lacks, StartsWith, IsBefore}
 use Rattle.syntax.specs.Texts.{Text, lines}
 use Rattle.stimulus.specs.StimulusText.{Gives, HasForm, AreEntries, FirstOther}
-use Rattle.stimulus.specs.walking.LineParts.{IsAdded}
+use Rattle.stimulus.specs.internal.LineParts.{IsAdded}
 use Rattle.stimulus.specs.declared.stimulus.Given.{Given}
 use Rattle.stimulus.specs.declared.stimulus.Entry.{Entry}
 

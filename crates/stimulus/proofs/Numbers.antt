@@ -6,7 +6,7 @@ use Rattle.std.specs.Str.Parse.{AllDigits}
 use Rattle.std.proofs.lemmas.Bool.Decides.{nat_tests}
 use Rattle.std.proofs.lemmas.Fmt.{decimal_injective}
 use Rattle.decimal.specs.Reading.{Reads, IsNoNumber}
-use Rattle.stimulus.specs.walking.CutAt.{Lacks}
+use Rattle.stimulus.specs.internal.CutAt.{Lacks}
 
 -- what is not empty has a first
 pub not_empty : (n : ℕ) (r : Bool) → r ≡ eqb n 0 → r ≡ false → 0 < n

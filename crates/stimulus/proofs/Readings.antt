@@ -3,13 +3,13 @@ use Rattle.std.proofs.Common.{◌≡◌, ℕ, ◌<◌, ◌^◌, List, [], ◌∷
 use Rattle.std.proofs.lemmas.List.{take-append-drop, append-nil}
 use Rattle.std.specs.Fmt.{decimal}
 use Rattle.syntax.specs.Lists.{Every}
-use Rattle.stimulus.specs.walking.CutAt.{Lacks, StartsWith, IsBefore}
+use Rattle.stimulus.specs.internal.CutAt.{Lacks, StartsWith, IsBefore}
 use Rattle.syntax.specs.Texts.{Text}
 use Rattle.stimulus.specs.StimulusText.{numbers_text}
 use Rattle.decimal.specs.Reading.{Reads, IsNoNumber}
-use Rattle.stimulus.specs.walking.LineParts.{ReadsNext, BeginsNoNumber, ReadsNumbers, IsNoNumbers}
+use Rattle.stimulus.specs.internal.LineParts.{ReadsNext, BeginsNoNumber, ReadsNumbers, IsNoNumbers}
 use Rattle.stimulus.proofs.Cuts.{heads, tails, cut_once}
-use Rattle.decimal.proofs.DigitLemmas.{decimal-digits}
+use Rattle.decimal.proofs.public.DigitLemmas.{decimal-digits}
 use Rattle.stimulus.proofs.Numbers.{digits_without, one_number}
 
 -- the text of a number has no space

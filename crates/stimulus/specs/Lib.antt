@@ -1,2 +1,2 @@
 pub mod StimulusText
-pub mod walking
+pub mod internal

@@ -1,8 +1,8 @@
 // The lines of a stimulus.
 ghost use Rattle.std.specs.Prelude.{◌≡◌, ◌≢◌, List, ℕ, ◌∷◌, ◌++◌, length, drop, IfOk, MatchOption};
-ghost use Rattle.stimulus.specs.walking.CutAt.{IsBefore};
+ghost use Rattle.stimulus.specs.internal.CutAt.{IsBefore};
 ghost use Rattle.stimulus.specs.StimulusText.{Gives};
-ghost use Rattle.stimulus.specs.walking.LineParts.{IsNoEntry, IsNoGiven, ReadsGiven, IsNoNumbers, ReadsNumbers, BeginsNoNumber, ReadsNext};
+ghost use Rattle.stimulus.specs.internal.LineParts.{IsNoEntry, IsNoGiven, ReadsGiven, IsNoNumbers, ReadsNumbers, BeginsNoNumber, ReadsNext};
 
 use crate::stimulus::Given;
 use decimal::read_number;

@@ -1,6 +1,6 @@
 // Whether a line has its form, where nothing of it is kept.
 ghost use Rattle.std.specs.Prelude.{◌≡◌, false, ◌∷◌, IsTrue};
-ghost use Rattle.stimulus.specs.walking.LineParts.{IsEntry, IsNoEntry, IsGiven, IsNoGiven, IsNumbers, IsNoNumbers};
+ghost use Rattle.stimulus.specs.internal.LineParts.{IsEntry, IsNoEntry, IsGiven, IsNoGiven, IsNumbers, IsNoNumbers};
 
 use crate::entry::{behind, length_before, read_next, read_syncs};
 

@@ -2,7 +2,7 @@
 ghost use Rattle.std.specs.Prelude.{◌≡◌, ℕ, ◌≤◌, ◌⊎◌, List, [], ◌++◌, true, false, drop, length, IfOk, IfErr, OnOk};
 ghost use Rattle.syntax.specs.Texts.{lines};
 ghost use Rattle.stimulus.specs.StimulusText.{AreEntries, FirstOther, HasForm};
-ghost use Rattle.stimulus.specs.walking.LineParts.{IsEntry, IsPassed};
+ghost use Rattle.stimulus.specs.internal.LineParts.{IsEntry, IsPassed};
 ghost use Rattle.stimulus.specs.declared.stimulus.Entry.{Entry};
 ghost use Rattle.refusals.specs.declared.elaborate.Fault.TheVariants.{Memory, BadStimulus};
 

@@ -1,7 +1,7 @@
 // One line of a stimulus after another.
 ghost use Rattle.std.specs.Prelude.{◌≡◌, ◌⊎◌, IfErr, OnOk};
 ghost use Rattle.stimulus.specs.StimulusText.{HasForm};
-ghost use Rattle.stimulus.specs.walking.LineParts.{IsAdded};
+ghost use Rattle.stimulus.specs.internal.LineParts.{IsAdded};
 ghost use Rattle.refusals.specs.declared.elaborate.Fault.TheVariants.{Memory, BadStimulus};
 
 use crate::Fault;

@@ -3,7 +3,7 @@ use Rattle.std.proofs.Common.{◌≡◌, ℕ, ◌+◌, ◌<◌, List, [], ◌∷
 use Rattle.std.proofs.lemmas.List.{at_drop_more}
 use Rattle.std.proofs.lemmas.Bool.Decides.{nat_tests}
 use Rattle.system.specs.Expression.{inserted, ascending, variables, variables_of_all, binary}
-use Rattle.system.specs.walking.Variables.{inserted_all}
+use Rattle.system.specs.internal.Variables.{inserted_all}
 use Rattle.system.specs.Translation.{expression_of}
 use Rattle.system.specs.declared.expression.Operator.{Operator}
 use Rattle.system.specs.declared.expression.Expression.{Expression}

@@ -1,2 +1,2 @@
-pub mod Insertions
-pub mod HashLemmas
+mod Insertions
+mod HashLemmas

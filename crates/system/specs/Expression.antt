@@ -80,7 +80,7 @@ abbrev pub is_in : ℕ → List ℕ → Bool
 is_in x [] = false
 is_in x (y ∷ ys) = cond (x == y) true (is_in x ys)
 
--- the place of the first true test from n on; else the place after the last where there is an else
+-- the position of the first true test from n on; else the position after the last where there is an else
 abbrev pub first_of_tests : ℕ → List Bool → Bool → Option ℕ
 first_of_tests n [] true = Some n
 first_of_tests n [] false = None
@@ -121,7 +121,7 @@ abbrev pub put_decision : ℕ → Word → Decision → Decision
 put_decision c v (by_guards gs otherwise) = by_guards (put_all c v gs) otherwise
 put_decision c v (by_labels e labels otherwise) = by_labels (put_value c v e) labels otherwise
 
--- a list with x at its place, once, where the list is ascending
+-- a list with x at its position, once, where the list is ascending
 abbrev pub inserted : ℕ → List ℕ → List ℕ
 inserted x [] = x ∷ []
 inserted x (y ∷ ys) = if x == y then (y ∷ ys) else (if nat_lt x y then (x ∷ y ∷ ys) else (y ∷ inserted x ys))

@@ -2,4 +2,4 @@ pub mod Expression
 pub mod Residual
 pub mod Translation
 pub mod Named
-pub mod walking
+pub mod internal

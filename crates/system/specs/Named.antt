@@ -9,15 +9,15 @@ use Rattle.system.specs.declared.system.Variable.{Variable}
 use Rattle.system.specs.declared.system.Channel.{Channel}
 use Rattle.std.specs.Fmt.{decimal}
 
--- a place as a number of 32 bits, where it has so many
+-- a position as a number of 32 bits, where it has so many
 abbrev pub as_number : ℕ → Option ℕ
-as_number place = if nat_le place 4294967295 then Some place else None
+as_number position = if nat_le position 4294967295 then Some position else None
 
--- the number of the first variable of this name, where the first of them has this place
+-- the number of the first variable of this name, where the first of them has this position
 abbrev pub variable_from : ℕ → List Variable → List ℕ → Option ℕ
-variable_from place [] name = None
-variable_from place (v ∷ vs) name =
-    if pointwise nat_eq v.name name then as_number place else variable_from (place + 1) vs name
+variable_from position [] name = None
+variable_from position (v ∷ vs) name =
+    if pointwise nat_eq v.name name then as_number position else variable_from (position + 1) vs name
 
 -- the name of the variable of this number
 abbrev pub variable_name_at : List Variable → ℕ → Option (List ℕ)

@@ -4,7 +4,7 @@ use Rattle.value.specs.Word.{Word}
 use Rattle.system.specs.Expression.{Expression, Decision, put_value, put_decision}
 
 mutual
-  -- What is still to do at a place p. A command and what is left of one are the same type.
+  -- What is still to do at a position p. A command and what is left of one are the same type.
   pub data Residual : Type 0 where
     -- nothing
     done : Residual

@@ -49,7 +49,7 @@ pub record OnLabels : Type 0 where
   pub labels : List ℕ
   pub body : Residual
 
--- children of a sequence, the first at place n
+-- children of a sequence, the first at position n
 abbrev pub in_sequence : ℕ → List Residual → Residual
 in_sequence n [] = done
 in_sequence n (r ∷ rs) = within n r (in_sequence (suc n) rs)

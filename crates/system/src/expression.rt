@@ -77,7 +77,7 @@ pub enum Expression {
 
 impl Expression {
     /// The value over the variables, which stand by number. A variable past the last reads 0, and so does the name of a
-    /// channel, since what was received stands in the name's place (`with_received`).
+    /// channel, since what was received stands in the name's position (`with_received`).
     pub fn value(&self, variables: &[Value]) -> Value
         ensures { result ≡ model.value variables.now (expression_of self.now) }
     {

@@ -9,7 +9,7 @@ mod command;
 mod decision;
 mod expression;
 mod hash;
-mod hash_places;
+mod hash_positions;
 mod prefix;
 mod qualified_name;
 mod system;

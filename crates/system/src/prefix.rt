@@ -2,7 +2,7 @@
 // around it, so that a chain of calls takes memory for each call once.
 ghost use Rattle.std.specs.Prelude.{◌≡◌, ◌++◌, [], nat_eq, reverse, IfOk, OnOk};
 ghost use Rattle.std.specs.Cmp.Lexicographic.{pointwise};
-ghost use Rattle.system.specs.walking.Hashing.{hash_of};
+ghost use Rattle.system.specs.internal.Hashing.{hash_of};
 ghost use Rattle.system.specs.Named.{prefix_of_call};
 
 use crate::hash::hash_onto;
@@ -34,7 +34,7 @@ impl Model for Prefix {
     ghost Value = { List ℕ };
 
     ghost use Rattle.system.specs.Named.{prefix_bytes};
-    ghost use Rattle.system.specs.walking.SharedPrefix.{IsHashed};
+    ghost use Rattle.system.specs.internal.SharedPrefix.{IsHashed};
 
     ghost view = { λ prefix. prefix_bytes prefix.innermost };
 

@@ -1,6 +1,6 @@
 ghost use Rattle.std.specs.Prelude.{◌≡◌, ◌++◌, nat_eq, OnOk, OnErr};
 ghost use Rattle.std.specs.Cmp.Lexicographic.{pointwise};
-ghost use Rattle.system.specs.walking.Hashing.{hash_of};
+ghost use Rattle.system.specs.internal.Hashing.{hash_of};
 
 use crate::hash::hash_onto;
 use crate::prefix::{Prefix, push_backwards};

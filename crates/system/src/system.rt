@@ -4,7 +4,7 @@ use crate::{Command, QualifiedName, VariableTable};
 use syntax::Items;
 use value::{Value, Width};
 
-/// A variable. Its number is its place in the system's list, from 0.
+/// A variable. Its number is its position in the system's list, from 0.
 #[derive(Drop)]
 pub struct Variable {
     pub name: QualifiedName,
@@ -22,7 +22,7 @@ pub enum ChannelKind {
     Sync,
 }
 
-/// A channel or a port. Its number is its place in the system's list, from 0.
+/// A channel or a port. Its number is its position in the system's list, from 0.
 #[derive(Drop)]
 pub struct Channel {
     pub name: QualifiedName,

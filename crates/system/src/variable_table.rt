@@ -1,12 +1,12 @@
 // The variables of a system by number and by name.
 ghost use Rattle.std.specs.Prelude.{◌≡◌, ◌<◌, length, drop, slice_get, map, IfOk, OnSome};
 ghost use Rattle.std.specs.Option.{option_copied};
-ghost use Rattle.system.specs.walking.Hashing.{hash_of, places_of_hashes};
+ghost use Rattle.system.specs.internal.Hashing.{hash_of, positions_of_hashes};
 ghost use Rattle.system.specs.Named as named;
 
 use crate::Variable;
 use crate::hash::hash_onto;
-use crate::hash_places::HashPlaces;
+use crate::hash_positions::HashPositions;
 use std::alloc::{AllocError, Global};
 use std::marker::Model;
 use syntax::Items;
@@ -17,7 +17,7 @@ pub struct VariableTable {
     /// by number
     variables: Items<Variable>,
     /// the first number of each hash of a name: two names of one hash are rare
-    places: HashPlaces,
+    positions: HashPositions,
 }
 
 impl Model for VariableTable {
@@ -26,11 +26,11 @@ impl Model for VariableTable {
 
     ghost Value = { List Variable };
 
-    ghost use Rattle.system.specs.walking.Hashing.{hash_of, places_of_hashes};
+    ghost use Rattle.system.specs.internal.Hashing.{hash_of, positions_of_hashes};
 
     ghost view = { λ table. table.variables };
 
-    ghost invariant = { λ table. table.places ≡ places_of_hashes (map (λ v. hash_of v.name) table.variables) };
+    ghost invariant = { λ table. table.positions ≡ positions_of_hashes (map (λ v. hash_of v.name) table.variables) };
 }
 
 impl VariableTable {
@@ -38,8 +38,11 @@ impl VariableTable {
     pub fn new(alloc: Global, variables: Items<Variable>) -> Result<VariableTable, AllocError>
         ensures { IfOk result (λ table. table ≡ variables) }
     {
-        let places = first_places(alloc, variables.as_slice())?;
-        Ok(VariableTable { variables, places })
+        let positions = first_places(alloc, variables.as_slice())?;
+        Ok(VariableTable {
+            variables,
+            positions,
+        })
     }
 
     /// The variables by number.
@@ -68,42 +71,42 @@ impl VariableTable {
     pub fn number(&self, name: &[u8]) -> Option<u32>
         ensures { result ≡ named.variable_from 0 self.now name.now }
     {
-        match self.places.find(hash_onto(0, name)) {
-            Some(place) => number_from(self.variables.as_slice(), place, name),
+        match self.positions.find(hash_onto(0, name)) {
+            Some(position) => number_from(self.variables.as_slice(), position, name),
             None => None,
         }
     }
 }
 
-/// The first place of each hash of a name.
-fn first_places(alloc: Global, variables: &[Variable]) -> Result<HashPlaces, AllocError>
-    ensures { IfOk result (λ places. places ≡ places_of_hashes (map (λ v. hash_of v.name) variables.now)) }
+/// The first position of each hash of a name.
+fn first_places(alloc: Global, variables: &[Variable]) -> Result<HashPositions, AllocError>
+    ensures { IfOk result (λ positions. positions ≡ positions_of_hashes (map (λ v. hash_of v.name) variables.now)) }
 {
-    let mut places = HashPlaces::new(alloc);
-    for (place, variable) in variables.iter().enumerate() {
-        places.note(variable.name.hash(), place)?;
+    let mut positions = HashPositions::new(alloc);
+    for (position, variable) in variables.iter().enumerate() {
+        positions.note(variable.name.hash(), position)?;
     }
-    Ok(places)
+    Ok(positions)
 }
 
-/// The number of the first variable of this name at this place or behind it.
+/// The number of the first variable of this name at this position or behind it.
 fn number_from(variables: &[Variable], first: usize, name: &[u8]) -> Option<u32>
     ensures { result ≡ named.variable_from first (drop first variables.now) name.now }
 {
-    for place in first..variables.len() {
-        if variables[place].name.is(name) {
-            return as_number(place);
+    for position in first..variables.len() {
+        if variables[position].name.is(name) {
+            return as_number(position);
         }
     }
     None
 }
 
-/// The place as a number of 32 bits.
-fn as_number(place: usize) -> Option<u32>
-    ensures { result ≡ named.as_number place }
+/// The position as a number of 32 bits.
+fn as_number(position: usize) -> Option<u32>
+    ensures { result ≡ named.as_number position }
 {
-    if place <= 4294967295 {
-        Some(place as u32)
+    if position <= 4294967295 {
+        Some(position as u32)
     } else {
         None
     }

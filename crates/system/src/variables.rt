@@ -2,7 +2,7 @@ ghost use Rattle.std.specs.Prelude.{◌≡◌, ◌≤◌, ◌↔◌, List, [], l
 ghost use Rattle.std.specs.List.{insert};
 ghost use Rattle.system.specs.Expression as model;
 ghost use Rattle.system.specs.Translation.{expression_of};
-ghost use Rattle.system.specs.walking.Variables.{inserted_all};
+ghost use Rattle.system.specs.internal.Variables.{inserted_all};
 
 use crate::Expression;
 use smallvec::SmallVec;
@@ -58,13 +58,13 @@ impl Variables {
         Ok(Variables { numbers })
     }
 
-    /// Puts the variable at its place, unless it is there. Without memory nothing changes.
+    /// Puts the variable at its position, unless it is there. Without memory nothing changes.
     pub fn insert(&mut self, number: u32) -> Result<(), AllocError>
         ensures ok { OnOk result (self.new ≡ model.inserted number self.old) }
         ensures err { OnErr result (self.new ≡ self.old) }
     {
-        if let Some(place) = place_for(self.as_slice(), number) {
-            self.numbers.insert(place, number)?;
+        if let Some(position) = place_for(self.as_slice(), number) {
+            self.numbers.insert(position, number)?;
         }
         Ok(())
     }
@@ -72,16 +72,16 @@ impl Variables {
 
 /// Where the number is to be inserted, or `None` where it stands already.
 fn place_for(numbers: &[u32], number: u32) -> Option<usize>
-    ensures place { MatchOption result (model.inserted number numbers.now ≡ numbers.now) (λ place.
-        model.inserted number numbers.now ≡ insert numbers.now place number) }
-    ensures within { MatchOption result (Unit {0}) (λ place. place ≤ length numbers.now) }
+    ensures position { MatchOption result (model.inserted number numbers.now ≡ numbers.now) (λ position.
+        model.inserted number numbers.now ≡ insert numbers.now position number) }
+    ensures within { MatchOption result (Unit {0}) (λ position. position ≤ length numbers.now) }
 {
-    for (place, held) in numbers.iter().enumerate() {
+    for (position, held) in numbers.iter().enumerate() {
         if *held == number {
             return None;
         }
         if number < *held {
-            return Some(place);
+            return Some(position);
         }
     }
     Some(numbers.len())

@@ -16,7 +16,7 @@ use Rattle.system.specs.declared.system.System.{System}
 use Rattle.system_places.specs.CommandPlaces.{is_body_number}
 use Rattle.system_places.specs.declared.command_places.Form.TheVariants.{Turns, Test, Choice}
 use Rattle.system_places.specs.LinesBegun.{any_onto, last_of, begun_layer, begun_arm, begun_command, begun_guarded, begun_labelled, begins}
-use Rattle.system_places.specs.walking.Parts.{arm_begins, guarded_begins, labelled_begins}
+use Rattle.system_places.specs.internal.Parts.{arm_begins, guarded_begins, labelled_begins}
 use Rattle.system_places.specs.TakenArms.{ArmsByPlace, Doing, doing, line_of_command, is_place, else_at, guarded_at, labelled_at, channel_arm_at, body_at, part_at, child_at, part, acting_in, acting_command}
 use Rattle.system_places.specs.Laws.{LinesAreBegun}
 

@@ -3,4 +3,4 @@ pub mod Laws
 pub mod LinesBegun
 pub mod SystemBranches
 pub mod TakenArms
-pub mod walking
+pub mod internal

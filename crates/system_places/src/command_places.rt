@@ -5,7 +5,7 @@
 ghost use Rattle.std.specs.Prelude.{◌≡◌, None, map};
 ghost use Rattle.std.specs.Option.{option_map, option_copied, option_or};
 ghost use Rattle.system_places.specs.CommandPlaces as model;
-ghost use Rattle.system_places.specs.walking.Parts as parts;
+ghost use Rattle.system_places.specs.internal.Parts as parts;
 
 use address::{Address, Entry};
 use syntax::Items;

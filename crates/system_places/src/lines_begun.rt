@@ -2,7 +2,7 @@
 ghost use Rattle.std.specs.Prelude.{◌≡◌, false, map};
 ghost use Rattle.std.specs.Option.{option_map};
 ghost use Rattle.system_places.specs.LinesBegun as model;
-ghost use Rattle.system_places.specs.walking.Parts as parts;
+ghost use Rattle.system_places.specs.internal.Parts as parts;
 
 use system::{Action, Arm, Command, Guarded, Labelled, System};
 

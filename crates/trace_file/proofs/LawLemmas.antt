@@ -11,21 +11,21 @@ use Rattle.runs.specs.Object.{most_live}
 use Rattle.runs.specs.Steps.{State, Step, Run, opening}
 use Rattle.runs.specs.declared.event.Choice.{Choice}
 use Rattle.runs.specs.declared.event.Event.{Event}
-use Rattle.runs.proofs.FromOpening.{one_choice}
-use Rattle.runs.proofs.Opening.{opening-formed}
-use Rattle.runs.proofs.Orders.{run-join, run-part, run-formed}
-use Rattle.runs.proofs.StepOf.{step-determined, run-determined}
+use Rattle.runs.proofs.public.FromOpening.{one_choice}
+use Rattle.runs.proofs.public.Opening.{opening-formed}
+use Rattle.runs.proofs.public.Orders.{run-join, run-part, run-formed}
+use Rattle.runs.proofs.public.StepOf.{step-determined, run-determined}
 use Rattle.runs.specs.Sound.{Sound}
 use Rattle.machine.specs.AtMachine.{AtMachine, object}
 use Rattle.trace_file.specs.TraceText.{header_of, choice_line, event_line, trace_text, IsTrace, IsWritable, HasSteps, Begins}
 use Rattle.trace_file.specs.Loading.{IsFirstLine, IsNoEnd, IsStep, CannotStep}
 use Rattle.trace_file.specs.declared.version.Version.{Version}
 use Rattle.trace_file.specs.declared.version.Version.TheVariants.{First, Second}
-use Rattle.canonical_order.proofs.Canonicals.{canonical-rearranged, canonical-runs, is-its-own-order, orders-agree}
+use Rattle.canonical_order.proofs.public.Canonicals.{canonical-rearranged, canonical-runs, is-its-own-order, orders-agree}
 use Rattle.canonical_order.specs.Canonical.{IsCanonicalOrder}
-use Rattle.runs.proofs.Elements.{in-rearranged}
-use Rattle.runs.proofs.FromOpening.{one_state}
-use Rattle.runs.proofs.Lists.{every-in, every-of}
+use Rattle.runs.proofs.public.Elements.{in-rearranged}
+use Rattle.runs.proofs.public.FromOpening.{one_state}
+use Rattle.runs.proofs.public.Lists.{every-in, every-of}
 use Rattle.trace_file.specs.Laws.{OneList, EqualBytes, TraceStands, LoadsTheSame}
 use Rattle.trace_file.proofs.LineLemmas.{cut-same, has-one, step-same, clear-by-test}
 use Rattle.trace_file.proofs.EventLemmas.{events-length, ticketed-events}

@@ -1,9 +1,9 @@
-pub mod EventLemmas
-pub mod FaultLemmas
-pub mod LawLemmas
-pub mod LineLemmas
-pub mod LoadLemmas
-pub mod LongLemmas
-pub mod OrderLemmas
-pub mod RootLemmas
-pub mod SaveLemmas
+mod EventLemmas
+mod FaultLemmas
+mod LawLemmas
+mod LineLemmas
+mod LoadLemmas
+mod LongLemmas
+mod OrderLemmas
+mod RootLemmas
+mod SaveLemmas

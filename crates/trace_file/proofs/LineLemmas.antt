@@ -12,13 +12,13 @@ use Rattle.address.specs.declared.Entry.{Entry}
 use Rattle.address.specs.declared.Entry.TheVariants.{Ordered, Branch}
 use Rattle.address.specs.Text.{text_of}
 use Rattle.address.specs.Reading.{NumbersFit, IsTextOf, HasNoText}
-use Rattle.address.proofs.Numbers.{heads, tails}
-use Rattle.address.proofs.Finds.{text_of-injective}
+use Rattle.address.proofs.public.Numbers.{heads, tails}
+use Rattle.address.proofs.public.Finds.{text_of-injective}
 use Rattle.decimal.specs.Reading.{Reads, IsNoNumber}
-use Rattle.decimal.proofs.DigitLemmas.{decimal-digits}
+use Rattle.decimal.proofs.public.DigitLemmas.{decimal-digits}
 use Rattle.runs.specs.declared.event.Choice.{Choice}
 use Rattle.trace_file.specs.Loading.{IsStep, IsNoStep}
-use Rattle.trace_file.specs.walking.Fields.{HasNone, IsCut, AreFields, HasNoFields, HasNoWord, IsArm, IsNoArm}
+use Rattle.trace_file.specs.internal.Fields.{HasNone, IsCut, AreFields, HasNoFields, HasNoWord, IsArm, IsNoArm}
 
 -- equal texts with one beginning have equal ends
 pub same-behind : (front xs ys : List ℕ) → front ++ xs ≡ front ++ ys → xs ≡ ys

@@ -13,16 +13,16 @@ use Rattle.runs.specs.declared.command.Refusal.{Refusal}
 use Rattle.runs.specs.declared.command.Refusal.TheVariants.{NotReady, HistoryFull, Spent}
 use Rattle.runs.specs.declared.event.Choice.{Choice}
 use Rattle.runs.specs.declared.event.Event.{Event}
-use Rattle.runs.proofs.Orders.{run-join}
-use Rattle.runs.proofs.Tickets.{events-join}
+use Rattle.runs.proofs.public.Orders.{run-join}
+use Rattle.runs.proofs.public.Tickets.{events-join}
 use Rattle.machine.specs.AtMachine.{AtMachine, object}
 use Rattle.machine.specs.Results.{step_reply}
 use Rattle.trace_file.specs.declared.fault.Fault.{Fault}
 use Rattle.trace_file.specs.declared.version.Version.{Version}
 use Rattle.trace_file.specs.TraceText.{header_of, choice_line, event_line, IsWritable, HasSteps, Begins, KeepsOrder}
 use Rattle.trace_file.specs.Loading.{ticketed, IsLoaded, IsStep, CannotStep, StepsStop, IsRefused}
-use Rattle.trace_file.specs.walking.OneStep.{Loading, Taken, NotTaken, LineTaken, LineStops, StepStops, HeaderStops, OrderStops, outcome_of}
-use Rattle.trace_file.specs.walking.Fields.{HasNone, IsCut}
+use Rattle.trace_file.specs.internal.OneStep.{Loading, Taken, NotTaken, LineTaken, LineStops, StepStops, HeaderStops, OrderStops, outcome_of}
+use Rattle.trace_file.specs.internal.Fields.{HasNone, IsCut}
 use Rattle.trace_file.proofs.EventLemmas.{every-more, events-length, ticketed-more, length-more, lines-more}
 
 -- a machine has its parts

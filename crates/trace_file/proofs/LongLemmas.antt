@@ -4,15 +4,15 @@ use Rattle.std.specs.Prelude.{IsTrue}
 use Rattle.std.specs.Fmt.{decimal}
 use Rattle.std.proofs.lemmas.Bool.{false≢true}
 use Rattle.std.proofs.lemmas.Fmt.{length-decimal-le}
-use Rattle.machine.proofs.Gathering.{take-more, take-all}
+use Rattle.machine.proofs.public.Gathering.{take-more, take-all}
 use Rattle.syntax.specs.Lists.{Every}
 use Rattle.address.specs.declared.Entry.{Entry}
 use Rattle.address.specs.declared.Entry.TheVariants.{Ordered, Branch}
 use Rattle.address.specs.Text.{text_of}
 use Rattle.address.specs.Reading.{NumbersFit, IsTextOf, HasNoText}
-use Rattle.address.specs.walking.Entries.{ReadsEntry, BeginsNoEntry}
-use Rattle.address.proofs.Finds.{Pending, pending-more, pending-stuck, pending-end}
-use Rattle.runs.proofs.Lists.{every-in}
+use Rattle.address.specs.internal.Entries.{ReadsEntry, BeginsNoEntry}
+use Rattle.address.proofs.public.Finds.{Pending, pending-more, pending-stuck, pending-end}
+use Rattle.runs.proofs.public.Lists.{every-in}
 use Rattle.runs.specs.Events.{acting}
 use Rattle.runs.specs.Object.{Reaches}
 use Rattle.runs.specs.Ready.{ReadyList, ChoiceAllowed}
@@ -22,8 +22,8 @@ use Rattle.runs.specs.declared.event.Choice.{Choice}
 use Rattle.runs.specs.declared.event.Event.{Event}
 use Rattle.machine.specs.AtMachine.{AtMachine, object}
 use Rattle.trace_file.specs.declared.fault.Fault.{Fault}
-use Rattle.trace_file.specs.walking.OneStep.{LineStops, RefusesLong}
-use Rattle.trace_file.specs.walking.Fields.{AreFields, IsArm, IsNoArm}
+use Rattle.trace_file.specs.internal.OneStep.{LineStops, RefusesLong}
+use Rattle.trace_file.specs.internal.Fields.{AreFields, IsArm, IsNoArm}
 use Rattle.trace_file.proofs.EventLemmas.{every-more}
 use Rattle.trace_file.proofs.LineLemmas.{a-step, no-step-arm, no-step-place}
 

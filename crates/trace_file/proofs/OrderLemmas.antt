@@ -12,16 +12,16 @@ use Rattle.runs.specs.Sound.{Sound}
 use Rattle.runs.specs.Steps.{State, Run, opening}
 use Rattle.runs.specs.declared.event.Choice.{Choice}
 use Rattle.runs.specs.declared.event.Event.{Event}
-use Rattle.runs.proofs.FromOpening.{acting_once}
-use Rattle.runs.proofs.Lists.{every-in}
-use Rattle.runs.proofs.Options.{none-some, some-injective}
+use Rattle.runs.proofs.public.FromOpening.{acting_once}
+use Rattle.runs.proofs.public.Lists.{every-in}
+use Rattle.runs.proofs.public.Options.{none-some, some-injective}
 use Rattle.machine.specs.AtMachine.{AtMachine, object}
-use Rattle.canonical_order.proofs.Stands.{stand-length}
+use Rattle.canonical_order.proofs.public.Stands.{stand-length}
 use Rattle.canonical_order.specs.Canonical.{IsCanonicalOrder, StandAt}
 use Rattle.trace_file.specs.TraceText.{event_line, IsWritable, KeepsOrder}
 use Rattle.trace_file.specs.declared.fault.Fault.{Fault}
 use Rattle.trace_file.specs.declared.version.Version.TheVariants.{Second}
-use Rattle.trace_file.specs.walking.OneStep.{OrderStops, AllAtHome, FirstMoved}
+use Rattle.trace_file.specs.internal.OneStep.{OrderStops, AllAtHome, FirstMoved}
 use Rattle.trace_file.proofs.LawLemmas.{canonical-length}
 use Rattle.trace_file.proofs.LineLemmas.{step-same}
 

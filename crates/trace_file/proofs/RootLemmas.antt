@@ -11,7 +11,7 @@ use Rattle.runs.specs.Steps.{State, Moves, Step, Run, opening}
 use Rattle.runs.specs.declared.event.Event.{Event}
 use Rattle.runs.specs.declared.event.Kind.{Kind}
 use Rattle.runs.specs.declared.event.Kind.TheVariants.{Assign, Test, Turn, Meet, Open, Close, Sync}
-use Rattle.runs.proofs.Stepping.{place-moves}
+use Rattle.runs.proofs.public.Stepping.{place-moves}
 
 -- branches, and nothing else
 abbrev AreBranches : Residual → Type 0

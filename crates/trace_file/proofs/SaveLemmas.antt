@@ -9,18 +9,18 @@ use Rattle.runs.specs.Events.{acting}
 use Rattle.runs.specs.Live.{Live, events}
 use Rattle.runs.specs.Steps.{State, Run, opening}
 use Rattle.runs.specs.declared.event.Event.{Event}
-use Rattle.canonical_order.proofs.Canonicals.{canonical-rearranged}
-use Rattle.canonical_order.proofs.Stands.{stand-length, stand-one}
+use Rattle.canonical_order.proofs.public.Canonicals.{canonical-rearranged}
+use Rattle.canonical_order.proofs.public.Stands.{stand-length, stand-one}
 use Rattle.canonical_order.specs.Canonical.{IsCanonicalOrder, StandAt}
 use Rattle.system.specs.declared.system.System.{System}
 use Rattle.std.specs.List.{flat_map}
-use Rattle.runs.proofs.Elements.{rearranged-in}
-use Rattle.runs.proofs.Lists.{every-in, every-of}
+use Rattle.runs.proofs.public.Elements.{rearranged-in}
+use Rattle.runs.proofs.public.Lists.{every-in, every-of}
 use Rattle.trace_file.specs.declared.version.Version.TheVariants.{Second}
 use Rattle.trace_file.specs.TraceText.{header_of, trace_text, event_line, IsTrace, IsWritable}
 use Rattle.trace_file.proofs.EventLemmas.{every-more, lines-more}
 use Rattle.trace_file.proofs.RootLemmas.{never-at-root}
-use Rattle.runs.proofs.Options.{none-some, some-injective}
+use Rattle.runs.proofs.public.Options.{none-some, some-injective}
 use Rattle.std.proofs.lemmas.List.{take_all, take_more}
 use Rattle.std.proofs.lemmas.List.Concat.{flat_map-append}
 use Rattle.address.specs.Text.{entry_text, text_of}

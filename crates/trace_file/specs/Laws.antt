@@ -19,7 +19,9 @@ use Rattle.trace_file.specs.declared.fault.Fault.TheVariants.{Memory}
 
 -- a text stands for one list of events
 abbrev pub OneList : Type 0
-OneList = (system : System) (text : List ℕ) (g h : List Event) → SharesWell system → StandsFor system text g → StandsFor system text h → g ≡ h
+OneList =
+    (system : System) (text : List ℕ) (g h : List Event) → SharesWell system → StandsFor system text g →
+    StandsFor system text h → g ≡ h
 
 -- a text that stands for events is refused for want of memory alone
 abbrev pub NotRefused : Type 0
@@ -28,7 +30,9 @@ NotRefused = (system : System) (text : List ℕ) (h : List Event) (fault : Fault
 
 -- a text is refused for one reason, but for want of memory
 abbrev pub OneFault : Type 0
-OneFault = (system : System) (text : List ℕ) (one other : Fault) → SharesWell system → IsRefused system text one → IsRefused system text other →
+OneFault =
+    (system : System) (text : List ℕ) (one other : Fault) → SharesWell system → IsRefused system text one →
+    IsRefused system text other →
     (one ≡ Memory → ⊥) → (other ≡ Memory → ⊥) → one ≡ other
 
 -- the traces of two lists that are respecting orders of each other, of which one runs, have equal bytes
@@ -38,11 +42,14 @@ EqualBytes = (system : System) (h k : List Event) (T : State) (one other : List 
 
 -- the trace of a machine, whose lines can be written, stands for its events in canonical order
 abbrev pub TraceStands : Type 0
-TraceStands = (m : AtMachine) (text : List ℕ) → Sound (object m) → Every (λ e. IsWritable (choice_of e)) (events m.live) →
+TraceStands =
+    (m : AtMachine) (text : List ℕ) → Sound (object m) → Every (λ e. IsWritable (choice_of e)) (events m.live) →
     IsTrace (events m.live) text → (g : List Event) × IsCanonicalOrder (events m.live) g × StandsFor m.checked text g
 
 -- what is loaded from the trace of a machine has the same events in canonical order, and the same state
 abbrev pub LoadsTheSame : Type 0
-LoadsTheSame = (m m' : AtMachine) (text : List ℕ) → SharesWell m.checked → Sound (object m) → Every (λ e. IsWritable (choice_of e)) (events m.live) →
+LoadsTheSame =
+    (m m' : AtMachine) (text : List ℕ) → SharesWell m.checked → Sound (object m) →
+    Every (λ e. IsWritable (choice_of e)) (events m.live) →
     IsTrace (events m.live) text → IsLoaded m.checked text m' →
     IsCanonicalOrder (events m.live) (events m'.live) × ((T : State) → Reaches (object m') T ↔ Reaches (object m) T)

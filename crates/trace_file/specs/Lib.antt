@@ -2,4 +2,4 @@ pub mod FaultNumbers
 pub mod Laws
 pub mod Loading
 pub mod TraceText
-pub mod walking
+pub mod internal

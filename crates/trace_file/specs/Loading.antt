@@ -25,7 +25,8 @@ ticketed t (e ∷ h) = (t, e) ∷ ticketed (suc t) h
 -- the machine has the events that the text stands for, in their order, under the tickets from 1 on
 abbrev pub IsLoaded : System → List ℕ → AtMachine → Type 0
 IsLoaded system text m =
-    (h : List Event) × StandsFor system text h × (m ≡ record { checked = system; live = ticketed 1 h; next = suc (length h) })
+    (h : List Event) × StandsFor system text h
+    × (m ≡ record { checked = system; live = ticketed 1 h; next = suc (length h) })
 
 -- a byte that does not end a line
 abbrev pub IsNoEnd : ℕ → Type 0
@@ -47,13 +48,15 @@ IsNoStep text = (c : Choice) (after : List ℕ) → IsStep c text after → ⊥
 abbrev pub CannotStep : System → List Event → Choice → Type 0
 CannotStep system h c = ((T : State) × Run (opening system) h T × (ChoiceAllowed T c → ⊥)) ⊎ (length h ≡ most_live)
 
--- the line of number n is the first in which the text of the events h differs from that of the events g; the first line is the header
+-- the line of number n is the first in which the text of the events h differs from that of the events g; the first line
+-- is the header
 abbrev pub DiffersAt : List Event → List Event → ℕ → Type 0
 DiffersAt h g n =
     (p : List Event) × (e : Event) × (f : Event) × (k : List Event) × (l : List Event)
     × (h ≡ p ++ e ∷ k) × (g ≡ p ++ f ∷ l) × (event_line e ≢ event_line f) × (n ≡ 2 + length p)
 
--- the text behind a header is refused for this reason. The lines before the one that is named stand for events; line 1 is the header
+-- the text behind a header is refused for this reason. The lines before the one that is named stand for events; line 1
+-- is the header
 abbrev pub StepsStop : System → List ℕ → Fault → Type 0
 -- a line is not that of a choice
 StepsStop system steps (Fault.BadLine n) =
@@ -77,7 +80,8 @@ IsRefused system text (Fault.BadLine n) =
 -- the step of a line cannot be taken
 IsRefused system text (Fault.NotAStep n) =
     (v : Version) × (steps : List ℕ) × HasSteps v text steps × StepsStop system steps (Fault.NotAStep n)
--- all steps of a text of version 2 can be taken, and its lines differ from those of their canonical order, first in this one
+-- all steps of a text of version 2 can be taken, and its lines differ from those of their canonical order, first in
+-- this one
 IsRefused system text (Fault.NotCanonical n) =
     (steps : List ℕ) × (h : List Event) × HasSteps Second text steps × Begins system steps h []
     × ((g : List Event) × IsCanonicalOrder h g × DiffersAt h g n)
@@ -87,11 +91,13 @@ IsRefused system text Fault.Memory = Unit {0}
 IsRefused system text Fault.ReadFailed = ⊥
 IsRefused system text Fault.WriteFailed = ⊥
 
--- why no machine was loaded: the reader failed, or there was no memory, or it gave this text to its end, which is refused
+-- why no machine was loaded: the reader failed, or there was no memory, or it gave this text to its end, which is
+-- refused
 abbrev pub LoadStops : System → Option (List ℕ) → Option (List ℕ) → Fault → Type 0
 LoadStops system read left Fault.Memory = Unit {0}
 LoadStops system read left Fault.ReadFailed = Unit {0}
-LoadStops system read left fault = (text : List ℕ) × Consumes read left text × IsAtEnd left × IsRefused system text fault
+LoadStops system read left fault =
+    (text : List ℕ) × Consumes read left text × IsAtEnd left × IsRefused system text fault
 
 -- what a load took from its reader and made of it
 abbrev pub Loads : System → Option (List ℕ) → Option (List ℕ) → Result AtMachine Fault → Type 0
@@ -100,7 +106,8 @@ Loads system read left result =
     (λ m. (text : List ℕ) × Consumes read left text × IsAtEnd left × IsLoaded system text m)
     (λ fault. LoadStops system read left fault)
 
--- what of the trace of the events h was written where there was no memory for it, or the writer failed: nothing, or a beginning
+-- what of the trace of the events h was written where there was no memory for it, or the writer failed: nothing, or a
+-- beginning
 abbrev pub SaveStops : List Event → List ℕ → Fault → Type 0
 SaveStops h given Fault.Memory = given ≡ []
 SaveStops h given Fault.WriteFailed = (text : List ℕ) × IsTrace h text × IsBeginning text given
@@ -109,7 +116,8 @@ SaveStops h given _ = ⊥
 -- the trace of the events h was written, or it was not
 abbrev pub Saves : List Event → Option (List ℕ) → Option (List ℕ) → Result (Unit {0}) Fault → Type 0
 Saves h wrote held result =
-    (given : List ℕ) × Appends wrote held given × MatchResult result (λ _. IsTrace h given) (λ fault. SaveStops h given fault)
+    (given : List ℕ) × Appends wrote held given
+    × MatchResult result (λ _. IsTrace h given) (λ fault. SaveStops h given fault)
 
 -- the failures of the reader behind this fault: one more at 41, and else as many as before
 abbrev pub fault_reads : Fault → ℕ → ℕ

@@ -44,8 +44,8 @@ IsWritable c = (c.place ≢ []) × NumbersFit c.place × (c.arm < 2 ^ 32)
 abbrev pub HasSteps : Version → List ℕ → List ℕ → Type 0
 HasSteps v text steps = text ≡ header_of v ++ 10 ∷ steps
 
--- the bytes behind a header are the lines of the events h and then `rest`; the lines can be written, the events run from the
--- opening of the system, and are no more than may be live at one time
+-- the bytes behind a header are the lines of the events h and then `rest`; the lines can be written, the events run
+-- from the opening of the system, and are no more than may be live at one time
 pub record Begins (system : System) (steps : List ℕ) (h : List Event) (rest : List ℕ) : Type 0 where
   pub written : steps ≡ flat_map event_line h ++ rest
   pub lines : Every (λ e. IsWritable (choice_of e)) h
@@ -59,4 +59,5 @@ KeepsOrder Second h = IsCanonicalOrder h h
 
 -- the text stands for the events h
 abbrev pub StandsFor : System → List ℕ → List Event → Type 0
-StandsFor system text h = (v : Version) × (steps : List ℕ) × HasSteps v text steps × Begins system steps h [] × KeepsOrder v h
+StandsFor system text h =
+    (v : Version) × (steps : List ℕ) × HasSteps v text steps × Begins system steps h [] × KeepsOrder v h

@@ -4,13 +4,13 @@
 mod fault;
 mod laws;
 mod line;
-mod loading;
 mod long;
 mod order;
-mod saving;
+mod reader;
 mod version;
+mod writer;
 
 pub use fault::Fault;
 pub use laws::trace_laws;
-pub use loading::{load, load_text};
-pub use saving::{save, write_trace};
+pub use reader::{load, load_text};
+pub use writer::{save, write_trace};

@@ -2,7 +2,7 @@
 ghost use Rattle.std.specs.Prelude.{◌≡◌, ◌<◌, ◌^◌, ◌++◌, codes, MatchOption, IfOk};
 ghost use Rattle.std.specs.Option.{SomeIff};
 ghost use Rattle.trace_file.specs.Loading.{IsStep, IsNoStep};
-ghost use Rattle.trace_file.specs.walking.Fields.{HasNone, IsCut, AreFields, HasNoFields, HasNoWord, IsArm, IsNoArm};
+ghost use Rattle.trace_file.specs.internal.Fields.{HasNone, IsCut, AreFields, HasNoFields, HasNoWord, IsArm, IsNoArm};
 
 use decimal::read_number;
 use runs::Choice;

@@ -8,7 +8,7 @@ ghost use Rattle.runs.specs.Object.{Reaches};
 ghost use Rattle.runs.specs.Ready.{ReadyList};
 ghost use Rattle.runs.specs.Steps.{State};
 ghost use Rattle.machine.specs.AtMachine.{object};
-ghost use Rattle.trace_file.specs.walking.OneStep.{LineStops, RefusesLong};
+ghost use Rattle.trace_file.specs.internal.OneStep.{LineStops, RefusesLong};
 
 use crate::Fault;
 use crate::line::{fields, read_arm};
@@ -41,7 +41,8 @@ pub(crate) fn refuse_long(machine: &Machine, rest: &[u8], number: u64) -> Result
     Err(long_fault(place, arm, number))
 }
 
-/// Why the line of this number with this place and this arm is refused, where no event acts at the place. It takes no memory.
+/// Why the line of this number with this place and this arm is refused, where no event acts at the place. It takes no
+/// memory.
 fn long_fault(place: &[u8], arm: &[u8], number: u64) -> Fault
     ensures { RefusesLong place.now arm.now number result }
 {

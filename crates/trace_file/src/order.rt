@@ -6,7 +6,7 @@ ghost use Rattle.runs.specs.Choices.{choice_of};
 ghost use Rattle.runs.specs.Live.{events};
 ghost use Rattle.runs.specs.Steps.{State, Run, opening};
 ghost use Rattle.trace_file.specs.TraceText.{IsWritable, KeepsOrder};
-ghost use Rattle.trace_file.specs.walking.OneStep.{OrderStops, AllAtHome, FirstMoved};
+ghost use Rattle.trace_file.specs.internal.OneStep.{OrderStops, AllAtHome, FirstMoved};
 ghost use Rattle.trace_file.specs.declared.version.Version.TheVariants.{Second};
 
 use crate::Fault;
@@ -23,7 +23,8 @@ pub(crate) fn refuse_disorder(
     version: Version,
 ) -> Result<(), Fault>
     requires { Every (λ e. IsWritable (choice_of e)) (events machine.now.live) }
-    ensures { MatchResult result (λ _. KeepsOrder version (events machine.now.live)) (λ fault. OrderStops version (events machine.now.live) fault) }
+    ensures { MatchResult result (λ _. KeepsOrder version (events machine.now.live))
+        (λ fault. OrderStops version (events machine.now.live) fault) }
 {
     machine.is_sound();
     match version {
@@ -36,7 +37,8 @@ pub(crate) fn refuse_disorder(
 fn refuse_moved(alloc: Global, live: &Live) -> Result<(), Fault>
     requires runs { (system : System) × (T : State) × Run (opening system) (events live.now.live) T }
     requires lines { Every (λ e. IsWritable (choice_of e)) (events live.now.live) }
-    ensures { MatchResult result (λ _. KeepsOrder Second (events live.now.live)) (λ fault. OrderStops Second (events live.now.live) fault) }
+    ensures { MatchResult result (λ _. KeepsOrder Second (events live.now.live))
+        (λ fault. OrderStops Second (events live.now.live) fault) }
 {
     let order = canonical_order(alloc, live)?;
     match first_moved(order.as_slice()) {

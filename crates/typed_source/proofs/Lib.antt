@@ -1,2 +1,2 @@
-pub mod PartLemmas
-pub mod WholeLemmas
+mod PartLemmas
+mod WholeLemmas

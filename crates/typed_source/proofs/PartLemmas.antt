@@ -7,11 +7,11 @@ use Rattle.lexer.specs.declared.token.Token.{Token}
 use Rattle.lexer.specs.declared.lexing.Stop.{Stop}
 use Rattle.lexer.specs.declared.lexing.Stop.TheVariants.{Full, Procedure, EndOfSource}
 use Rattle.lexer.specs.declared.token.Kind.TheVariants.{End}
-use Rattle.lexer.specs.walking.Parts.{HasNoEnd, Goes, Ends, Refuses, IsRest, IsPart, TakesBytes}
-use Rattle.lexer.proofs.PartLemmas.{goes_on, goes_to_end}
+use Rattle.lexer.specs.internal.Parts.{HasNoEnd, Goes, Ends, Refuses, IsRest, IsPart, TakesBytes}
+use Rattle.lexer.proofs.public.PartLemmas.{goes_on, goes_to_end}
 use Rattle.parser.specs.Accepted as parser
-use Rattle.lexer.specs.walking.Parts.{BeginsProcedure}
-use Rattle.parser.proofs.PartLaws.{begins_on}
+use Rattle.lexer.specs.internal.Parts.{BeginsProcedure}
+use Rattle.parser.proofs.public.PartLaws.{begins_on}
 use Rattle.refusals.specs.declared.lexer.Fault as lexer_fault
 use Rattle.refusals.specs.declared.lexer.Fault.TheVariants as no_tokens
 use Rattle.refusals.specs.declared.parser.Fault as parser_fault
@@ -19,7 +19,7 @@ use Rattle.refusals.specs.declared.parser.Fault.TheVariants as no_description
 use Rattle.typed_source.specs.Wrapping.{of_lexer, of_parser}
 use Rattle.typed_source.specs.declared.fault.Fault.{Fault}
 use Rattle.typed_source.specs.declared.part.Part.{Part}
-use Rattle.typed_source.specs.walking.InParts.{IsNext, ReadsOn, ReadsPart, RefusesPart, RefusesNext, is_end}
+use Rattle.typed_source.specs.internal.InParts.{IsNext, ReadsOn, ReadsPart, RefusesPart, RefusesNext, is_end}
 
 -- the same, where the tokens are put together otherwise
 AreTokens_by : (source : List ℕ) (tokens other : List Token) → tokens ≡ other → AreTokens source tokens → AreTokens source other

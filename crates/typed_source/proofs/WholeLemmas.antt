@@ -5,10 +5,10 @@ use Rattle.lexer.specs.Tokens.{AreTokens}
 use Rattle.lexer.specs.Refusal as lexer
 use Rattle.lexer.specs.declared.lexing.Lexing.{Lexing}
 use Rattle.lexer.specs.declared.token.Token.{Token}
-use Rattle.lexer.specs.walking.Parts.{HasRead}
+use Rattle.lexer.specs.internal.Parts.{HasRead}
 use Rattle.parser.specs.Accepted as parser
-use Rattle.parser.specs.walking.Parts.{joined}
-use Rattle.parser.proofs.PartLaws.{begins_on, opens, opens_on}
+use Rattle.parser.specs.internal.Parts.{joined}
+use Rattle.parser.proofs.public.PartLaws.{begins_on, opens, opens_on}
 use Rattle.refusals.specs.declared.lexer.Fault as lexer_fault
 use Rattle.refusals.specs.declared.lexer.Fault.TheVariants as no_tokens
 use Rattle.refusals.specs.declared.parser.Fault as parser_fault
@@ -19,12 +19,12 @@ use Rattle.syntax.specs.declared.declaration.Description.{Description}
 use Rattle.types.specs.Declarations.{found_description}
 use Rattle.types.specs.Findings as types
 use Rattle.types.specs.declared.typing.Typing.{Typing}
-use Rattle.types.specs.walking.Judged.{Judges}
+use Rattle.types.specs.internal.Judged.{Judges}
 use Rattle.typed_source.specs.Source.{Describes, IsRefused}
 use Rattle.typed_source.specs.Wrapping.{of_lexer, of_parser, of_types}
 use Rattle.typed_source.specs.declared.fault.Fault.{Fault}
 use Rattle.typed_source.specs.declared.part.Part.{Part}
-use Rattle.typed_source.specs.walking.InParts.{ReadsPart, RefusesNext, IsNext, Stands}
+use Rattle.typed_source.specs.internal.InParts.{ReadsPart, RefusesNext, IsNext, Stands}
 
 -- a fault of typing is want of memory or another one
 other_than_memory : (fault : types_fault.Fault) → (of_types fault ≡ Fault.Memory) ⊎ ((of_types fault ≡ Fault.Types fault) × (fault ≢ not_typed.Memory))

@@ -1,3 +1,3 @@
 pub mod Source
 pub mod Wrapping
-pub mod walking
+pub mod internal

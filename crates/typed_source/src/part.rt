@@ -4,8 +4,8 @@ ghost use Rattle.std.specs.Prelude.{◌≡◌, Bool, true, false, List, IfSome, 
 ghost use Rattle.lexer.specs.declared.lexing.Lexing.{Lexing};
 ghost use Rattle.lexer.specs.declared.token.Token.{Token};
 ghost use Rattle.parser.specs.Accepted.{Parses};
-ghost use Rattle.lexer.specs.walking.Parts.{BeginsProcedure};
-ghost use Rattle.typed_source.specs.walking.InParts.{IsNext, ReadsOn, ReadsPart, RefusesPart, RefusesNext, is_end};
+ghost use Rattle.lexer.specs.internal.Parts.{BeginsProcedure};
+ghost use Rattle.typed_source.specs.internal.InParts.{IsNext, ReadsOn, ReadsPart, RefusesPart, RefusesNext, is_end};
 
 use crate::Fault;
 use lexer::{Kind, Lexing, Stop, Token};

@@ -5,7 +5,7 @@ use Rattle.types.specs.Commands.{Scope, judged_command}
 use Rattle.types.specs.Findings.{Verdict, becomes, both, and}
 use Rattle.types.specs.Names.{VisibleNames, look_up, declared, is_fresh, port_meaning, local_meaning}
 use Rattle.types.specs.Declarations.{Declared, with_one, with_ports, with_locals, all_ports, all_locals, one_port, one_local, port_kind, local_kind, behind, port_types, local_types, judged_procedure, declarations_right, after_procedure}
-use Rattle.types.specs.walking.Least.{least}
+use Rattle.types.specs.internal.Least.{least}
 use Rattle.types.specs.declared.scope.Meaning.{Meaning}
 use Rattle.types.specs.declared.scope.Meaning.TheVariants as meaning
 use Rattle.typed.specs.declared.tree.Command.{Command}

@@ -2,7 +2,7 @@
 use Rattle.std.proofs.Common.{◌≡◌, List, [], ◌∷◌, ◌++◌, map, Ok, Err, inl, inr, refl, ap, sym, subst, ◌∙◌}
 use Rattle.types.specs.Findings.{Verdict, Findings, becomes, if_right, both, and, with_next, with_all, all, and_all, demands, one_fault, every, IsRefused}
 use Rattle.types.specs.Refusal.{lesser}
-use Rattle.types.specs.walking.Least.{least}
+use Rattle.types.specs.internal.Least.{least}
 use Rattle.refusals.specs.declared.types.Fault.{Fault}
 use Rattle.syntax.specs.Lists.{In, Every}
 use Rattle.types.proofs.Order.{lesser-lesser, lesser-same, lesser-again, lesser-one}

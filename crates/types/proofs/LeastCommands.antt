@@ -2,13 +2,13 @@
 use Rattle.std.proofs.Common.{◌≡◌, ℕ, List, [], ◌∷◌, map, flat_map, Option, Some, None, Ok, Err, refl, ap, sym, subst, ◌∙◌}
 use Rattle.types.specs.Arms.{GuardedArm, LabelledArm, typed_guarded, one_bit, typed_labelled, new_labels, new_channels, channel_of_arm, guarded, conditional, labelled, cased, arm_of, distinct, judged_label, judged_labels, opened_arm}
 use Rattle.types.specs.Calls.{called, judged_argument}
-use Rattle.types.specs.Commands.{Scope, Judged, start_of, made, value, action_layer, arm_layer, case_arm_layer, command_layer, guarded_layer, each, judged_command, assignment, sending, receiving, guarded_loop, enclosing, target, sender, receiver, opened_by, channel_alone}
+use Rattle.types.specs.Commands.{Scope, Judged, start_of, command_of, value, action_layer, arm_layer, case_arm_layer, command_layer, guarded_layer, each, judged_command, assignment, sending, receiving, guarded_loop, enclosing, target, sender, receiver, opened_by, channel_alone}
 use Rattle.types.specs.Expressions.{JudgedValue, judged_expression, shape_layer, expression_layer, binary, complement, cast, type_width}
 use Rattle.types.specs.Findings.{Verdict, Keeping, Findings, both, demands, one_fault, every}
 use Rattle.types.specs.Names.{VisibleNames, find}
 use Rattle.types.specs.Uses.{arm_use, procedure_use}
-use Rattle.types.specs.walking.CommandParts.{judged_action, judged_guarded, judged_labelled, judged_arm}
-use Rattle.types.specs.walking.Least.{least}
+use Rattle.types.specs.internal.CommandParts.{judged_action, judged_guarded, judged_labelled, judged_arm}
+use Rattle.types.specs.internal.Least.{least}
 use Rattle.types.specs.declared.expression.Valued.{Valued}
 use Rattle.typed.specs.declared.tree.Arm as typed_arm
 use Rattle.typed.specs.declared.tree.Command as typed_command
@@ -222,7 +222,7 @@ command_agrees =
     ∙ ap (λ f. f scope opened) (sym (fold-roll-CaseArm _ _ _ _ _ (action_layer least) (arm_layer least) (case_arm_layer least) (command_layer least) (guarded_layer least) _)))))
     (λ x y is. subst (λ z. CommandAgrees (roll-Command z)) is (λ scope opened.
     ap (λ f. answer (f scope opened)) (fold-roll-Command _ _ _ _ _ (action_layer every) (arm_layer every) (case_arm_layer every) (command_layer every) (guarded_layer every) _)
-    ∙ (becomes_is (made y.span.line) (judged_action every y.action.0 scope opened) _ (y.action.1 scope opened)
+    ∙ (becomes_is (command_of y.span.line) (judged_action every y.action.0 scope opened) _ (y.action.1 scope opened)
     ∙ ap (λ f. f scope opened) (sym (fold-roll-Command _ _ _ _ _ (action_layer least) (arm_layer least) (case_arm_layer least) (command_layer least) (guarded_layer least) _)))))
     (λ x y is. subst (λ z. GuardedAgrees (roll-Guarded z)) is (λ scope opened.
     ap (λ f. answer (f scope opened)) (fold-roll-Guarded _ _ _ _ _ (action_layer every) (arm_layer every) (case_arm_layer every) (command_layer every) (guarded_layer every) _)

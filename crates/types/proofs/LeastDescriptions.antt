@@ -5,7 +5,7 @@ use Rattle.types.specs.Declarations.{SoFar, with_name, with_elements, with_defin
 use Rattle.types.specs.Expressions.{declared_width}
 use Rattle.types.specs.Findings.{Verdict, Findings, becomes, both, and, with_next, one_fault, every, IsRefused}
 use Rattle.types.specs.Names.{VisibleNames, declared, is_fresh, port_meaning, local_meaning}
-use Rattle.types.specs.walking.Least.{least}
+use Rattle.types.specs.internal.Least.{least}
 use Rattle.types.specs.declared.scope.Meaning.{Meaning}
 use Rattle.types.specs.declared.scope.Meaning.TheVariants as meaning
 use Rattle.typed.specs.declared.tree.Local.{Local}

@@ -1,18 +1,18 @@
-pub mod CallLemmas
-pub mod DeclarationLemmas
-pub mod DeclaredOnce
-pub mod ExpressionWays
-pub mod JudgedLemmas
-pub mod Least
-pub mod LeastCommands
-pub mod LeastDescriptions
-pub mod LeavingOut
-pub mod LocalsLeftOut
-pub mod Lookups
-pub mod NameLemmas
-pub mod Order
-pub mod Owed
-pub mod PartsFound
-pub mod Staying
-pub mod StaysRight
-pub mod TypingLaws
+pub mod public
+mod CallLemmas
+mod DeclarationLemmas
+mod DeclaredOnce
+mod ExpressionWays
+mod Least
+mod LeastCommands
+mod LeastDescriptions
+mod LeavingOut
+mod LocalsLeftOut
+mod Lookups
+mod NameLemmas
+mod Order
+mod Owed
+mod PartsFound
+mod Staying
+mod StaysRight
+mod TypingLaws

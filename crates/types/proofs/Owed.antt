@@ -5,9 +5,9 @@ use Rattle.std.proofs.lemmas.List.{map-append, flat_map_more}
 use Rattle.types.specs.Arms.{GuardedArm, LabelledArm, typed_guarded, typed_labelled, one_bit, guarded, conditional, labelled, cased, new_label, new_labels, with_seen}
 use Rattle.types.specs.Commands.{Scope, start_of, action_layer, arm_layer, case_arm_layer, command_layer, guarded_layer, each, judged_command}
 use Rattle.types.specs.Findings.{Verdict, becomes, both, and, with_next, with_all, all, and_all, demands}
-use Rattle.types.specs.walking.CommandParts.{judged_guarded, judged_labelled}
-use Rattle.types.specs.walking.Least.{least}
-use Rattle.types.specs.walking.Owed.{guarded_by, guard_of, guarded_arm, guard_owes, guard_owed, conditional_owing, labelled_by, labels_of, labelled_arm, width_of, with_all_seen, seen_after, labels_owe, labels_owed, case_owing}
+use Rattle.types.specs.internal.CommandParts.{judged_guarded, judged_labelled}
+use Rattle.types.specs.internal.Least.{least}
+use Rattle.types.specs.internal.Owed.{guarded_by, guard_of, guarded_arm, guard_owes, guard_owed, conditional_owing, labelled_by, labels_of, labelled_arm, width_of, with_all_seen, seen_after, labels_owe, labels_owed, case_owing}
 use Rattle.types.specs.declared.arms.LabelUse.{LabelUse}
 use Rattle.types.specs.declared.expression.Valued.{Valued}
 use Rattle.typed.specs.declared.tree.Action.TheVariants as action

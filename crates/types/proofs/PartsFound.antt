@@ -2,13 +2,13 @@
 use Rattle.std.proofs.Common.{◌≡◌, ℕ, List, [], ◌∷◌, ◌++◌, map, flat_map, Option, Some, None, Result, Ok, Err, IfOk, refl, ap, sym, subst, ◌∙◌}
 use Rattle.types.specs.Arms.{GuardedArm, LabelledArm, guarded, conditional, labelled, cased, arm_of, distinct, judged_label, judged_labels}
 use Rattle.types.specs.Calls.{called, judged_argument, judged_arguments}
-use Rattle.types.specs.Commands.{Scope, Judged, start_of, made, value, action_layer, arm_layer, case_arm_layer, command_layer, guarded_layer, each, judged_command, assignment, sending, receiving, guarded_loop, enclosing, target, sender, receiver, opened_by, channel_alone}
+use Rattle.types.specs.Commands.{Scope, Judged, start_of, command_of, value, action_layer, arm_layer, case_arm_layer, command_layer, guarded_layer, each, judged_command, assignment, sending, receiving, guarded_loop, enclosing, target, sender, receiver, opened_by, channel_alone}
 use Rattle.types.specs.Expressions.{judged_expression}
 use Rattle.types.specs.Findings.{Verdict, Findings, becomes, if_right, both, with_next, with_all, all, one_fault, every}
 use Rattle.types.specs.Names.{VisibleNames, look_up, find, found_for}
 use Rattle.types.specs.Parts.{Part, named, valued, part_of, parts_of_label, parts_of_last, parts_of_each, parts_of_action, parts_of_arm, parts_of_case_arm, parts_of_layer, parts_of_guarded, parts_of_command}
 use Rattle.types.specs.Uses.{meaning_of, target_use, sending_use, receiving_use, sync_use, arm_use, procedure_use, label_use, argument_use}
-use Rattle.types.specs.walking.CommandParts.{judged_action, judged_guarded, judged_labelled, judged_arm}
+use Rattle.types.specs.internal.CommandParts.{judged_action, judged_guarded, judged_labelled, judged_arm}
 use Rattle.types.specs.declared.expression.Valued.{Valued}
 use Rattle.types.specs.declared.scope.Found.{Found}
 use Rattle.types.specs.declared.scope.Found.TheVariants.{Nothing}
@@ -391,7 +391,7 @@ command_gives =
     moved scope.names _ _ _ _
     (ap (λ f. f scope opened) (fold-roll-Command _ _ _ _ _ (action_layer every) (arm_layer every) (case_arm_layer every) (command_layer every) (guarded_layer every) _))
     (fold-roll-Command _ _ _ _ _ parts_of_action parts_of_arm parts_of_case_arm parts_of_layer parts_of_guarded _)
-    (gives-becomes (AreRight scope.names (parts_of_whole y.action.0)) (made y.span.line) (judged_action every y.action.0 scope opened) (y.action.1 scope opened))))
+    (gives-becomes (AreRight scope.names (parts_of_whole y.action.0)) (command_of y.span.line) (judged_action every y.action.0 scope opened) (y.action.1 scope opened))))
     (λ x y is. subst (λ z. GuardedGives (roll-Guarded z)) is (λ scope opened.
     moved scope.names _ _ _ _
     (ap (λ f. f scope opened) (fold-roll-Guarded _ _ _ _ _ (action_layer every) (arm_layer every) (case_arm_layer every) (command_layer every) (guarded_layer every) _))

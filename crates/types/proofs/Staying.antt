@@ -5,13 +5,13 @@ use Rattle.std.proofs.lemmas.List.{map-append}
 use Rattle.std.specs.List.{list_all}
 use Rattle.types.specs.Arms.{GuardedArm, LabelledArm, one_bit, new_labels, new_channels, with_channel, channel_of_arm, guarded, conditional, labelled, cased, arm_of, distinct, label_value, judged_label, judged_labels, opened_arm}
 use Rattle.types.specs.Calls.{is_fit, fits_input, fits_output, fits_sync, fits_port, all_fit, call_fits, called, judged_argument, judged_arguments}
-use Rattle.types.specs.Commands.{Scope, Judged, start_of, made, value, action_layer, arm_layer, case_arm_layer, command_layer, guarded_layer, each, judged_command, assignment, sending, receiving, guarded_loop, enclosing, target, sender, receiver, opened_by}
+use Rattle.types.specs.Commands.{Scope, Judged, start_of, command_of, value, action_layer, arm_layer, case_arm_layer, command_layer, guarded_layer, each, judged_command, assignment, sending, receiving, guarded_loop, enclosing, target, sender, receiver, opened_by}
 use Rattle.types.specs.Expressions.{JudgedValue, judged_expression, shape_layer, expression_layer, binary, combined, complement, cast, type_width, width_within, operator_width, of_name, if_one_bit}
 use Rattle.types.specs.Findings.{Verdict, Findings, becomes, if_right, both, with_next, with_all, demands, one_fault, every}
 use Rattle.types.specs.Names.{look_up, find, found_for, found_as, same_binding, is_among}
 use Rattle.types.specs.Parts.{Name, Part, named, valued, part_of, parts_of_value, parts_of_label, parts_of_each, parts_of_action, parts_of_arm, parts_of_case_arm, parts_of_layer, parts_of_guarded, parts_of_command, names_of_type, names_of_shape, names_of_layer, names_of_expression}
 use Rattle.types.specs.Uses.{meaning_of, at, type_use, type_by, target_use, target_by, sending_use, sending_by, receiving_use, receiving_by, sync_use, sync_by, arm_use, arm_by, procedure_use, procedure_by, label_use, label_by, argument_use, argument_by, value_use, value_by, received_by}
-use Rattle.types.specs.walking.CommandParts.{judged_action, judged_guarded, judged_labelled, judged_arm}
+use Rattle.types.specs.internal.CommandParts.{judged_action, judged_guarded, judged_labelled, judged_arm}
 use Rattle.types.specs.declared.expression.Valued.{Valued}
 use Rattle.types.specs.declared.scope.Channel.{Channel}
 use Rattle.types.specs.declared.scope.Found.{Found}
@@ -787,7 +787,7 @@ module _ (local procedure : ℕ → ℕ) (K : ℕ → Type 0) (apart : (a b : �
       (ap (λ f. f old opened) (fold-roll-Command _ _ _ _ _ (action_layer every) (arm_layer every) (case_arm_layer every) (command_layer every) (guarded_layer every) _))
       (ap (λ f. f new (map (rebound local) opened)) (fold-roll-Command _ _ _ _ _ (action_layer every) (arm_layer every) (case_arm_layer every) (command_layer every) (guarded_layer every) _))
       (fold-roll-Command _ _ _ _ _ parts_of_action parts_of_arm parts_of_case_arm parts_of_layer parts_of_guarded _)
-      (λ are. stays-becomes Always Always (made y.span.line) (made y.span.line) (judged_action every y.action.0 old opened) _ (λ a b h. tt) (y.action.1 opened kept are))))
+      (λ are. stays-becomes Always Always (command_of y.span.line) (command_of y.span.line) (judged_action every y.action.0 old opened) _ (λ a b h. tt) (y.action.1 opened kept are))))
       (λ x y is. subst (λ z. GuardedStays (roll-Guarded z)) is (λ opened kept.
       moved SameGuard _ _ _ _ _ _
       (ap (λ f. f old opened) (fold-roll-Guarded _ _ _ _ _ (action_layer every) (arm_layer every) (case_arm_layer every) (command_layer every) (guarded_layer every) _))

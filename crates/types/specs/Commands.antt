@@ -51,8 +51,8 @@ abbrev pub channel_alone : Verdict (ChannelUse × ℕ) → Verdict ChannelUse
 channel_alone channel = becomes (λ p. p.0) channel
 
 -- the command on the line that does the action
-abbrev pub made : ℕ → Action → Command
-made line action = roll-Command (record { line = line; action = action })
+abbrev pub command_of : ℕ → Action → Command
+command_of line action = roll-Command (record { line = line; action = action })
 
 -- ---- what a command is, whatever way its faults are kept
 
@@ -137,7 +137,7 @@ module _ (k : Keeping) where
 
   abbrev pub command_layer : Command-F (Judged Action) (Judged Arm) (Judged LabelledArm) (Judged Command)
       (Judged GuardedArm) → Judged Command
-  command_layer c scope opened = becomes (made c.span.line) (c.action scope opened)
+  command_layer c scope opened = becomes (command_of c.span.line) (c.action scope opened)
 
   abbrev pub guarded_layer : Guarded-F (Judged Action) (Judged Arm) (Judged LabelledArm) (Judged Command)
       (Judged GuardedArm) → Judged GuardedArm

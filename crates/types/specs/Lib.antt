@@ -10,4 +10,4 @@ pub mod Declarations
 pub mod Laws
 pub mod Parts
 pub mod Visible
-pub mod walking
+pub mod internal

@@ -2,9 +2,9 @@
 ghost use Rattle.std.specs.Prelude.{◌≡◌, [], ◌∷◌, Ok, IfOk, OnOk, map};
 ghost use Rattle.types.specs.Arms as spec;
 ghost use Rattle.types.specs.Findings as findings;
-ghost use Rattle.types.specs.walking.Least.{least};
-ghost use Rattle.types.specs.walking.Owed as owed;
-ghost use Rattle.types.specs.walking.Scopes.{entries};
+ghost use Rattle.types.specs.internal.Least.{least};
+ghost use Rattle.types.specs.internal.Owed as owed;
+ghost use Rattle.types.specs.internal.Scopes.{entries};
 
 use crate::expression::{Valued, least_value};
 use crate::scope::{Names, Scope};

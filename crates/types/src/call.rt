@@ -3,8 +3,8 @@ ghost use Rattle.std.specs.Prelude.{◌≡◌, [], is_ok, slice_get, IfOk};
 ghost use Rattle.types.specs.Arms.{new_channels};
 ghost use Rattle.types.specs.Calls as calls;
 ghost use Rattle.types.specs.Names.{look_up};
-ghost use Rattle.types.specs.walking.Least.{least};
-ghost use Rattle.types.specs.walking.Scopes.{entries};
+ghost use Rattle.types.specs.internal.Least.{least};
+ghost use Rattle.types.specs.internal.Scopes.{entries};
 
 use crate::scope::{Meaning, Names, Scope};
 use crate::verdict::{Settled, both, with_next};

@@ -4,10 +4,10 @@ ghost use Rattle.types.specs.Arms as arms_of;
 ghost use Rattle.types.specs.Commands as spec;
 ghost use Rattle.types.specs.Commands.{judged_command};
 ghost use Rattle.types.specs.Findings as findings;
-ghost use Rattle.types.specs.walking.CommandParts.{judged_action, judged_arm, judged_guarded, judged_labelled};
-ghost use Rattle.types.specs.walking.Least.{least};
-ghost use Rattle.types.specs.walking.Owed as owed;
-ghost use Rattle.types.specs.walking.Scopes.{scope_of};
+ghost use Rattle.types.specs.internal.CommandParts.{judged_action, judged_arm, judged_guarded, judged_labelled};
+ghost use Rattle.types.specs.internal.Least.{least};
+ghost use Rattle.types.specs.internal.Owed as owed;
+ghost use Rattle.types.specs.internal.Scopes.{scope_of};
 ghost use Rattle.syntax.specs.declared.command.Action.TheVariants as form;
 ghost use Rattle.typed.specs.declared.tree.Action.TheVariants as typed;
 
@@ -45,7 +45,7 @@ pub(crate) fn settled_command(
 
 /// The command on the line that does the action.
 fn made(alloc: Global, line: u64, action: Verdict<Action>) -> Settled<Command>
-    ensures { IfOk result (λ made. made ≡ findings.becomes (spec.made line) action) }
+    ensures { IfOk result (λ made. made ≡ findings.becomes (spec.command_of line) action) }
 {
     match action {
         Ok(action) => Ok(Ok(Command::new(alloc, line, action)?)),

@@ -2,10 +2,10 @@
 ghost use Rattle.std.specs.Prelude.{◌≡◌, ◌≤◌, ◌^◌, [], ◌∷◌, ◌++◌, length, map, Ok, IfOk, IfErr, OnOk};
 ghost use Rattle.types.specs.Declarations as spec;
 ghost use Rattle.types.specs.Findings as findings;
-ghost use Rattle.types.specs.walking.Judged.{scope_behind};
-ghost use Rattle.types.specs.walking.Scopes.{entries, scope_of};
+ghost use Rattle.types.specs.internal.Judged.{scope_behind};
+ghost use Rattle.types.specs.internal.Scopes.{entries, scope_of};
 ghost use Rattle.types.specs.Names.{declared, is_fresh};
-ghost use Rattle.types.specs.walking.Least.{least};
+ghost use Rattle.types.specs.internal.Least.{least};
 ghost use Rattle.types.specs.declared.scope.Meaning.TheVariants as meaning;
 
 use crate::Fault;
@@ -211,18 +211,20 @@ fn declare_name(
         ≡ declared (entries scope.old.names) name.now.name (meaning.Procedure (length scope.old.signatures))) }
     ensures signatures { OnOk result (scope.new.signatures ≡ scope.old.signatures ++ signature ∷ []) }
 {
-    let place = place_of(scope.signatures.len())?;
+    let position = position_of(scope.signatures.len())?;
     scope.signatures.push(signature)?;
-    scope.names.declare(alloc, name, Meaning::Procedure(place))
+    scope
+        .names
+        .declare(alloc, name, Meaning::Procedure(position))
 }
 
-/// The place as a number of 32 bits. More names than those would not fit into memory.
-fn place_of(place: usize) -> Result<u32, AllocError>
-    ensures same { IfOk result (λ number. number ≡ place) }
-    ensures beyond { IfErr result (λ _. 2 ^ 32 ≤ place) }
+/// The position as a number of 32 bits. More names than those would not fit into memory.
+fn position_of(position: usize) -> Result<u32, AllocError>
+    ensures same { IfOk result (λ number. number ≡ position) }
+    ensures beyond { IfErr result (λ _. 2 ^ 32 ≤ position) }
 {
-    if place < 1 << 32 {
-        Ok(place as u32)
+    if position < 1 << 32 {
+        Ok(position as u32)
     } else {
         Err(AllocError)
     }
@@ -280,7 +282,7 @@ fn declare_port(
 {
     let mut right = right;
     for name in declared {
-        let meaning = Meaning::of_port(place_of(ports.len())?, kind);
+        let meaning = Meaning::of_port(position_of(ports.len())?, kind);
         let next = names.declare(alloc, name, meaning)?;
         let port = Port {
             name: name.name.clone()?,
@@ -373,7 +375,7 @@ fn declare_local(
 {
     let mut right = right;
     for name in declared {
-        let meaning = Meaning::of_local(place_of(locals.len())?, kind);
+        let meaning = Meaning::of_local(position_of(locals.len())?, kind);
         let next = names.declare(alloc, name, meaning)?;
         let local = Local {
             name: name.name.clone()?,

@@ -1,11 +1,11 @@
 ghost use Rattle.std.specs.Prelude.{◌≡◌, ◌+◌, ◌≤◌, max, IfOk, Ok};
 ghost use Rattle.types.specs.Expressions as expressions;
 ghost use Rattle.types.specs.Findings as findings;
-ghost use Rattle.types.specs.walking.Scopes.{entries};
+ghost use Rattle.types.specs.internal.Scopes.{entries};
 ghost use Rattle.types.specs.Names.{find};
 ghost use Rattle.typed.specs.declared.tree.Expression.TheVariants as typed;
 ghost use Rattle.types.specs.Uses as uses;
-ghost use Rattle.types.specs.walking.Least.{least};
+ghost use Rattle.types.specs.internal.Least.{least};
 
 use crate::Fault;
 use crate::scope::Names;

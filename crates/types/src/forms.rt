@@ -2,10 +2,10 @@
 ghost use Rattle.std.specs.Prelude.{◌≡◌, IfOk};
 ghost use Rattle.types.specs.Commands as spec;
 ghost use Rattle.types.specs.Findings.{becomes};
-ghost use Rattle.types.specs.walking.Scopes.{entries, scope_of};
+ghost use Rattle.types.specs.internal.Scopes.{entries, scope_of};
 ghost use Rattle.types.specs.Names.{find};
 ghost use Rattle.types.specs.Uses as uses;
-ghost use Rattle.types.specs.walking.Least.{least};
+ghost use Rattle.types.specs.internal.Least.{least};
 ghost use Rattle.typed.specs.declared.tree.Action.TheVariants as typed;
 
 use crate::expression::Valued;

@@ -2,7 +2,7 @@
 ghost use Rattle.std.specs.Prelude.{◌≡◌, [], length, take, IfOk, OnOk};
 ghost use Rattle.std.specs.Option.{option_copied};
 ghost use Rattle.types.specs.Names as names;
-ghost use Rattle.types.specs.walking.Scopes.{entries};
+ghost use Rattle.types.specs.internal.Scopes.{entries};
 
 use crate::Fault;
 use crate::verdict::Settled;
@@ -104,7 +104,8 @@ impl Names {
     ) -> Settled<()>
         ensures fresh { IfOk result (λ made.
             made ≡ names.is_fresh (entries self.old) declared.now.name declared.now.span.start) }
-        ensures declared { OnOk result (entries self.new ≡ names.declared (entries self.old) declared.now.name meaning) }
+        ensures declared { OnOk result (entries self.new
+            ≡ names.declared (entries self.old) declared.now.name meaning) }
     {
         if self.meaning(&declared.name).is_some() {
             return Ok(Err(Fault::NameTwice(declared.span.start)));

@@ -2,8 +2,8 @@
 ghost use Rattle.std.specs.Prelude.{◌≡◌, [], ◌++◌, Ok, Err, IfOk, IfErr, OnOk, OnErr};
 ghost use Rattle.types.specs.Declarations.{found_description};
 ghost use Rattle.types.specs.Findings.{IsRefused, becomes, both};
-ghost use Rattle.types.specs.walking.Judged.{IsSpent, Judges};
-ghost use Rattle.types.specs.walking.Least.{least};
+ghost use Rattle.types.specs.internal.Judged.{IsSpent, Judges};
+ghost use Rattle.types.specs.internal.Least.{least};
 ghost use Rattle.syntax.specs.declared.declaration.Description.{Description};
 ghost use Rattle.refusals.specs.declared.types.Fault.TheVariants.{Memory};
 
@@ -27,7 +27,7 @@ pub struct Typing {
 }
 
 impl Model for Typing {
-    ghost use Rattle.types.specs.walking.Judged.{Judgement};
+    ghost use Rattle.types.specs.internal.Judged.{Judgement};
     ghost use Rattle.std.specs.Coded.{codes};
     ghost use Rattle.typed.specs.contracts.tree.Procedure as procedure;
 
@@ -35,7 +35,7 @@ impl Model for Typing {
 
     ghost coded = { Prim.hlevel (codes, procedure.the_row.coded) };
 
-    ghost use Rattle.types.specs.walking.Scopes.{scope_of};
+    ghost use Rattle.types.specs.internal.Scopes.{scope_of};
 
     ghost view = { λ typing. record { scope = scope_of typing.scope; found = typing.found } };
 }

@@ -1,7 +1,7 @@
 ghost use Rattle.std.specs.Prelude.{◌≡◌, IfOk};
 ghost use Rattle.types.specs.Findings as findings;
 ghost use Rattle.types.specs.Refusal as refusal;
-ghost use Rattle.types.specs.walking.Least.{least};
+ghost use Rattle.types.specs.internal.Least.{least};
 
 use crate::Fault;
 use std::alloc::AllocError;

@@ -7,7 +7,8 @@ use Rattle.refusals.specs.declared.parser.Fault.TheVariants.{Unexpected, TooDeep
 -- whatever stands behind the tokens, they are refused at the offset
 abbrev pub RefusedAt : List Token → ℕ → Type 0
 RefusedAt tokens offset =
-    (later : List Token) → IsRefused (tokens ++ later) (Unexpected offset) ⊎ IsRefused (tokens ++ later) (TooDeep offset)
+    (later : List Token) → IsRefused (tokens ++ later) (Unexpected offset)
+    ⊎ IsRefused (tokens ++ later) (TooDeep offset)
 
 -- a description begins with the tokens; or they are refused, and behind the offset, whatever stands behind them
 abbrev pub TakenAt : List Token → ℕ → Type 0

@@ -82,8 +82,8 @@ fn is_viable(
     Ok(is_taken)
 }
 
-/// The kinds of tokens with which a description can go on behind the first `place` of `tokens`, in the order of `KINDS`.
-/// The tokens from there on are taken off.
+/// The kinds of tokens with which a description can go on behind the first `place` of `tokens`, in the order of
+/// `KINDS`. The tokens from there on are taken off.
 pub fn viable_kinds(
     alloc: Global,
     tokens: &mut Vec<Token<'_>>,

@@ -1,4 +1,4 @@
--- The sides that are left over are those that wait.
+-- The actions that are left over are those that wait.
 use Rattle.std.proofs.Common.{◌≡◌, ◌⊎◌, ◌↔◌, inl, inr, List, [], ◌∷◌, Bool, true, false, ◌&&◌, ◌||◌, cond, Option, Some, None, refl, sym, ◌∙◌, ap, subst}
 use Rattle.std.specs.List.{filter}
 use Rattle.std.proofs.lemmas.Bool.{and_parts}
@@ -10,15 +10,15 @@ use Rattle.runs.specs.Ready.{ReadyList}
 use Rattle.runs.specs.Steps.{State}
 use Rattle.runs.specs.Tests.{same_place}
 use Rattle.runs.specs.declared.event.Event.{Event}
-use Rattle.runs.proofs.Lists.{every-of, every-in}
-use Rattle.offered_sides.specs.Sides.{OffersExactly, NotBehind}
-use Rattle.offered_sides.specs.declared.side.OfferedSide.{OfferedSide}
-use Rattle.offered_sides.proofs.PlacedSides.{place-true, place-itself}
+use Rattle.runs.proofs.public.Lists.{every-of, every-in}
+use Rattle.local_actions.specs.Actions.{OffersExactly, NotBehind}
+use Rattle.local_actions.specs.declared.action.LocalAction.{LocalAction}
+use Rattle.local_actions.proofs.public.PlacedActions.{place-true, place-itself}
 use Rattle.waiting.specs.Waits.{Waits, ListsWaiting}
 use Rattle.waiting.specs.Progress.{is_outlet, NoneAllowed, StandsLike}
-use Rattle.waiting.specs.walking.Repeats.{each_once}
+use Rattle.waiting.specs.internal.Repeats.{each_once}
 use Rattle.waiting.proofs.Repeated.{waits-once}
-use Rattle.waiting.specs.walking.Among.{is_second, has_place, has_any, left_over, all_outlets, at_rest, progress_of}
+use Rattle.waiting.specs.internal.Among.{is_second, has_place, has_any, left_over, all_outlets, at_rest, progress_of}
 
 or-parts : (a b : Bool) → (a || b) ≡ true → (a ≡ true) ⊎ (b ≡ true)
 or-parts true b h = inl refl
@@ -67,39 +67,39 @@ any-in a (f ∷ es) h = elim (or-parts (has_place a f) (has_any a es) h) [
   | inr later ↦ let rest = any-in a es later in (rest.0, inr rest.1, rest.2)
 ]
 
--- ---- the sides that are left over
-in-cond : (b : Bool) (x y : OfferedSide) (rest : List OfferedSide) → In x (cond b rest (y ∷ rest)) → ((b ≡ false) × (x ≡ y)) ⊎ In x rest
+-- ---- the actions that are left over
+in-cond : (b : Bool) (x y : LocalAction) (rest : List LocalAction) → In x (cond b rest (y ∷ rest)) → ((b ≡ false) × (x ≡ y)) ⊎ In x rest
 in-cond true x y rest i = inr i
 in-cond false x y rest (inl is) = inl (refl, is)
 in-cond false x y rest (inr i) = inr i
 
-cond-here : (b : Bool) (x : OfferedSide) (rest : List OfferedSide) → b ≡ false → In x (cond b rest (x ∷ rest))
+cond-here : (b : Bool) (x : LocalAction) (rest : List LocalAction) → b ≡ false → In x (cond b rest (x ∷ rest))
 cond-here true x rest h = cc
 cond-here false x rest h = inl refl
 
-cond-later : (b : Bool) (x y : OfferedSide) (rest : List OfferedSide) → In x rest → In x (cond b rest (y ∷ rest))
+cond-later : (b : Bool) (x y : LocalAction) (rest : List LocalAction) → In x rest → In x (cond b rest (y ∷ rest))
 cond-later true x y rest i = i
 cond-later false x y rest i = inr i
 
-left-in : (es : List Event) (xs : List OfferedSide) (x : OfferedSide) → In x (left_over es xs) → In x xs × (has_any x.place es ≡ false)
+left-in : (es : List Event) (xs : List LocalAction) (x : LocalAction) → In x (left_over es xs) → In x xs × (has_any x.place es ≡ false)
 left-in es [] x i = absurd i
 left-in es (y ∷ xs) x i = elim (in-cond (has_any y.place es) x y (left_over es xs) i) [
-  | inl here ↦ (inl here.1, subst (λ (z : OfferedSide). has_any z.place es ≡ false) (sym here.1) here.0)
+  | inl here ↦ (inl here.1, subst (λ (z : LocalAction). has_any z.place es ≡ false) (sym here.1) here.0)
   | inr later ↦ let rest = left-in es xs x later in (inr rest.0, rest.1)
 ]
 
-in-left : (es : List Event) (xs : List OfferedSide) (x : OfferedSide) → In x xs → has_any x.place es ≡ false → In x (left_over es xs)
+in-left : (es : List Event) (xs : List LocalAction) (x : LocalAction) → In x xs → has_any x.place es ≡ false → In x (left_over es xs)
 in-left es [] x i h = absurd i
 in-left es (y ∷ xs) x (inl is) h =
-    subst (λ (z : OfferedSide). In x (cond (has_any y.place es) (left_over es xs) (z ∷ left_over es xs))) is
-    (cond-here (has_any y.place es) x (left_over es xs) (subst (λ (z : OfferedSide). has_any z.place es ≡ false) is h))
+    subst (λ (z : LocalAction). In x (cond (has_any y.place es) (left_over es xs) (z ∷ left_over es xs))) is
+    (cond-here (has_any y.place es) x (left_over es xs) (subst (λ (z : LocalAction). has_any z.place es ≡ false) is h))
 in-left es (y ∷ xs) x (inr i) h = cond-later (has_any y.place es) x y (left_over es xs) (in-left es xs x i h)
 
-cond-order : (b : Bool) (y : OfferedSide) (rest : List OfferedSide) → Every (NotBehind y) rest → InOrder NotBehind rest → InOrder NotBehind (cond b rest (y ∷ rest))
+cond-order : (b : Bool) (y : LocalAction) (rest : List LocalAction) → Every (NotBehind y) rest → InOrder NotBehind rest → InOrder NotBehind (cond b rest (y ∷ rest))
 cond-order true y rest e o = o
 cond-order false y rest e o = (e, o)
 
-left-order : (es : List Event) (xs : List OfferedSide) → InOrder NotBehind xs → InOrder NotBehind (left_over es xs)
+left-order : (es : List Event) (xs : List LocalAction) → InOrder NotBehind xs → InOrder NotBehind (left_over es xs)
 left-order es [] o = tt
 left-order es (y ∷ xs) o =
     cond-order (has_any y.place es) y (left_over es xs)
@@ -107,11 +107,11 @@ left-order es (y ∷ xs) o =
     (left-order es xs o.1)
 
 -- what is kept by a test that tells of each element what it is to
-kept-or-left : (b : Bool) (y : OfferedSide) (kept left : List OfferedSide) → kept ≡ left → cond (cond b false true) (y ∷ kept) kept ≡ cond b left (y ∷ left)
+kept-or-left : (b : Bool) (y : LocalAction) (kept left : List LocalAction) → kept ≡ left → cond (cond b false true) (y ∷ kept) kept ≡ cond b left (y ∷ left)
 kept-or-left true y kept left is = is
-kept-or-left false y kept left is = ap (λ (l : List OfferedSide). y ∷ l) is
+kept-or-left false y kept left is = ap (λ (l : List LocalAction). y ∷ l) is
 
-pub left-filter : (es : List Event) (xs : List OfferedSide) → filter (λ (x : OfferedSide). cond (has_any x.place es) false true) xs ≡ left_over es xs
+pub left-filter : (es : List Event) (xs : List LocalAction) → filter (λ (x : LocalAction). cond (has_any x.place es) false true) xs ≡ left_over es xs
 left-filter es [] = refl
 left-filter es (y ∷ xs) = kept-or-left (has_any y.place es) y _ _ (left-filter es xs)
 
@@ -120,7 +120,7 @@ none-any a es true h none = let found = any-in a es h in absurd (none found.0 fo
 none-any a es false h none = refl
 
 -- of all that is offered, with all that is allowed, these wait
-waits-exactly : (S : State) (xs : List OfferedSide) (es : List Event) → OffersExactly S xs → ReadyList S es → (x : OfferedSide) → In x (left_over es xs) ↔ Waits S x
+waits-exactly : (S : State) (xs : List LocalAction) (es : List Event) → OffersExactly S xs → ReadyList S es → (x : LocalAction) → In x (left_over es xs) ↔ Waits S x
 waits-exactly S xs es offers ready x = (
   λ i.
       let found = left-in es xs x i in
@@ -135,32 +135,32 @@ waits-exactly S xs es offers ready x = (
       (none-any x.place es (has_any x.place es) refl (λ e i j. w.alone e ((ready.exactly e).0 i) j)),
 )
 
-pub lists-waiting : (S : State) (xs : List OfferedSide) (es : List Event) → OffersExactly S xs → InOrder NotBehind xs → ReadyList S es
+pub lists-waiting : (S : State) (xs : List LocalAction) (es : List Event) → OffersExactly S xs → InOrder NotBehind xs → ReadyList S es
     → ListsWaiting S (each_once (left_over es xs))
 lists-waiting S xs es offers order ready =
     waits-once S (left_over es xs) offers.formed (waits-exactly S xs es offers ready) (left-order es xs order)
 
 -- ---- how a state stands
-each-outlet : (xs : List OfferedSide) (x : OfferedSide) → all_outlets xs ≡ true → In x xs → is_outlet x.side ≡ true
+each-outlet : (xs : List LocalAction) (x : LocalAction) → all_outlets xs ≡ true → In x xs → is_outlet x.action ≡ true
 each-outlet [] x h i = absurd i
-each-outlet (y ∷ xs) x h (inl is) = ap (λ (z : OfferedSide). is_outlet z.side) is ∙ (and_parts (is_outlet y.side) (all_outlets xs) h).0
-each-outlet (y ∷ xs) x h (inr i) = each-outlet xs x (and_parts (is_outlet y.side) (all_outlets xs) h).1 i
+each-outlet (y ∷ xs) x h (inl is) = ap (λ (z : LocalAction). is_outlet z.action) is ∙ (and_parts (is_outlet y.action) (all_outlets xs) h).0
+each-outlet (y ∷ xs) x h (inr i) = each-outlet xs x (and_parts (is_outlet y.action) (all_outlets xs) h).1 i
 
 and-false : (a b : Bool) → (a && b) ≡ false → (a ≡ false) ⊎ (b ≡ false)
 and-false true b h = inr h
 and-false false b h = inl refl
 
-some-other : (xs : List OfferedSide) → all_outlets xs ≡ false → (x : OfferedSide) × In x xs × (is_outlet x.side ≡ false)
+some-other : (xs : List LocalAction) → all_outlets xs ≡ false → (x : LocalAction) × In x xs × (is_outlet x.action ≡ false)
 some-other [] h = cc
-some-other (y ∷ xs) h = elim (and-false (is_outlet y.side) (all_outlets xs) h) [
+some-other (y ∷ xs) h = elim (and-false (is_outlet y.action) (all_outlets xs) h) [
   | inl here ↦ (y, inl refl, here)
   | inr later ↦ let rest = some-other xs later in (rest.0, inr rest.1, rest.2)
 ]
 
-rests : (S : State) (xs : List OfferedSide) (b : Bool) → all_outlets xs ≡ b → OffersExactly S xs → NoneAllowed S → StandsLike S (at_rest b)
+rests : (S : State) (xs : List LocalAction) (b : Bool) → all_outlets xs ≡ b → OffersExactly S xs → NoneAllowed S → StandsLike S (at_rest b)
 rests S xs true h offers none = (none, λ x o. each-outlet xs x h ((offers.exactly x).1 o))
 rests S xs false h offers none = let found = some-other xs h in (none, (found.0, (offers.exactly found.0).0 found.1, found.2))
 
-pub stands-like : (S : State) (xs : List OfferedSide) (es : List Event) → OffersExactly S xs → ReadyList S es → StandsLike S (progress_of xs es)
+pub stands-like : (S : State) (xs : List LocalAction) (es : List Event) → OffersExactly S xs → ReadyList S es → StandsLike S (progress_of xs es)
 stands-like S xs [] offers ready = rests S xs (all_outlets xs) refl offers (λ e a. (ready.exactly e).1 a)
 stands-like S xs (e ∷ es) offers ready = (e, (ready.exactly e).0 (inl refl))

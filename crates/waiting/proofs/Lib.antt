@@ -1,5 +1,5 @@
-pub mod Leftover
-pub mod Remade
-pub mod Repeated
-pub mod RingOfState
-pub mod HelpsEach
+mod Leftover
+mod Remade
+mod Repeated
+mod RingOfState
+mod HelpsEach

@@ -9,18 +9,18 @@ use Rattle.runs.specs.Object.{Object, Reaches}
 use Rattle.runs.specs.Steps.{State, Run, opening}
 use Rattle.runs.specs.declared.ask.Ask.{Ask}
 use Rattle.runs.specs.declared.event.Event.{Event}
-use Rattle.runs.proofs.Options.{some-injective}
+use Rattle.runs.proofs.public.Options.{some-injective}
 use Rattle.process_tree.specs.Advanced.{Moved, advanced}
 use Rattle.process_tree.specs.Proc.{Proc, started}
 use Rattle.process_tree.specs.Tidy.{Tidy}
 use Rattle.process_tree.specs.Translation.{system_code}
-use Rattle.process_tree.proofs.Asking.{some-elim, map-elim, then-elim}
-use Rattle.process_tree.proofs.Tidy.{started-tidy, moves-keep-tidy}
+use Rattle.process_tree.proofs.public.Asking.{some-elim, map-elim, then-elim}
+use Rattle.process_tree.proofs.public.Tidy.{started-tidy, moves-keep-tidy}
 use Rattle.event_inverse.specs.Grown.{TreeAndStore, Taken, state_of_tree, opening_tree, all_advanced, after_moves, applied}
-use Rattle.event_inverse.proofs.FromOpening.{trees-open-alike}
-use Rattle.event_inverse.proofs.Moving.{Walked}
-use Rattle.event_inverse.proofs.Neighbours.{applies}
-use Rattle.machine.proofs.Entries.{item-at, drop-next}
+use Rattle.event_inverse.proofs.public.FromOpening.{trees-open-alike}
+use Rattle.event_inverse.proofs.public.Moving.{Walked}
+use Rattle.event_inverse.proofs.public.Neighbours.{applies}
+use Rattle.machine.proofs.public.Entries.{item-at, drop-next}
 
 -- ---- an event leaves a tidy tree tidy
 all-tidy : (ks : List (Place × Ask)) (p : Proc) (x : Walked) → Tidy p → all_advanced p ks ≡ Some x → Tidy x.0

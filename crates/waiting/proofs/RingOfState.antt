@@ -1,11 +1,11 @@
--- What is told of exactly the sides that wait holds of the state.
+-- What is told of exactly the actions that wait holds of the state.
 use Rattle.std.proofs.Common.{◌↔◌, ℕ, List, [], ◌∷◌, Bool}
 use Rattle.syntax.specs.Lists.{In}
 use Rattle.runs.specs.Moves.{Place}
 use Rattle.runs.specs.Steps.{State}
 use Rattle.system.specs.Residual.{Residual}
 use Rattle.machine.specs.AtMachine.{AtMachine}
-use Rattle.offered_sides.specs.declared.side.OfferedSide.{OfferedSide}
+use Rattle.local_actions.specs.declared.action.LocalAction.{LocalAction}
 use Rattle.rings.specs.Rings.{Helped, Waiters, WaitsAt, HoldEachOther, IsDeadlocked, WaitsFor, Linked, IsRing, TellsDeadlocked, TellsRing}
 use Rattle.waiting.specs.Input.{helped_in}
 use Rattle.waiting.specs.Rings.{NamesDeadlocked, NamesRing}
@@ -13,7 +13,7 @@ use Rattle.waiting.specs.Waits.{Waits, ListsWaiting}
 
 -- whichever of two ways is used to say who waits
 abbrev Same : Waiters → Waiters → Type 0
-Same W V = (x : OfferedSide) → W x ↔ V x
+Same W V = (x : LocalAction) → W x ↔ V x
 
 module _ (W V : Waiters) (same : Same W V) (help : Helped) (r : Residual) where
   at : (a : Place) → WaitsAt W a → WaitsAt V a
@@ -36,20 +36,20 @@ module _ (W V : Waiters) (same : Same W V) (help : Helped) (r : Residual) where
   rings [] h = h
   rings (a ∷ ring) h = linked a a ring h
 
-back : (S : State) (sides : List OfferedSide) → ListsWaiting S sides → Same (Waits S) (λ x. In x sides)
-back S sides l x = ((l.exactly x).1, (l.exactly x).0)
+back : (S : State) (actions : List LocalAction) → ListsWaiting S actions → Same (Waits S) (λ x. In x actions)
+back S actions l x = ((l.exactly x).1, (l.exactly x).0)
 
-pub names-deadlocked : (m : AtMachine) (S : State) (sides : List OfferedSide) (marks : List Bool) → ListsWaiting S sides
-    → TellsDeadlocked (helped_in m S) S.residual sides marks → NamesDeadlocked m S sides marks
-names-deadlocked m S sides marks l h = (
+pub names-deadlocked : (m : AtMachine) (S : State) (actions : List LocalAction) (marks : List Bool) → ListsWaiting S actions
+    → TellsDeadlocked (helped_in m S) S.residual actions marks → NamesDeadlocked m S actions marks
+names-deadlocked m S actions marks l h = (
   h.0,
   λ i x got. (
-    λ on. dead (λ y. In y sides) (Waits S) l.exactly (helped_in m S) S.residual x.place ((h.1 i x got).0 on),
-    λ d. (h.1 i x got).1 (dead (Waits S) (λ y. In y sides) (back S sides l) (helped_in m S) S.residual x.place d),
+    λ on. dead (λ y. In y actions) (Waits S) l.exactly (helped_in m S) S.residual x.place ((h.1 i x got).0 on),
+    λ d. (h.1 i x got).1 (dead (Waits S) (λ y. In y actions) (back S actions l) (helped_in m S) S.residual x.place d),
   ),
 )
 
-pub names-ring : (m : AtMachine) (S : State) (sides : List OfferedSide) (ring : List ℕ) → ListsWaiting S sides → TellsRing (helped_in m S) S.residual sides ring
-    → NamesRing m S sides ring
-names-ring m S sides [] l h = λ ring r. h ring (rings (Waits S) (λ x. In x sides) (back S sides l) (helped_in m S) S.residual ring r)
-names-ring m S sides (i ∷ rest) l h = (h.0, h.1, rings (λ x. In x sides) (Waits S) l.exactly (helped_in m S) S.residual h.0 h.2, h.3)
+pub names-ring : (m : AtMachine) (S : State) (actions : List LocalAction) (ring : List ℕ) → ListsWaiting S actions → TellsRing (helped_in m S) S.residual actions ring
+    → NamesRing m S actions ring
+names-ring m S actions [] l h = λ ring r. h ring (rings (Waits S) (λ x. In x actions) (back S actions l) (helped_in m S) S.residual ring r)
+names-ring m S actions (i ∷ rest) l h = (h.0, h.1, rings (λ x. In x actions) (Waits S) l.exactly (helped_in m S) S.residual h.0 h.2, h.3)

@@ -9,9 +9,9 @@ use Rattle.runs.specs.Moves.{Place}
 use Rattle.runs.specs.Steps.{State}
 use Rattle.event_places.specs.EventPlaces.{line_after}
 use Rattle.machine.specs.AtMachine.{AtMachine}
-use Rattle.offered_sides.specs.declared.side.OfferedSide.{OfferedSide}
-use Rattle.offered_sides.specs.declared.side.Side.{Side}
-use Rattle.offered_sides.specs.declared.side.Side.TheVariants as side
+use Rattle.local_actions.specs.declared.action.LocalAction.{LocalAction}
+use Rattle.local_actions.specs.declared.action.ActionKind.{ActionKind}
+use Rattle.local_actions.specs.declared.action.ActionKind.TheVariants as action
 use Rattle.rings.specs.Partners.{partner_in}
 use Rattle.rings.specs.declared.partner.Partner.{Partner}
 use Rattle.rings.specs.declared.partner.Partner.TheVariants as partner
@@ -34,34 +34,34 @@ abbrev pub is_fed : ℕ → List outside.Branch → Bool
 is_fed c [] = false
 is_fed c (b ∷ bs) = feeds c b || is_fed c bs
 
--- the channel on which a side takes what the environment gives, if it is one
+-- the channel on which an action takes what the environment gives, if it is one
 abbrev pub fed_if : Bool → ℕ → Option ℕ
 fed_if fed c = cond fed (Some c) None
 
-abbrev pub fed_channel : System → Side → Option ℕ
-fed_channel system (side.Receives c x) = fed_if (is_fed c system.environment) c
-fed_channel system (side.Opens c k) = fed_if (is_fed c system.environment) c
-fed_channel system (side.Syncs c) = fed_if (is_fed c system.environment) c
+abbrev pub fed_channel : System → ActionKind → Option ℕ
+fed_channel system (action.Receives c x) = fed_if (is_fed c system.environment) c
+fed_channel system (action.Opens c k) = fed_if (is_fed c system.environment) c
+fed_channel system (action.Syncs c) = fed_if (is_fed c system.environment) c
 fed_channel system _ = None
 
--- a side in the body that takes what the environment has a number of
-abbrev pub takes_input : AtMachine → OfferedSide → Bool
-takes_input m x = is_some (line_at m x.place) && is_some (fed_channel m.checked x.side)
+-- an action in the body that takes what the environment has a number of
+abbrev pub takes_input : AtMachine → LocalAction → Bool
+takes_input m x = is_some (line_at m x.place) && is_some (fed_channel m.checked x.action)
 
--- a side in the body that waits for what the environment has no more of, with this partner
-abbrev pub is_starved : AtMachine → OfferedSide → Option Partner → Bool
+-- an action in the body that waits for what the environment has no more of, with this partner
+abbrev pub is_starved : AtMachine → LocalAction → Option Partner → Bool
 is_starved m x (Some partner.Gone) = takes_input m x
 is_starved m x (Some (partner.Behind a)) = false
 is_starved m x (Some partner.Open) = false
 is_starved m x None = false
 
--- a side that none of the others has to go on for, with this partner: an output port's, or one that waits for more
+-- an action that none of the others has to go on for, with this partner: an output port's, or one that waits for more
 -- input
-abbrev pub is_helped : AtMachine → OfferedSide → Option Partner → Bool
-is_helped m x p = is_outlet x.side || is_starved m x p
+abbrev pub is_helped : AtMachine → LocalAction → Option Partner → Bool
+is_helped m x p = is_outlet x.action || is_starved m x p
 
--- the same of a side that waits in S
-abbrev pub helped_in : AtMachine → State → OfferedSide → Bool
+-- the same of an action that waits in S
+abbrev pub helped_in : AtMachine → State → LocalAction → Bool
 helped_in m S x = is_helped m x (Some (partner_in S.residual x))
 
 -- its partner may be there already, or come from more than one branch
@@ -71,17 +71,17 @@ is_open (Some partner.Gone) = false
 is_open (Some partner.Open) = true
 is_open None = false
 
--- a side of an output port, or one of which it is known where its partner stands
-abbrev pub is_settled : OfferedSide → Option Partner → Bool
-is_settled x p = is_outlet x.side || not (is_open p)
+-- an action of an output port, or one of which it is known where its partner stands
+abbrev pub is_settled : LocalAction → Option Partner → Bool
+is_settled x p = is_outlet x.action || not (is_open p)
 
--- one of these sides, of which the first has the partner of number n, waits for more input
-abbrev pub any_starved : AtMachine → List Partner → ℕ → List OfferedSide → Bool
+-- one of these actions, of which the first has the partner of number n, waits for more input
+abbrev pub any_starved : AtMachine → List Partner → ℕ → List LocalAction → Bool
 any_starved m partners n [] = false
 any_starved m partners n (x ∷ xs) = is_starved m x (slice_get partners n) || any_starved m partners (n + 1) xs
 
 -- of each of them it is known where its partner stands
-abbrev pub all_settled : List Partner → ℕ → List OfferedSide → Bool
+abbrev pub all_settled : List Partner → ℕ → List LocalAction → Bool
 all_settled partners n [] = true
 all_settled partners n (x ∷ xs) = is_settled x (slice_get partners n) && all_settled partners (n + 1) xs
 
@@ -90,16 +90,16 @@ is_stuck GoesOn = false
 is_stuck Done = false
 is_stuck Stuck = true
 
--- no side's place is deadlocked
+-- no action's place is deadlocked
 abbrev pub none_deadlocked : List Bool → Bool
 none_deadlocked [] = true
 none_deadlocked (b ∷ bs) = not b && none_deadlocked bs
 
 -- nothing can go on, nothing is deadlocked, so that each that waits waits for the environment in the end, by whichever
--- of its arms, and one side does so itself
+-- of its arms, and one action does so itself
 abbrev pub lacks_input : AtMachine → Waiting → Bool
 lacks_input m w =
     is_stuck w.progress
     && none_deadlocked w.deadlocked.items
-    && any_starved m w.partners.items 0 w.sides
-    && all_settled w.partners.items 0 w.sides
+    && any_starved m w.partners.items 0 w.actions
+    && all_settled w.partners.items 0 w.actions

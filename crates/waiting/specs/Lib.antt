@@ -4,4 +4,4 @@ pub mod Rings
 pub mod Told
 pub mod WaitingText
 pub mod Waits
-pub mod walking
+pub mod internal

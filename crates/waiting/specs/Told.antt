@@ -13,10 +13,10 @@ pub record IsTold (m : AtMachine) (S : State) (w : Waiting) : Type 0 where
   pub progress : StandsLike S w.progress
   -- exactly the events that may be taken, in the order of `ready`
   pub ready : ReadyList S w.ready
-  pub sides : ListsWaiting S w.sides
-  pub partners : TellsPartners S w.sides w.partners.items
-  pub deadlocked : NamesDeadlocked m S w.sides w.deadlocked.items
-  pub ring : NamesRing m S w.sides w.ring.items
+  pub actions : ListsWaiting S w.actions
+  pub partners : TellsPartners S w.actions w.partners.items
+  pub deadlocked : NamesDeadlocked m S w.actions w.deadlocked.items
+  pub ring : NamesRing m S w.actions w.ring.items
 
 -- it is told of the state of a machine
 abbrev pub TellsWaits : AtMachine → Waiting → Type 0

@@ -11,9 +11,9 @@ use Rattle.runs.specs.declared.event.Event.{Event}
 use Rattle.line_text.specs.AnswerText.{ending, entry_text, numbered_text}
 use Rattle.line_text.specs.EventText.{channel_text}
 use Rattle.machine.specs.AtMachine.{AtMachine}
-use Rattle.offered_sides.specs.declared.side.OfferedSide.{OfferedSide}
-use Rattle.offered_sides.specs.declared.side.Side.{Side}
-use Rattle.offered_sides.specs.declared.side.Side.TheVariants as side
+use Rattle.local_actions.specs.declared.action.LocalAction.{LocalAction}
+use Rattle.local_actions.specs.declared.action.ActionKind.{ActionKind}
+use Rattle.local_actions.specs.declared.action.ActionKind.TheVariants as action
 use Rattle.rings.specs.declared.partner.Partner.{Partner}
 use Rattle.rings.specs.declared.partner.Partner.TheVariants as partner
 use Rattle.waiting.specs.Input.{fed_channel, lacks_input, line_at}
@@ -68,63 +68,65 @@ abbrev pub on_channel : System → List ℕ → ℕ → List ℕ
 on_channel system words c = words ++ channel_text system (Some c)
 
 -- what it waits to do
-abbrev pub deed_text : System → Side → List ℕ
-deed_text system (side.Sends c v xs) = codes " sends " ++ decimal v.bits ++ on_channel system (codes " on ") c
-deed_text system (side.Receives c (Some x)) = on_channel system (codes " receives from ") c
-deed_text system (side.Receives c None) = on_channel system (codes " takes from ") c
-deed_text system (side.Syncs c) = on_channel system (codes " syncs on ") c
-deed_text system (side.Opens c k) = codes " opens arm " ++ decimal k ++ on_channel system (codes " on ") c
-deed_text system (side.Releases c) = on_channel system (codes " is held on ") c
-deed_text system (side.Closes c) = on_channel system (codes " closes ") c
-deed_text system (side.Assigns x v xs) = codes " assigns"
-deed_text system (side.Tests k xs) = codes " tests"
-deed_text system side.Turns = codes " turns"
+abbrev pub deed_text : System → ActionKind → List ℕ
+deed_text system (action.Sends c v xs) = codes " sends " ++ decimal v.bits ++ on_channel system (codes " on ") c
+deed_text system (action.Receives c (Some x)) = on_channel system (codes " receives from ") c
+deed_text system (action.Receives c None) = on_channel system (codes " takes from ") c
+deed_text system (action.Syncs c) = on_channel system (codes " syncs on ") c
+deed_text system (action.Opens c k) = codes " opens arm " ++ decimal k ++ on_channel system (codes " on ") c
+deed_text system (action.Releases c) = on_channel system (codes " is held on ") c
+deed_text system (action.Closes c) = on_channel system (codes " closes ") c
+deed_text system (action.Assigns x v xs) = codes " assigns"
+deed_text system (action.Tests k xs) = codes " tests"
+deed_text system action.Turns = codes " turns"
 
--- the stimulus of a channel is used up, or nobody else uses what a side on a line or of the environment waits on
+-- the stimulus of a channel is used up, or nobody else uses what an action on a line or of the environment waits on
 abbrev pub used_up_text : System → Option ℕ → Option ℕ → List ℕ
 used_up_text system (Some line) (Some c) = on_channel system (codes ", the stimulus of ") c ++ codes " is used up"
 used_up_text system _ _ = codes ", nobody else uses it any more"
 
 -- why no partner can come any more
-abbrev pub gone_text : System → Option ℕ → Side → List ℕ
-gone_text system line (side.Releases c) = codes ", by an arm that never ends"
+abbrev pub gone_text : System → Option ℕ → ActionKind → List ℕ
+gone_text system line (action.Releases c) = codes ", by an arm that never ends"
 gone_text system line x = used_up_text system line (fed_channel system x)
 
 -- what is known of its partner
-abbrev pub partner_text : System → Option ℕ → Side → Option Partner → List ℕ
+abbrev pub partner_text : System → Option ℕ → ActionKind → Option Partner → List ℕ
 partner_text system line x (Some (partner.Behind a)) = codes ", behind " ++ placed system a
 partner_text system line x (Some partner.Gone) = gone_text system line x
 partner_text system line x _ = []
 
--- a side that waits
-abbrev pub side_line : System → Option ℕ → OfferedSide → Option Partner → List ℕ
-side_line system line x p =
-    codes "  " ++ placed system x.place ++ line_text line ++ deed_text system x.side ++ partner_text system line x.side p ++ ending
+-- an action that waits
+abbrev pub action_line : System → Option ℕ → LocalAction → Option Partner → List ℕ
+action_line system line x p =
+    codes "  " ++ placed system x.place ++ line_text line ++ deed_text system x.action
+    ++ partner_text system line x.action p ++ ending
 
--- these sides, of which the first has the partner of number n
-abbrev pub side_lines : AtMachine → List Partner → ℕ → List OfferedSide → List ℕ
-side_lines m partners n [] = []
-side_lines m partners n (x ∷ xs) =
-    side_line m.checked (line_at m x.place) x (slice_get partners n) ++ side_lines m partners (n + 1) xs
+-- these actions, of which the first has the partner of number n
+abbrev pub action_lines : AtMachine → List Partner → ℕ → List LocalAction → List ℕ
+action_lines m partners n [] = []
+action_lines m partners n (x ∷ xs) =
+    action_line m.checked (line_at m x.place) x (slice_get partners n) ++ action_lines m partners (n + 1) xs
 
 -- ---- a ring
 
--- the place of the side of this index
-abbrev pub ring_line : System → Option OfferedSide → List ℕ
+-- the place of the action of this index
+abbrev pub ring_line : System → Option LocalAction → List ℕ
 ring_line system None = []
 ring_line system (Some x) = codes "  " ++ placed system x.place ++ ending
 
 -- nothing where there is none
-abbrev pub ring_lines : System → List OfferedSide → List ℕ → List ℕ
-ring_lines system sides [] = []
-ring_lines system sides (i ∷ ring) =
-    numbered_text (codes "ring") (length (i ∷ ring)) ++ flat_map (λ (j : ℕ). ring_line system (slice_get sides j)) (i ∷ ring)
+abbrev pub ring_lines : System → List LocalAction → List ℕ → List ℕ
+ring_lines system actions [] = []
+ring_lines system actions (i ∷ ring) =
+    numbered_text (codes "ring") (length (i ∷ ring))
+    ++ flat_map (λ (j : ℕ). ring_line system (slice_get actions j)) (i ∷ ring)
 
 -- ---- all of it
 abbrev pub waiting_text : AtMachine → Waiting → List ℕ
 waiting_text m w =
     progress_line w.progress (lacks_input m w)
     ++ ready_lines m.checked w.ready
-    ++ numbered_text (codes "waiting") (length w.sides)
-    ++ side_lines m w.partners.items 0 w.sides
-    ++ ring_lines m.checked w.sides w.ring.items
+    ++ numbered_text (codes "waiting") (length w.actions)
+    ++ action_lines m w.partners.items 0 w.actions
+    ++ ring_lines m.checked w.actions w.ring.items

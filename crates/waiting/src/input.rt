@@ -2,46 +2,46 @@
 ghost use Rattle.std.specs.Prelude.{◌≡◌, IfOk, slice_get};
 ghost use Rattle.std.specs.Option.{option_copied};
 ghost use Rattle.waiting.specs.Input as model;
-ghost use Rattle.waiting.specs.walking.Helps.{helps};
+ghost use Rattle.waiting.specs.internal.Helps.{helps};
 
 use crate::progress::{Progress, is_outlet};
 use crate::text::partner_at;
 use crate::waiting::Waiting;
+use local_actions::{ActionKind, LocalAction};
 use machine::Machine;
-use offered_sides::{OfferedSide, Side};
 use rings::Partner;
 use std::alloc::{AllocError, Global};
 use system::{Branch, System};
 
 impl Waiting {
     /// Whether nothing can go on for want of input alone: nothing is deadlocked, so that whatever waits waits for the
-    /// environment in the end, by whichever of its arms, and a side of the body waits for what the environment has no
-    /// more of. Where it is not known from where a partner comes, it is not. The machine is the one that was asked.
+    /// environment in the end, by whichever of its arms, and an action of the body waits for what the environment has
+    /// no more of. Where it is not known from where a partner comes, it is not. The machine is the one that was asked.
     pub fn lacks_input(&self, machine: &Machine) -> bool
         ensures { result ≡ model.lacks_input machine.now self.now }
     {
-        let sides = self.sides.as_slice();
+        let actions = self.actions.as_slice();
         let partners = self.partners.as_slice();
         is_stuck(self.progress)
             && none_deadlocked(self.deadlocked.as_slice())
-            && any_starved(machine, sides, partners)
-            && all_settled(sides, partners)
+            && any_starved(machine, actions, partners)
+            && all_settled(actions, partners)
     }
 }
 
-/// For each of the sides whether it is helped from elsewhere, so that none of the others has to go on for it. It is an
-/// error if there is no memory.
+/// For each of the actions whether it is helped from elsewhere, so that none of the others has to go on for it. It is
+/// an error if there is no memory.
 pub(crate) fn helped_among(
     alloc: Global,
     machine: &Machine,
-    sides: &[OfferedSide],
+    actions: &[LocalAction],
     partners: &[Partner],
 ) -> Result<Vec<bool>, AllocError>
-    ensures { IfOk result (λ helped. helped.items ≡ helps machine.now partners.now 0 sides.now) }
+    ensures { IfOk result (λ helped. helped.items ≡ helps machine.now partners.now 0 actions.now) }
 {
-    let mut helped = Vec::with_capacity(alloc, sides.len())?;
-    for (index, side) in sides.iter().enumerate() {
-        helped.push(is_helped(machine, side, partner_at(partners, index)))?;
+    let mut helped = Vec::with_capacity(alloc, actions.len())?;
+    for (index, action) in actions.iter().enumerate() {
+        helped.push(is_helped(machine, action, partner_at(partners, index)))?;
     }
     Ok(helped)
 }
@@ -56,24 +56,24 @@ fn is_stuck(progress: Progress) -> bool
     }
 }
 
-/// Whether one of the sides waits for more input.
-fn any_starved(machine: &Machine, sides: &[OfferedSide], partners: &[Partner]) -> bool
-    ensures { result ≡ model.any_starved machine.now partners.now 0 sides.now }
+/// Whether one of the actions waits for more input.
+fn any_starved(machine: &Machine, actions: &[LocalAction], partners: &[Partner]) -> bool
+    ensures { result ≡ model.any_starved machine.now partners.now 0 actions.now }
 {
-    for (index, side) in sides.iter().enumerate() {
-        if is_starved(machine, side, partner_at(partners, index)) {
+    for (index, action) in actions.iter().enumerate() {
+        if is_starved(machine, action, partner_at(partners, index)) {
             return true;
         }
     }
     false
 }
 
-/// Whether of each of the sides it is known where its partner stands.
-fn all_settled(sides: &[OfferedSide], partners: &[Partner]) -> bool
-    ensures { result ≡ model.all_settled partners.now 0 sides.now }
+/// Whether of each of the actions it is known where its partner stands.
+fn all_settled(actions: &[LocalAction], partners: &[Partner]) -> bool
+    ensures { result ≡ model.all_settled partners.now 0 actions.now }
 {
-    for (index, side) in sides.iter().enumerate() {
-        if !is_settled(side, partner_at(partners, index)) {
+    for (index, action) in actions.iter().enumerate() {
+        if !is_settled(action, partner_at(partners, index)) {
             return false;
         }
     }
@@ -92,18 +92,18 @@ fn none_deadlocked(marks: &[bool]) -> bool
     true
 }
 
-/// Whether the side is an output port's, or waits for more input.
-fn is_helped(machine: &Machine, offered: &OfferedSide, partner: Option<&Partner>) -> bool
+/// Whether the action is an output port's, or waits for more input.
+fn is_helped(machine: &Machine, offered: &LocalAction, partner: Option<&Partner>) -> bool
     ensures { result ≡ model.is_helped machine.now offered.now (option_copied partner.entry) }
 {
-    is_outlet(&offered.side) || is_starved(machine, offered, partner)
+    is_outlet(&offered.action) || is_starved(machine, offered, partner)
 }
 
-/// Whether the side is an output port's, or it is known where its partner stands.
-fn is_settled(offered: &OfferedSide, partner: Option<&Partner>) -> bool
+/// Whether the action is an output port's, or it is known where its partner stands.
+fn is_settled(offered: &LocalAction, partner: Option<&Partner>) -> bool
     ensures { result ≡ model.is_settled offered.now (option_copied partner.entry) }
 {
-    is_outlet(&offered.side) || !is_open(partner)
+    is_outlet(&offered.action) || !is_open(partner)
 }
 
 /// Whether it may be there already, or come from more than one branch.
@@ -116,8 +116,8 @@ fn is_open(partner: Option<&Partner>) -> bool
     }
 }
 
-/// Whether the side stands in the body and waits for what the environment has no more of.
-fn is_starved(machine: &Machine, offered: &OfferedSide, partner: Option<&Partner>) -> bool
+/// Whether the action stands in the body and waits for what the environment has no more of.
+fn is_starved(machine: &Machine, offered: &LocalAction, partner: Option<&Partner>) -> bool
     ensures { result ≡ model.is_starved machine.now offered.now (option_copied partner.entry) }
 {
     match partner {
@@ -126,22 +126,22 @@ fn is_starved(machine: &Machine, offered: &OfferedSide, partner: Option<&Partner
     }
 }
 
-/// Whether the side stands in the body and takes what the environment has a number of.
-fn takes_input(machine: &Machine, offered: &OfferedSide) -> bool
+/// Whether the action stands in the body and takes what the environment has a number of.
+fn takes_input(machine: &Machine, offered: &LocalAction) -> bool
     ensures { result ≡ model.takes_input machine.now offered.now }
 {
     let line = machine.line(&offered.place);
-    line.is_some() && fed_channel(machine.checked().system(), &offered.side).is_some()
+    line.is_some() && fed_channel(machine.checked().system(), &offered.action).is_some()
 }
 
-/// The channel on which the side takes what the environment has a number of, if it is one.
-pub(crate) fn fed_channel(system: &System, side: &Side) -> Option<u32>
-    ensures { result ≡ model.fed_channel system.now side.now }
+/// The channel on which the action takes what the environment has a number of, if it is one.
+pub(crate) fn fed_channel(system: &System, action: &ActionKind) -> Option<u32>
+    ensures { result ≡ model.fed_channel system.now action.now }
 {
-    match side {
-        Side::Receives(channel, _) | Side::Opens(channel, _) | Side::Syncs(channel) => {
-            fed(system, *channel)
-        }
+    match action {
+        ActionKind::Receives(channel, _)
+        | ActionKind::Opens(channel, _)
+        | ActionKind::Syncs(channel) => { fed(system, *channel) }
         _ => None,
     }
 }

@@ -1,12 +1,12 @@
-//! Who waits: after a run, each side that is offered and that no allowed event has, whether the run goes on, is done or is
-//! stuck, and a ring of places of which each waits for the next, where there is one.
+//! Who waits: after a run, each action that is offered and that no allowed event has, whether the run goes on, is done
+//! or is stuck, and a ring of places of which each waits for the next, where there is one.
 #![tactic(auto)]
 
+mod actions;
 mod input;
 mod once;
 mod progress;
-mod replaying;
-mod sides;
+mod replay;
 mod text;
 mod waiting;
 

@@ -1,9 +1,9 @@
 // Whether a run goes on, is done or is stuck.
 ghost use Rattle.std.specs.Prelude.{◌≡◌};
 ghost use Rattle.waiting.specs.Progress.{is_outlet};
-ghost use Rattle.waiting.specs.walking.Among.{progress_of, all_outlets};
+ghost use Rattle.waiting.specs.internal.Among.{progress_of, all_outlets};
 
-use offered_sides::{OfferedSide, Side};
+use local_actions::{ActionKind, LocalAction};
 use runs::Event;
 
 /// How a run stands.
@@ -17,37 +17,37 @@ pub enum Progress {
     Stuck,
 }
 
-/// How a run stands where these sides are offered and these events are allowed.
-pub(crate) fn progress_of(sides: &[OfferedSide], events: &[Event]) -> Progress
-    ensures { result ≡ progress_of sides.now events.now }
+/// How a run stands where these actions are offered and these events are allowed.
+pub(crate) fn progress_of(actions: &[LocalAction], events: &[Event]) -> Progress
+    ensures { result ≡ progress_of actions.now events.now }
 {
     if !events.is_empty() {
         Progress::GoesOn
-    } else if all_outlets(sides) {
+    } else if all_outlets(actions) {
         Progress::Done
     } else {
         Progress::Stuck
     }
 }
 
-/// Whether each of the sides is the environment's at an output port.
-fn all_outlets(sides: &[OfferedSide]) -> bool
-    ensures { result ≡ all_outlets sides.now }
+/// Whether each of the actions is the environment's at an output port.
+fn all_outlets(actions: &[LocalAction]) -> bool
+    ensures { result ≡ all_outlets actions.now }
 {
-    for offered in sides {
-        if !is_outlet(&offered.side) {
+    for offered in actions {
+        if !is_outlet(&offered.action) {
             return false;
         }
     }
     true
 }
 
-/// Whether the side is the environment's at an output port, which receives into no variable.
-pub(crate) fn is_outlet(side: &Side) -> bool
-    ensures { result ≡ is_outlet side.now }
+/// Whether the action is the environment's at an output port, which receives into no variable.
+pub(crate) fn is_outlet(action: &ActionKind) -> bool
+    ensures { result ≡ is_outlet action.now }
 {
-    match side {
-        Side::Receives(_, None) => true,
+    match action {
+        ActionKind::Receives(_, None) => true,
         _ => false,
     }
 }

@@ -11,8 +11,8 @@ use crate::progress::Progress;
 use crate::waiting::Waiting;
 use address::Address;
 use line_text::{add_entry, add_numbered};
+use local_actions::{ActionKind, LocalAction};
 use machine::Machine;
-use offered_sides::{OfferedSide, Side};
 use rings::Partner;
 use runs::Event;
 use sharing_check::Checked;
@@ -21,17 +21,18 @@ use system::System;
 use text_parts::{Piece, add_pieces, add_words};
 
 impl Waiting {
-    /// Adds the text: how the run stands, and where it is stuck whether it lacks input, each step that can be taken, each side that waits, and a ring of them if there is one,
-    /// each with its branch. The machine is the one that was asked. Without memory a part of it may be there.
+    /// Adds the text: how the run stands, and where it is stuck whether it lacks input, each step that can be taken,
+    /// each action that waits, and a ring of them if there is one, each with its branch. The machine is the one that
+    /// was asked. Without memory a part of it may be there.
     pub fn write_to(&self, machine: &Machine, out: &mut Vec<u8>) -> Result<(), AllocError>
         ensures { OnOk result (out.new.items ≡ out.old.items ++ model.waiting_text machine.now self.now) }
     {
-        let sides = self.sides.as_slice();
+        let actions = self.actions.as_slice();
         write_progress(self.progress, self.lacks_input(machine), out)?;
         write_ready(machine.checked(), self.ready.as_slice(), out)?;
-        add_numbered(out, b"waiting", sides.len() as u64)?;
-        write_sides(machine, sides, self.partners.as_slice(), out)?;
-        write_ring(machine.checked(), sides, self.ring.as_slice(), out)
+        add_numbered(out, b"waiting", actions.len() as u64)?;
+        write_actions(machine, actions, self.partners.as_slice(), out)?;
+        write_ring(machine.checked(), actions, self.ring.as_slice(), out)
     }
 }
 
@@ -100,33 +101,33 @@ fn branch_or_first(branch: Option<u32>) -> u32
     }
 }
 
-/// Adds a line for each side that waits.
-fn write_sides(
+/// Adds a line for each action that waits.
+fn write_actions(
     machine: &Machine,
-    sides: &[OfferedSide],
+    actions: &[LocalAction],
     partners: &[Partner],
     out: &mut Vec<u8>,
 ) -> Result<(), AllocError>
-    ensures { OnOk result (out.new.items ≡ out.old.items ++ model.side_lines machine.now partners.now 0 sides.now) }
+    ensures { OnOk result (out.new.items ≡ out.old.items ++ model.action_lines machine.now partners.now 0 actions.now) }
 {
-    for (index, side) in sides.iter().enumerate() {
-        write_side_at(machine, side, partners, index, out)?;
+    for (index, action) in actions.iter().enumerate() {
+        write_action_at(machine, action, partners, index, out)?;
     }
     Ok(())
 }
 
-/// Adds a side that waits, whose partner has this index.
-fn write_side_at(
+/// Adds an action that waits, whose partner has this index.
+fn write_action_at(
     machine: &Machine,
-    offered: &OfferedSide,
+    offered: &LocalAction,
     partners: &[Partner],
     index: usize,
     out: &mut Vec<u8>,
 ) -> Result<(), AllocError>
-    ensures { OnOk result (out.new.items ≡ out.old.items ++ model.side_line machine.now.checked
+    ensures { OnOk result (out.new.items ≡ out.old.items ++ model.action_line machine.now.checked
         (line_at machine.now offered.now.place) offered.now (slice_get partners.now index)) }
 {
-    write_side(machine, offered, partner_at(partners, index), out)
+    write_action(machine, offered, partner_at(partners, index), out)
 }
 
 /// The partner of this index, if there is one.
@@ -139,14 +140,14 @@ pub(crate) fn partner_at<'a>(partners: &'a [Partner], index: usize) -> Option<&'
     }
 }
 
-/// Adds a side that waits.
-fn write_side(
+/// Adds an action that waits.
+fn write_action(
     machine: &Machine,
-    offered: &OfferedSide,
+    offered: &LocalAction,
     partner: Option<&Partner>,
     out: &mut Vec<u8>,
 ) -> Result<(), AllocError>
-    ensures { OnOk result (out.new.items ≡ out.old.items ++ model.side_line machine.now.checked
+    ensures { OnOk result (out.new.items ≡ out.old.items ++ model.action_line machine.now.checked
         (line_at machine.now offered.now.place) offered.now (option_copied partner.entry)) }
 {
     let checked = machine.checked();
@@ -154,22 +155,22 @@ fn write_side(
     add_words(out, b"  ")?;
     write_placed(checked, &offered.place, out)?;
     write_line(line, out)?;
-    write_deed(checked.system(), &offered.side, out)?;
-    end_side(checked, line, &offered.side, partner, out)
+    write_deed(checked.system(), &offered.action, out)?;
+    end_action(checked, line, &offered.action, partner, out)
 }
 
-/// Adds what is known of the partner of a side that stands on this line, and the end of the line of text.
-fn end_side(
+/// Adds what is known of the partner of an action that stands on this line, and the end of the line of text.
+fn end_action(
     checked: &Checked,
     line: Option<u64>,
-    side: &Side,
+    action: &ActionKind,
     partner: Option<&Partner>,
     out: &mut Vec<u8>,
 ) -> Result<(), AllocError>
     ensures { OnOk result (out.new.items ≡ out.old.items
-        ++ (model.partner_text checked.now line side.now (option_copied partner.entry) ++ ending)) }
+        ++ (model.partner_text checked.now line action.now (option_copied partner.entry) ++ ending)) }
 {
-    write_partner(checked, line, side, partner, out)?;
+    write_partner(checked, line, action, partner, out)?;
     add_words(out, b"\n")
 }
 
@@ -222,31 +223,36 @@ fn write_line(line: Option<u64>, out: &mut Vec<u8>) -> Result<(), AllocError>
     }
 }
 
-/// Adds what the side waits to do.
-fn write_deed(system: &System, side: &Side, out: &mut Vec<u8>) -> Result<(), AllocError>
-    ensures { OnOk result (out.new.items ≡ out.old.items ++ model.deed_text system.now side.now) }
+/// Adds what the action waits to do.
+fn write_deed(system: &System, action: &ActionKind, out: &mut Vec<u8>) -> Result<(), AllocError>
+    ensures { OnOk result (out.new.items ≡ out.old.items ++ model.deed_text system.now action.now) }
 {
-    match side {
-        Side::Sends(channel, value, _) => {
+    match action {
+        ActionKind::Sends(channel, value, _) => {
             add_pieces(
                 out,
                 &[Piece::Words(b" sends "), Piece::Number(value.bits())],
             )?;
             write_on(system, b" on ", *channel, out)
         }
-        Side::Receives(channel, Some(_)) => write_on(system, b" receives from ", *channel, out),
-        Side::Receives(channel, None) => write_on(system, b" takes from ", *channel, out),
-        Side::Syncs(channel) => write_on(system, b" syncs on ", *channel, out),
-        Side::Opens(channel, arm) => {
+        ActionKind::Receives(channel, Some(_)) => write_on(
+            system,
+            b" receives from ",
+            *channel,
+            out,
+        ),
+        ActionKind::Receives(channel, None) => write_on(system, b" takes from ", *channel, out),
+        ActionKind::Syncs(channel) => write_on(system, b" syncs on ", *channel, out),
+        ActionKind::Opens(channel, arm) => {
             let arm = Piece::Number(u64::from(*arm));
             add_pieces(out, &[Piece::Words(b" opens arm "), arm])?;
             write_on(system, b" on ", *channel, out)
         }
-        Side::Releases(channel) => write_on(system, b" is held on ", *channel, out),
-        Side::Closes(channel) => write_on(system, b" closes ", *channel, out),
-        Side::Assigns(_, _, _) => add_words(out, b" assigns"),
-        Side::Tests(_, _) => add_words(out, b" tests"),
-        Side::Turns => add_words(out, b" turns"),
+        ActionKind::Releases(channel) => write_on(system, b" is held on ", *channel, out),
+        ActionKind::Closes(channel) => write_on(system, b" closes ", *channel, out),
+        ActionKind::Assigns(_, _, _) => add_words(out, b" assigns"),
+        ActionKind::Tests(_, _) => add_words(out, b" tests"),
+        ActionKind::Turns => add_words(out, b" turns"),
     }
 }
 
@@ -265,44 +271,44 @@ fn write_on(
     }
 }
 
-/// Adds what is known of the partner of a side that stands on this line.
+/// Adds what is known of the partner of an action that stands on this line.
 fn write_partner(
     checked: &Checked,
     line: Option<u64>,
-    side: &Side,
+    action: &ActionKind,
     partner: Option<&Partner>,
     out: &mut Vec<u8>,
 ) -> Result<(), AllocError>
     ensures { OnOk result (out.new.items ≡ out.old.items
-        ++ model.partner_text checked.now line side.now (option_copied partner.entry)) }
+        ++ model.partner_text checked.now line action.now (option_copied partner.entry)) }
 {
     match partner {
         Some(Partner::Behind(first)) => {
             add_words(out, b", behind ")?;
             write_placed(checked, first, out)
         }
-        Some(Partner::Gone) => write_gone(checked.system(), line, side, out),
+        Some(Partner::Gone) => write_gone(checked.system(), line, action, out),
         Some(Partner::Open) | None => Ok(()),
     }
 }
 
-/// Adds why no partner of the side can come any more: the arm that holds it never ends, what the environment had for it is used up, or
-/// nobody else uses the channel.
+/// Adds why no partner of the action can come any more: the arm that holds it never ends, what the environment had for
+/// it is used up, or nobody else uses the channel.
 fn write_gone(
     system: &System,
     line: Option<u64>,
-    side: &Side,
+    action: &ActionKind,
     out: &mut Vec<u8>,
 ) -> Result<(), AllocError>
-    ensures { OnOk result (out.new.items ≡ out.old.items ++ model.gone_text system.now line side.now) }
+    ensures { OnOk result (out.new.items ≡ out.old.items ++ model.gone_text system.now line action.now) }
 {
-    match side {
-        Side::Releases(_) => add_words(out, b", by an arm that never ends"),
-        _ => write_used_up(system, line, fed_channel(system, side), out),
+    match action {
+        ActionKind::Releases(_) => add_words(out, b", by an arm that never ends"),
+        _ => write_used_up(system, line, fed_channel(system, action), out),
     }
 }
 
-/// Adds that the stimulus of the channel is used up, or that nobody else uses what a side on this line waits on.
+/// Adds that the stimulus of the channel is used up, or that nobody else uses what an action on this line waits on.
 fn write_used_up(
     system: &System,
     line: Option<u64>,
@@ -323,71 +329,71 @@ fn write_used_up(
 /// Adds the ring, if there is one.
 fn write_ring(
     checked: &Checked,
-    sides: &[OfferedSide],
+    actions: &[LocalAction],
     ring: &[usize],
     out: &mut Vec<u8>,
 ) -> Result<(), AllocError>
-    ensures { OnOk result (out.new.items ≡ out.old.items ++ model.ring_lines checked.now sides.now ring.now) }
+    ensures { OnOk result (out.new.items ≡ out.old.items ++ model.ring_lines checked.now actions.now ring.now) }
 {
     if ring.is_empty() {
         return Ok(());
     }
     add_numbered(out, b"ring", ring.len() as u64)?;
-    write_round(checked, sides, ring, out)
+    write_round(checked, actions, ring, out)
 }
 
-/// Adds a line for each of the sides with these indexes.
+/// Adds a line for each of the actions with these indexes.
 fn write_round(
     checked: &Checked,
-    sides: &[OfferedSide],
+    actions: &[LocalAction],
     ring: &[usize],
     out: &mut Vec<u8>,
 ) -> Result<(), AllocError>
     ensures { OnOk result (out.new.items ≡ out.old.items
-        ++ flat_map (λ j. model.ring_line checked.now (slice_get sides.now j)) ring.now) }
+        ++ flat_map (λ j. model.ring_line checked.now (slice_get actions.now j)) ring.now) }
 {
     for held in ring {
-        write_ring_at(checked, sides, *held, out)?;
+        write_ring_at(checked, actions, *held, out)?;
     }
     Ok(())
 }
 
-/// Adds the place of the side of this index.
+/// Adds the place of the action of this index.
 fn write_ring_at(
     checked: &Checked,
-    sides: &[OfferedSide],
+    actions: &[LocalAction],
     index: usize,
     out: &mut Vec<u8>,
 ) -> Result<(), AllocError>
     ensures { OnOk result (out.new.items ≡ out.old.items
-        ++ model.ring_line checked.now (slice_get sides.now index)) }
+        ++ model.ring_line checked.now (slice_get actions.now index)) }
 {
-    write_ring_line(checked, side_at(sides, index), out)
+    write_ring_line(checked, action_at(actions, index), out)
 }
 
-/// The side of this index, if there is one.
-fn side_at<'a>(sides: &'a [OfferedSide], index: usize) -> Option<&'a OfferedSide>
-    ensures { option_copied result ≡ slice_get sides.now index }
+/// The action of this index, if there is one.
+fn action_at<'a>(actions: &'a [LocalAction], index: usize) -> Option<&'a LocalAction>
+    ensures { option_copied result ≡ slice_get actions.now index }
 {
-    match sides.get(index) {
-        Some(side) => Some(side),
+    match actions.get(index) {
+        Some(action) => Some(action),
         None => None,
     }
 }
 
-/// Adds the place of a side, if there is one.
+/// Adds the place of an action, if there is one.
 fn write_ring_line(
     checked: &Checked,
-    side: Option<&OfferedSide>,
+    action: Option<&LocalAction>,
     out: &mut Vec<u8>,
 ) -> Result<(), AllocError>
     ensures { OnOk result (out.new.items ≡ out.old.items
-        ++ model.ring_line checked.now (option_copied side.entry)) }
+        ++ model.ring_line checked.now (option_copied action.entry)) }
 {
-    match side {
-        Some(side) => {
+    match action {
+        Some(action) => {
             add_words(out, b"  ")?;
-            write_placed(checked, &side.place, out)?;
+            write_placed(checked, &action.place, out)?;
             add_words(out, b"\n")
         }
         None => Ok(()),

@@ -10,13 +10,13 @@ ghost use Rattle.rings.specs.Rings.{TellsDeadlocked};
 ghost use Rattle.waiting.specs.Input.{is_helped};
 ghost use Rattle.waiting.specs.Told.{TellsWaits};
 
+use crate::actions::left_over;
 use crate::input::helped_among;
 use crate::once::each_once;
 use crate::progress::{Progress, progress_of};
-use crate::replaying::made_again;
-use crate::sides::left_over;
+use crate::replay::made_again;
+use local_actions::{LocalAction, actions_of};
 use machine::Machine;
-use offered_sides::{OfferedSide, sides_of};
 use rings::{Partner, deadlocked_among, partners_of, ring_among};
 use runs::Event;
 use std::alloc::{AllocError, Global};
@@ -28,63 +28,63 @@ pub struct Waiting {
     pub progress: Progress,
     /// the events that may be taken, in order
     pub ready: Items<Event>,
-    /// the sides that wait, in order of place, each once
-    pub sides: Items<OfferedSide>,
+    /// the actions that wait, in order of place, each once
+    pub actions: Items<LocalAction>,
     /// for each of them what has to go on before its partner can come
     pub partners: Vec<Partner>,
     /// for each of them whether its place is deadlocked: one of some of which none goes on before another one does,
     /// whatever the environment gives
     pub deadlocked: Vec<bool>,
-    /// the indexes of deadlocked sides of which each waits for the place of the next, and the last for the first; empty
-    /// where there is no such ring
+    /// the indexes of deadlocked actions of which each waits for the place of the next, and the last for the first;
+    /// empty where there is no such ring
     pub ring: Vec<usize>,
 }
 
-/// Exactly the sides that the state of the machine offers and whose place no allowed event has, each once, in order of
-/// place, the allowed events, how the run stands, what each of the sides waits for, which are deadlocked, and a ring
-/// exactly where there is one. It makes the live events again, and then takes a walk of the tree for each of the sides.
-/// It is an error if there is no memory.
+/// Exactly the actions that the state of the machine offers and whose place no allowed event has, each once, in order
+/// of place, the allowed events, how the run stands, what each of the actions waits for, which are deadlocked, and a
+/// ring exactly where there is one. It makes the live events again, and then takes a walk of the tree for each of the
+/// actions. It is an error if there is no memory.
 pub fn who_waits(alloc: Global, machine: &Machine) -> Result<Waiting, AllocError>
     ensures { IfOk result (λ told. TellsWaits machine.now told) }
 {
     machine.is_sound();
     let state = made_again(alloc, machine)?;
-    let sides = sides_of(alloc, &state.tree, &state.store)?;
+    let actions = actions_of(alloc, &state.tree, &state.store)?;
     let ready = ready_events(machine)?;
-    let progress = progress_of(sides.as_slice(), ready.as_slice());
-    let sides = each_once(alloc, left_over(sides, ready.as_slice()))?;
-    let partners = partners_of(alloc, &state.tree, sides.as_slice())?;
-    let deadlocked = deadlocked_of(alloc, machine, sides.as_slice(), partners.as_slice())?;
+    let progress = progress_of(actions.as_slice(), ready.as_slice());
+    let actions = each_once(alloc, left_over(actions, ready.as_slice()))?;
+    let partners = partners_of(alloc, &state.tree, actions.as_slice())?;
+    let deadlocked = deadlocked_of(alloc, machine, actions.as_slice(), partners.as_slice())?;
     let ring = ring_among(
         alloc,
-        sides.as_slice(),
+        actions.as_slice(),
         partners.as_slice(),
         deadlocked.as_slice(),
     )?;
     Ok(Waiting {
         progress,
         ready,
-        sides,
+        actions,
         partners,
         deadlocked,
         ring,
     })
 }
 
-/// For each of the sides, which have these partners, whether its place is deadlocked. It is an error if there is no
+/// For each of the actions, which have these partners, whether its place is deadlocked. It is an error if there is no
 /// memory.
 fn deadlocked_of(
     alloc: Global,
     machine: &Machine,
-    sides: &[OfferedSide],
+    actions: &[LocalAction],
     partners: &[Partner],
 ) -> Result<Vec<bool>, AllocError>
-    requires { length partners.now ≡ length sides.now }
-    ensures { (r : Residual) → partners.now ≡ map (partner_in r) sides.now → IfOk result (λ marks.
-        TellsDeadlocked (λ x. is_helped machine.now x (Some (partner_in r x))) r sides.now marks.items) }
+    requires { length partners.now ≡ length actions.now }
+    ensures { (r : Residual) → partners.now ≡ map (partner_in r) actions.now → IfOk result (λ marks.
+        TellsDeadlocked (λ x. is_helped machine.now x (Some (partner_in r x))) r actions.now marks.items) }
 {
-    let helped = helped_among(alloc, machine, sides, partners)?;
-    deadlocked_among(alloc, sides, partners, helped.as_slice())
+    let helped = helped_among(alloc, machine, actions, partners)?;
+    deadlocked_among(alloc, actions, partners, helped.as_slice())
 }
 
 /// The events that may be taken now, in order. It is an error if there is no memory.

@@ -210,8 +210,8 @@ pub fn ports(
     Ok(declared)
 }
 
-/// What is visible in the procedure with this number, from 1, in the order of the source: types, elements, the procedures
-/// before it, its ports and its locals.
+/// What is visible in the procedure with this number, from 1, in the order of the source: types, elements, the
+/// procedures before it, its ports and its locals.
 pub fn visible(
     alloc: Global,
     source: &[u8],

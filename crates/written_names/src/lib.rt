@@ -1,4 +1,5 @@
-//! What is declared in a description, and where its names stand: flat lists of what the trees say, for texts about faults.
+//! What is declared in a description, and where its names stand: flat lists of what the trees say, for texts about
+//! faults.
 #![tactic(auto)]
 
 mod declarations;

@@ -48,6 +48,7 @@ pub struct Site {
     pub number: Option<u64>,
     /// The body of an arm: where it begins and ends. Nothing is in it elsewhere.
     pub body: (u64, u64),
-    /// The `case`, `select` or `arbitrate` to which a label, a subject or an arm belongs: the offset at which it begins.
+    /// The `case`, `select` or `arbitrate` to which a label, a subject or an arm belongs: the offset at which it
+    /// begins.
     pub choice: u64,
 }

@@ -256,8 +256,8 @@ fn add_last(last: &Option<Command>, walk: &mut Walk<'_>) -> Result<(), AllocErro
     }
 }
 
-/// What stands in the body of a procedure, in the order of the source. Widths of expressions are found where `offset` lies
-/// in their command: of a guard, in itself.
+/// What stands in the body of a procedure, in the order of the source. Widths of expressions are found where `offset`
+/// lies in their command: of a guard, in itself.
 pub fn sites(
     alloc: Global,
     source: &[u8],

@@ -1,2 +1,2 @@
-pub mod Quiet
-pub mod Back
+mod Quiet
+mod Back

@@ -42,7 +42,8 @@ escaped (c ∷ cs) = character_text c ++ escaped cs
 abbrev pub BeginsWith : List ℕ → ℕ → List ℕ → Type 0
 BeginsWith text c rest =
     ((text ≡ c ∷ rest) × (c ≢ 38) × (c ≢ 60))
-    ⊎ ((digits : List ℕ) × (text ≡ 38 ∷ 35 ∷ (digits ++ 59 ∷ rest)) × IsNumeral 10 digits × (digits_value 10 digits ≡ c))
+    ⊎ ((digits : List ℕ) × (text ≡ 38 ∷ 35 ∷ (digits ++ 59 ∷ rest)) × IsNumeral 10 digits
+    × (digits_value 10 digits ≡ c))
 
 -- the text is read as these characters
 abbrev pub ReadsAs : List ℕ → List ℕ → Type 0

@@ -7,8 +7,8 @@ use bstr::ByteSlice;
 use itoa::Buffer;
 use std::alloc::AllocError;
 
-/// Adds the text of XML that stands for these bytes, between two tags or in an attribute. A byte sequence that is no UTF-8 stands for
-/// U+FFFD, a piece each. Without memory a part of it may be there.
+/// Adds the text of XML that stands for these bytes, between two tags or in an attribute. A byte sequence that is no
+/// UTF-8 stands for U+FFFD, a piece each. Without memory a part of it may be there.
 pub fn add_text(out: &mut Vec<u8>, text: &[u8]) -> Result<(), AllocError>
     ensures { OnOk result (out.new.items ≡ out.old.items ++ escaped (lossy_chars text.now)) }
 {

@@ -61,7 +61,7 @@ fn time(rt: &HostRuntime, case: &Case<'_>) -> io::Result<()> {
     let found = past(alloc, &machine, case.subject, true)?;
     let passed = start.elapsed(rt)?.as_micros();
     let live = machine.live_events().len();
-    let sides = told.sides.len();
+    let sides = told.actions.len();
     let count = match found {
         Some(found) => found.events.len(),
         None => 0,

@@ -113,7 +113,7 @@ fn five_wait_in_a_circle(rt: HostRuntime) -> Result<(), Fail> {
         b"balsadbg trace 2\nstep /0/0.0 0\nstep /0/1.0 0\nstep /0/2.0 0\nstep /0/3.0 0\nstep /0/4.0 0\n";
     let machine = loaded(rt.alloc(), CIRCLE, trace)?;
     let told = who_waits(rt.alloc(), &machine)?;
-    assert!(rt; told.sides.len() == 5);
+    assert!(rt; told.actions.len() == 5);
     assert!(rt; told.ring.as_slice() == [0, 4, 3, 2, 1].as_slice());
     Ok(())
 }

@@ -9,7 +9,7 @@ use allowed_events::{event_with, ready_below, ready_events};
 use calculus::{Ask, Choice, Event};
 use channel_uses::ChannelUses;
 use event_inverse::{Record, apply, invert};
-use offered_sides::{Side, sides_of};
+use local_actions::{ActionKind, actions_of};
 use process_tree::{Code, Proc, Tree, Turns, code_of, start, system_code};
 use rendezvous::event_at;
 use sharing_check::Checked;
@@ -303,17 +303,17 @@ fn an_undo_in_the_middle_leaves_what_came_later(rt: HostRuntime) -> Result<(), F
 #[test]
 fn each_place_offers_its_side(rt: HostRuntime) -> Result<(), Fail> {
     let run = begun(rt.alloc(), ONCE)?;
-    let sides = sides_of(rt.alloc(), &run.tree, &run.store)?;
+    let sides = actions_of(rt.alloc(), &run.tree, &run.store)?;
     let sides = sides.as_slice();
     assert_eq!(rt; sides.len(), 3);
     assert!(rt; sides[0].place.equals(&place(rt.alloc(), b"/0.0")?));
-    assert!(rt; matches!(&sides[0].side, Side::Receives(0, Some(0))));
+    assert!(rt; matches!(&sides[0].action, ActionKind::Receives(0, Some(0))));
     assert!(rt; sides[1].place.equals(&place(rt.alloc(), b"/1.0.0")?));
     assert!(rt;
-        matches!(&sides[1].side, Side::Sends(0, value, read) if value.bits() == 5 && read.as_slice().is_empty())
+        matches!(&sides[1].action, ActionKind::Sends(0, value, read) if value.bits() == 5 && read.as_slice().is_empty())
     );
     assert!(rt; sides[2].place.equals(&place(rt.alloc(), b"/2.0")?));
-    assert!(rt; matches!(&sides[2].side, Side::Receives(1, None)));
+    assert!(rt; matches!(&sides[2].action, ActionKind::Receives(1, None)));
     Ok(())
 }
 

@@ -6,7 +6,7 @@ use allowed_events::ready_events;
 use calculus::{Event, Kind, replay};
 use channel_uses::ChannelUses;
 use event_inverse::{Record, apply, invert};
-use offered_sides::{OfferedSide, Side, sides_of};
+use local_actions::{LocalAction, ActionKind, actions_of};
 use process_tree::{Tree, system_code};
 use sharing_check::Checked;
 use std::alloc::{AllocError, Global};
@@ -131,23 +131,23 @@ pub fn long(alloc: Global, checked: Checked) -> io::Result<()> {
 /// Makes the assignments in the branches of a parallel, and takes them back in another order.
 pub fn wide(alloc: Global, checked: Checked) -> io::Result<()> {
     let mut run = Run::new(alloc, checked)?;
-    let sides = sides_of(alloc, &run.tree, &run.store)?;
+    let sides = actions_of(alloc, &run.tree, &run.store)?;
     for side in sides.as_slice() {
         if let Some(event) = assigned(alloc, side)? {
             run.make(event)?;
         }
     }
-    let left = sides_of(alloc, &run.tree, &run.store)?;
+    let left = actions_of(alloc, &run.tree, &run.store)?;
     expect(left.is_empty(), "sides_of")?;
     run.undo_all(false)?;
-    let again = sides_of(alloc, &run.tree, &run.store)?;
+    let again = actions_of(alloc, &run.tree, &run.store)?;
     expect(again.len() == sides.len(), "sides_of")
 }
 
 /// The assignment that the side makes.
-fn assigned(alloc: Global, side: &OfferedSide) -> Result<Option<Event>, AllocError> {
-    match &side.side {
-        Side::Assigns(variable, value, read) => Ok(Some(Event {
+fn assigned(alloc: Global, side: &LocalAction) -> Result<Option<Event>, AllocError> {
+    match &side.action {
+        ActionKind::Assigns(variable, value, read) => Ok(Some(Event {
             kind: Kind::Assign,
             first: side.place.copy(alloc)?,
             second: None,

@@ -1,4 +1,4 @@
-use Rattle.branch_lanes.proofs.Trimming.{apart-in-lanes}
+use Rattle.branch_lanes.proofs.public.Trimming.{apart-in-lanes}
 use Rattle.branch_lanes.proofs.apart_in_lanes.Goals as goal
 
 pub returns : goal.returns

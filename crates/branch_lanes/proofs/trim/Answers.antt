@@ -1,6 +1,6 @@
 use Rattle.std.proofs.Common.{◌≡◌, ◌≢◌, ℕ, suc, ◌-◌, ◌<◌, ◌∙◌, List, length, get_or, vec_len, sym, ap, arith}
 use Rattle.branch_lanes.specs.Lanes.{trimmed}
-use Rattle.branch_lanes.proofs.Trimming.{same-default, trimmed-last, trimmed-none}
+use Rattle.branch_lanes.proofs.public.Trimming.{same-default, trimmed-last, trimmed-none}
 use Rattle.branch_lanes.proofs.trim.Goals as goal
 
 pub zeros-preserved : goal.zeros-preserved

@@ -2,7 +2,7 @@ use Rattle.std.proofs.Common.{get_or, sym, ◌∙◌}
 use Rattle.std.proofs.lemmas.Bool.{false≢true}
 use Rattle.std.proofs.lemmas.Int.Digits.{digits_more}
 use Rattle.std.proofs.lemmas.Str.Parse.{digit_at}
-use Rattle.decimal.proofs.DigitLemmas.{digit-passes, digit-fails}
+use Rattle.decimal.proofs.public.DigitLemmas.{digit-passes, digit-fails}
 use Rattle.decimal.proofs.are_digits.Goals as goal
 
 pub returns-then-not-is_ascii_digit : goal.returns-then-not-is_ascii_digit

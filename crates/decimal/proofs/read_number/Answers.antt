@@ -1,6 +1,6 @@
 use Rattle.std.proofs.Common.{sym, ◌∙◌, eqb-true}
 use Rattle.std.proofs.lemmas.Bool.{false≢true}
-use Rattle.decimal.proofs.DigitLemmas.{no-number-digits, no-number-empty, no-number-zero}
+use Rattle.decimal.proofs.public.DigitLemmas.{no-number-digits, no-number-empty, no-number-zero}
 use Rattle.decimal.proofs.read_number.Goals as goal
 
 pub returns-then-not-are_digits : goal.returns-then-not-are_digits

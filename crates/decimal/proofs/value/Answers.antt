@@ -2,7 +2,7 @@ use Rattle.std.proofs.Common.{◌≡◌, ◌+◌, ◌-◌, ◌*◌, ◌^◌, ◌
 use Rattle.std.proofs.lemmas.Str.Parse.{digit_at}
 use Rattle.std.proofs.lemmas.List.{take_all}
 use Rattle.std.specs.Str.Parse.{digits_value}
-use Rattle.decimal.proofs.DigitLemmas.{no-number-large, number-of-digits, digit-more}
+use Rattle.decimal.proofs.public.DigitLemmas.{no-number-large, number-of-digits, digit-more}
 use Rattle.decimal.proofs.value.Goals as goal
 
 pub overflow_sub-digit : goal.overflow_sub-digit

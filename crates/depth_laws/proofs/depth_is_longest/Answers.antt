@@ -1,4 +1,4 @@
-use Rattle.depth_laws.proofs.Chains.{depth-is-longest}
+use Rattle.depth_laws.proofs.public.Chains.{depth-is-longest}
 use Rattle.depth_laws.proofs.depth_is_longest.Goals as goal
 
 pub returns : goal.returns

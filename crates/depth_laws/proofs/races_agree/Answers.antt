@@ -1,4 +1,4 @@
-use Rattle.depth_laws.proofs.EqualRaces.{races-agree}
+use Rattle.depth_laws.proofs.public.EqualRaces.{races-agree}
 use Rattle.depth_laws.proofs.races_agree.Goals as goal
 
 pub returns : goal.returns

@@ -2,12 +2,12 @@ use Rattle.std.proofs.Common.{◌≡◌, Err, inl, inr, List, ◌⊎◌, rules}
 use Rattle.syntax.specs.Texts.{Text}
 use Rattle.lexer.specs.Refusal.{IsRefused}
 use Rattle.lexer.specs.Tokens.{AreTokens}
-use Rattle.lexer.specs.walking.Fronts.{IsPieceFault}
-use Rattle.lexer.specs.walking.Parts.{IsCutOff}
+use Rattle.lexer.specs.internal.Fronts.{IsPieceFault}
+use Rattle.lexer.specs.internal.Parts.{IsCutOff}
 use Rattle.lexer.specs.declared.token.Token.{Token}
 use Rattle.refusals.specs.declared.lexer.Fault.{Fault}
 use Rattle.refusals.specs.declared.lexer.Fault.TheVariants.{Memory}
-use Rattle.lexer.proofs.PartLemmas.{at_end, bad_piece, less_left, over_piece}
+use Rattle.lexer.proofs.public.PartLemmas.{at_end, bad_piece, less_left, over_piece}
 use Rattle.lexer.proofs.UniqueLemmas.{tokens_unique, refused_unique, never_both}
 use Rattle.lexer.proofs.lex.Goals as goal
 use Rattle.lexer.proofs.lex.Goals.{In-Some, In_ok-push}

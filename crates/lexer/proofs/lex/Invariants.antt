@@ -1,5 +1,5 @@
 use Rattle.std.proofs.Common.{length}
-use Rattle.lexer.specs.walking.Parts.{HasRead}
+use Rattle.lexer.specs.internal.Parts.{HasRead}
 use Rattle.lexer.proofs.lex.Given as goal
 
 abbrev pub invariant-loop-tokens : goal.invariant-loop-tokens

@@ -1,5 +1,5 @@
 use Rattle.trace_file.specs.declared.fault.Fault.TheVariants.{Memory}
-use Rattle.questions.proofs.Handing.{refused}
+use Rattle.questions.proofs.public.Handing.{refused}
 use Rattle.picture.proofs.run_picture.Goals as goal
 
 pub returns-in_err-machine : goal.returns-in_err-machine

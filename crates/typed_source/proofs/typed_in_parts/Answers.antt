@@ -1,9 +1,9 @@
 use Rattle.std.proofs.Common.{◌≡◌, [], true, false, Err, inr, rules}
-use Rattle.types.proofs.JudgedLemmas.{judges-all}
-use Rattle.types.specs.walking.Judged.{Judges}
+use Rattle.types.proofs.public.JudgedLemmas.{judges-all}
+use Rattle.types.specs.internal.Judged.{Judges}
 use Rattle.typed_source.specs.Source.{IsRefused}
 use Rattle.typed_source.specs.Wrapping.{of_types}
-use Rattle.typed_source.specs.walking.InParts.{IsNext, Stands}
+use Rattle.typed_source.specs.internal.InParts.{IsNext, Stands}
 use Rattle.typed_source.proofs.WholeLemmas.{described, refused_next, stands_first, stands_next, told, untyped}
 use Rattle.typed_source.proofs.typed_in_parts.Goals as goal
 

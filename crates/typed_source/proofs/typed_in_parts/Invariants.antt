@@ -1,5 +1,5 @@
 use Rattle.std.proofs.Common.{if◌then◌else◌, suc, length}
-use Rattle.typed_source.specs.walking.InParts.{Stands}
+use Rattle.typed_source.specs.internal.InParts.{Stands}
 use Rattle.typed_source.proofs.typed_in_parts.Given as goal
 
 abbrev pub invariant-loop-is_last : goal.invariant-loop-is_last

@@ -2,9 +2,9 @@ use Rattle.std.proofs.Common.{◌≡◌, [], ◌⊎◌, inr}
 use Rattle.std.proofs.lemmas.Result.{IfErr-weaker}
 use Rattle.types.specs.Declarations.{found_description}
 use Rattle.types.specs.Findings.{IsRefused}
-use Rattle.types.specs.walking.Judged.{Judges}
+use Rattle.types.specs.internal.Judged.{Judges}
 use Rattle.refusals.specs.declared.types.Fault.TheVariants.{Memory}
-use Rattle.types.proofs.JudgedLemmas.{judges-all}
+use Rattle.types.proofs.public.JudgedLemmas.{judges-all}
 use Rattle.types.proofs.check_types.Goals as goal
 
 pub returns : goal.returns

@@ -1,6 +1,6 @@
 -- `==` on slices compares entry by entry, and an entry's `==` decides equality.
 use Rattle.std.proofs.lemmas.Slice.Eq.{slice_eq-Decides}
-use Rattle.address.proofs.Entries.{entry_eq-Decides}
+use Rattle.address.proofs.public.Entries.{entry_eq-Decides}
 use Rattle.address.proofs.Address.equals.Goals as goal
 
 pub returns : goal.returns

@@ -1,5 +1,5 @@
 -- Addresses are tied in the order exactly where they are equal.
-use Rattle.address.proofs.Total.{equal-is-tie}
+use Rattle.address.proofs.public.Total.{equal-is-tie}
 use Rattle.address.proofs.AddressPartialEq.eq.Goals as goal
 
 pub returns : goal.returns

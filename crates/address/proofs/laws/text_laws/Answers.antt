@@ -1,5 +1,5 @@
 -- Addresses with one text are equal.
-use Rattle.address.proofs.Finds.{text_of-injective}
+use Rattle.address.proofs.public.Finds.{text_of-injective}
 use Rattle.address.proofs.laws.text_laws.Goals as goal
 
 pub returns : goal.returns

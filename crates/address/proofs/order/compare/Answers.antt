@@ -1,6 +1,6 @@
 -- `cmp` of two slices of entries is the order of addresses.
 use Rattle.std.proofs.Common.{◌∙◌}
-use Rattle.address.proofs.Entries.{entries_cmp-is}
+use Rattle.address.proofs.public.Entries.{entries_cmp-is}
 use Rattle.address.proofs.order.compare.Goals as goal
 
 pub returns : goal.returns

@@ -1,7 +1,7 @@
 -- A byte that passes the test is one more digit.
 use Rattle.std.proofs.Common.{get_or, sym, ◌∙◌}
 use Rattle.std.proofs.lemmas.Int.Digits.{digits_more}
-use Rattle.address.proofs.Numbers.{digit-passes}
+use Rattle.address.proofs.public.Numbers.{digit-passes}
 use Rattle.address.proofs.text.count_digits.Goals as goal
 
 pub loop-i-preserved : goal.loop-i-preserved

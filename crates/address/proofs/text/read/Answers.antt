@@ -1,5 +1,5 @@
 -- The entries found so far, and the rest.
-use Rattle.address.proofs.Finds.{pending-more, pending-stuck, not-nil}
+use Rattle.address.proofs.public.Finds.{pending-more, pending-stuck, not-nil}
 use Rattle.address.proofs.text.read.Goals as goal
 
 pub returns-in_default : goal.returns-in_default

@@ -1,5 +1,5 @@
 use Rattle.std.proofs.Common.{length}
-use Rattle.address.proofs.Finds.{Pending}
+use Rattle.address.proofs.public.Finds.{Pending}
 use Rattle.address.proofs.text.read.Given as goal
 
 -- what is read so far and the rest are the text, and an address with this text goes on from it

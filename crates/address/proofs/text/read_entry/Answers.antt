@@ -1,7 +1,7 @@
 -- What is found at the start of a text: the digits after its first byte are those of an entry.
 use Rattle.std.proofs.Common.{subst}
-use Rattle.address.specs.walking.Entries.{ReadsNoNumber}
-use Rattle.address.proofs.Finds.{no-entry-number}
+use Rattle.address.specs.internal.Entries.{ReadsNoNumber}
+use Rattle.address.proofs.public.Finds.{no-entry-number}
 use Rattle.address.proofs.text.read_entry.Goals as goal
 
 pub returns-in_err-number : goal.returns-in_err-number

@@ -1,4 +1,4 @@
-use Rattle.address.proofs.Numbers.{number-read}
+use Rattle.address.proofs.public.Numbers.{number-read}
 use Rattle.address.proofs.text.read_number.Goals as goal
 
 pub returns : goal.returns

@@ -1,5 +1,5 @@
 use Rattle.std.proofs.Common.{◌∙◌}
-use Rattle.address.proofs.Entries.{entries_cmp-is}
+use Rattle.address.proofs.public.Entries.{entries_cmp-is}
 use Rattle.allowed_events.proofs.order.order_of.Goals as goal
 
 pub returns : goal.returns

@@ -1,6 +1,6 @@
 use Rattle.std.proofs.Common.{◌≡◌, ◌≤◌, false, length, drop}
 use Rattle.syntax.specs.Lists.{Every}
-use Rattle.allowed_events.specs.walking.Sorting.{is_sooner}
+use Rattle.allowed_events.specs.internal.Sorting.{is_sooner}
 use Rattle.allowed_events.proofs.order.sooner_count.Given as goal
 
 abbrev pub invariant-loop-index : goal.invariant-loop-index

@@ -1,12 +1,12 @@
--- The events in which the sides below the place act, in order.
+-- The events in which the actions below the place act, in order.
 use Rattle.std.proofs.Common.{[]}
 use Rattle.std.proofs.lemmas.Result.{IfOk-weaker}
 use Rattle.process_tree.specs.View.{tree_view}
-use Rattle.process_tree.proofs.Formed.{left-formed}
-use Rattle.offered_sides.specs.Sides.{Under}
-use Rattle.offered_sides.specs.View.{state_of}
-use Rattle.offered_sides.specs.declared.side.OfferedSide.{OfferedSide}
-use Rattle.allowed_events.proofs.ActedSides.{acted-allowed, below-ready}
+use Rattle.process_tree.proofs.public.Formed.{left-formed}
+use Rattle.local_actions.specs.Actions.{Under}
+use Rattle.local_actions.specs.View.{state_of}
+use Rattle.local_actions.specs.declared.action.LocalAction.{LocalAction}
+use Rattle.allowed_events.proofs.ActedActions.{acted-allowed, below-ready}
 use Rattle.allowed_events.proofs.ready.ready_below.Goals as goal
 
 pub returns : goal.returns
@@ -19,4 +19,4 @@ returns c = λ code table stems tidy.
     IfOk-weaker c.in_order.result _ _
     (λ sorted s. below-ready S p c.in_ok-acting.acting c.as_slice.result.now c.in_ok-made.made sorted w exactly c.as_slice.ensures made s)
     (c.in_order.ensures S w
-    (acted-allowed S (λ (x : OfferedSide). Under p x.place) c.in_ok-acting.acting c.as_slice.result.now c.in_ok-made.made w exactly c.as_slice.ensures made))
+    (acted-allowed S (λ (x : LocalAction). Under p x.place) c.in_ok-acting.acting c.as_slice.result.now c.in_ok-made.made w exactly c.as_slice.ensures made))

@@ -1,7 +1,7 @@
 -- All events act below the root.
 use Rattle.std.proofs.lemmas.Result.{IfOk-weaker}
-use Rattle.offered_sides.specs.View.{state_of}
-use Rattle.allowed_events.proofs.ActedSides.{below-root}
+use Rattle.local_actions.specs.View.{state_of}
+use Rattle.allowed_events.proofs.ActedActions.{below-root}
 use Rattle.allowed_events.proofs.ready.ready_events.Goals as goal
 
 pub returns : goal.returns

@@ -1,9 +1,9 @@
 use Rattle.std.proofs.Common.{◌≡◌, List, Some, sym, ap, ◌∙◌, true≢false}
 use Rattle.address.specs.declared.Entry.{Entry}
 use Rattle.runs.specs.Events.{acting}
-use Rattle.runs.proofs.Options.{some-injective}
-use Rattle.runs.proofs.Sameness.{same_event-decides}
-use Rattle.calculus.specs.walking.Comparing.{place_at}
+use Rattle.runs.proofs.public.Options.{some-injective}
+use Rattle.runs.proofs.public.Sameness.{same_event-decides}
+use Rattle.calculus.specs.internal.Comparing.{place_at}
 use Rattle.calculus.proofs.IndexLaws.{there}
 use Rattle.calculus.proofs.ListPlaces.{item-got, one-acts, got-in}
 use Rattle.calculus.proofs.alike.place_of.Goals as goal

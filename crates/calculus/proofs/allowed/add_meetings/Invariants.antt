@@ -1,6 +1,6 @@
 use Rattle.std.proofs.Common.{◌≡◌, ◌++◌, drop, map}
-use Rattle.runs.specs.walking.AllowedEvents.{events_with}
-use Rattle.calculus.specs.walking.Walk.{located_of}
+use Rattle.runs.specs.internal.AllowedEvents.{events_with}
+use Rattle.calculus.specs.internal.Walk.{located_of}
 use Rattle.calculus.proofs.allowed.add_meetings.Given as goal
 
 abbrev pub invariant-loop-other : goal.invariant-loop-other

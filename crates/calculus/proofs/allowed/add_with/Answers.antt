@@ -1,8 +1,8 @@
 use Rattle.std.proofs.Common.{◌≡◌, ◌++◌, map, false, sym, ap, ◌∙◌}
 use Rattle.std.proofs.lemmas.List.{append-nil}
-use Rattle.calculus.specs.walking.Meanings.{move_of}
-use Rattle.calculus.specs.walking.Meets.{is_first}
-use Rattle.calculus.specs.walking.Walk.{located_of}
+use Rattle.calculus.specs.internal.Meanings.{move_of}
+use Rattle.calculus.specs.internal.Meets.{is_first}
+use Rattle.calculus.specs.internal.Walk.{located_of}
 use Rattle.calculus.proofs.Firsts.{no_first}
 use Rattle.calculus.proofs.allowed.add_with.Goals as goal
 

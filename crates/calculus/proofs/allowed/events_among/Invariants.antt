@@ -1,6 +1,6 @@
 use Rattle.std.proofs.Common.{◌≡◌, ◌++◌, drop, map}
-use Rattle.runs.specs.walking.AllowedEvents.{events_together, events_among}
-use Rattle.calculus.specs.walking.Walk.{located_of}
+use Rattle.runs.specs.internal.AllowedEvents.{events_together, events_among}
+use Rattle.calculus.specs.internal.Walk.{located_of}
 use Rattle.calculus.proofs.allowed.events_among.Given as goal
 
 abbrev pub invariant-loop-offer : goal.invariant-loop-offer

@@ -1,6 +1,6 @@
 use Rattle.std.proofs.Common.{◌≡◌, rules, arith, None, refl}
 use Rattle.std.proofs.lemmas.Grind.{common_steps}
-use Rattle.runs.specs.walking.Below.{below_branch}
+use Rattle.runs.specs.internal.Below.{below_branch}
 use Rattle.calculus.proofs.Passing.{rest_fits, passes_branch}
 use Rattle.calculus.proofs.TreeAnswers.{inside_answers, branch_answers}
 use Rattle.calculus.proofs.offers.+after.Goals as goal

@@ -1,5 +1,5 @@
 use Rattle.std.proofs.Common.{sym, ◌∙◌, true≢false}
-use Rattle.calculus.specs.Left.{state_of}
+use Rattle.calculus.specs.ResidualTree.{state_of}
 use Rattle.calculus.proofs.OneRunLaws.{acts-once, both-respect, one-run-depends-alike, one-alike, one-state-of, ran}
 use Rattle.calculus.proofs.one_run.same_run.Goals as goal
 

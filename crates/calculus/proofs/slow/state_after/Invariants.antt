@@ -1,6 +1,6 @@
 use Rattle.std.proofs.Common.{◌≡◌, drop}
-use Rattle.runs.specs.walking.StepOf.{run_of}
-use Rattle.calculus.specs.Left.{state_of}
+use Rattle.runs.specs.internal.StepOf.{run_of}
+use Rattle.calculus.specs.ResidualTree.{state_of}
 use Rattle.runs.specs.Steps.{opening}
 use Rattle.calculus.proofs.slow.state_after.Given as goal
 

@@ -1,5 +1,5 @@
 use Rattle.std.proofs.Common.{◌≡◌, ◌++◌, drop, map}
-use Rattle.system.specs.walking.ArmParts.{arm_of}
+use Rattle.system.specs.internal.ArmParts.{arm_of}
 use Rattle.calculus.proofs.translate.channels_of.Given as goal
 
 abbrev pub invariant-loop-arm : goal.invariant-loop-arm

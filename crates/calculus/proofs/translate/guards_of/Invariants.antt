@@ -1,6 +1,6 @@
 use Rattle.std.proofs.Common.{◌≡◌, ◌++◌, drop, map}
 use Rattle.system.specs.Translation.{expression_of}
-use Rattle.system.specs.walking.ArmParts.{guarded_of}
+use Rattle.system.specs.internal.ArmParts.{guarded_of}
 use Rattle.calculus.proofs.translate.guards_of.Given as goal
 
 abbrev pub invariant-loop-arm : goal.invariant-loop-arm

@@ -1,5 +1,5 @@
 use Rattle.std.proofs.Common.{◌≡◌, ◌++◌, drop, map}
-use Rattle.system.specs.walking.ArmParts.{labelled_of}
+use Rattle.system.specs.internal.ArmParts.{labelled_of}
 use Rattle.calculus.proofs.translate.labels_of.Given as goal
 
 abbrev pub invariant-loop-arm : goal.invariant-loop-arm

@@ -1,6 +1,6 @@
 use Rattle.std.proofs.Common.{◌≡◌, ◌++◌, drop, map}
-use Rattle.runs.specs.walking.AllowedEvents.{opens_from}
-use Rattle.calculus.specs.walking.Walk.{located_of, below}
+use Rattle.runs.specs.internal.AllowedEvents.{opens_from}
+use Rattle.calculus.specs.internal.Walk.{located_of, below}
 use Rattle.calculus.proofs.walk.add_opens.Given as goal
 
 abbrev pub invariant-loop-arm : goal.invariant-loop-arm

@@ -1,5 +1,5 @@
 -- The laws of the canonical order.
-use Rattle.canonical_order.proofs.Canonicals.{canonical-respects, canonical-runs, orders-agree, one-canonical-order, is-its-own-order}
+use Rattle.canonical_order.proofs.public.Canonicals.{canonical-respects, canonical-runs, orders-agree, one-canonical-order, is-its-own-order}
 use Rattle.canonical_order.proofs.Placing.{some-canonical-order}
 use Rattle.canonical_order.proofs.laws.canonical_laws.Goals as goal
 

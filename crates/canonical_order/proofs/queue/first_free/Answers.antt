@@ -1,7 +1,7 @@
 use Rattle.std.proofs.Common.{◌≡◌, ◌+◌, ◌<◌, ℕ, [], length, take, get_or, Some, sym, ap, ◌∙◌, subst, arith, heap_items}
 use Rattle.std.specs.Prelude.{slice_get}
 use Rattle.std.proofs.lemmas.Option.{slice_get-get_or}
-use Rattle.canonical_order.specs.walking.Waiting.{IsQueue}
+use Rattle.canonical_order.specs.internal.Waiting.{IsQueue}
 use Rattle.canonical_order.proofs.Queues.{queue-none, first-joined, first-kept}
 use Rattle.canonical_order.proofs.queue.first_free.Goals as goal
 use Rattle.canonical_order.proofs.queue.first_free.Goals.{then-left-index-eq0+in_ok-add_free, else-left-index-eq0}

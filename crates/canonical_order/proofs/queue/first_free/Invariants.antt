@@ -1,5 +1,5 @@
 use Rattle.std.proofs.Common.{take, heap_items}
-use Rattle.canonical_order.specs.walking.Waiting.{IsQueue}
+use Rattle.canonical_order.specs.internal.Waiting.{IsQueue}
 use Rattle.canonical_order.proofs.queue.first_free.Given as goal
 
 -- those of the events passed that wait for none

@@ -1,5 +1,5 @@
 use Rattle.std.proofs.Common.{refl}
-use Rattle.dependence.proofs.ListPlaces.{in-at}
+use Rattle.dependence.proofs.public.ListPlaces.{in-at}
 use Rattle.canonical_order.proofs.Waits.{at-slice, counted-more}
 use Rattle.canonical_order.proofs.queue.leads_of_all.Goals as goal
 

@@ -1,8 +1,8 @@
 use Rattle.std.proofs.Common.{ℕ, List, take, get_or, sym, subst, heap_items}
 use Rattle.runs.specs.Live.{LiveAt}
 use Rattle.dependence.specs.Followers.{ListsFollowers}
-use Rattle.dependence.proofs.ListPlaces.{in-at, in-read, take-all}
-use Rattle.canonical_order.specs.walking.Waiting.{Telling}
+use Rattle.dependence.proofs.public.ListPlaces.{in-at, in-read, take-all}
+use Rattle.canonical_order.specs.internal.Waiting.{Telling}
 use Rattle.canonical_order.proofs.Telling.{can-tell, told-one, told-all, here-ticket, new-in, told-next}
 use Rattle.canonical_order.proofs.queue.tell_followers.Goals as goal
 

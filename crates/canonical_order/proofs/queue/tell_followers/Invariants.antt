@@ -2,7 +2,7 @@ use Rattle.std.proofs.Common.{◌≡◌, ℕ, [], take, Some, heap_items}
 use Rattle.std.specs.Prelude.{slice_get}
 use Rattle.runs.specs.Live.{Live}
 use Rattle.runs.specs.declared.event.Event.{Event}
-use Rattle.canonical_order.specs.walking.Waiting.{Telling}
+use Rattle.canonical_order.specs.internal.Waiting.{Telling}
 use Rattle.canonical_order.proofs.queue.tell_followers.Given as goal
 
 -- those passed were told

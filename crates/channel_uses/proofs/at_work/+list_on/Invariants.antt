@@ -1,10 +1,10 @@
 use Rattle.std.proofs.Common.{◌≡◌, ◌-◌, length, map}
 use Rattle.process_tree.specs.Tidy.{last_moved}
 use Rattle.process_tree.specs.View.{proc_view, procs_of}
-use Rattle.offered_sides.specs.walking.Listed.{listed_sequence}
-use Rattle.offered_sides.specs.walking.Walk.{added}
-use Rattle.offered_sides.proofs.Begun.{begun-row}
-use Rattle.channel_uses.specs.walking.Located.{LocatedProcs}
+use Rattle.local_actions.specs.internal.Listed.{listed_sequence}
+use Rattle.local_actions.specs.internal.Walk.{added}
+use Rattle.local_actions.proofs.public.Begun.{begun-row}
+use Rattle.channel_uses.specs.internal.Located.{LocatedProcs}
 use Rattle.channel_uses.proofs.Finding.{on_from}
 use Rattle.channel_uses.proofs.at_work.+list_on.Given as goal
 
@@ -12,8 +12,8 @@ abbrev pub invariant-parallel_on-branches : goal.invariant-parallel_on-branches
 invariant-parallel_on-branches l =
     let ps = procs_of (map proc_view l.procs) in
     LocatedProcs l.table l.part ps →
-    (l.around.received ≡ l.initial.around.received)
-    × (added (on_from l.channel l.values l.initial.around.received l.number 0 ps) l.around ≡ added (on_from l.channel l.values l.initial.around.received 0 0 ps) l.initial.around)
+    (l.cursor.received ≡ l.initial.cursor.received)
+    × (added (on_from l.channel l.values l.initial.cursor.received l.number 0 ps) l.cursor ≡ added (on_from l.channel l.values l.initial.cursor.received 0 0 ps) l.initial.cursor)
 
 abbrev pub decreases-parallel_on-branches : goal.decreases-parallel_on-branches
 decreases-parallel_on-branches l = length l.procs - l.number
@@ -22,8 +22,8 @@ abbrev pub invariant-sequence_on-children : goal.invariant-sequence_on-children
 invariant-sequence_on-children l =
     let children = begun-row l.begun l.row in
     LocatedProcs l.table l.part children →
-    (l.around ≡ l.initial.around)
-    × (listed_sequence l.values l.initial.around.received l.number 0 children ≡ listed_sequence l.values l.initial.around.received (last_moved children) 0 children)
+    (l.cursor ≡ l.initial.cursor)
+    × (listed_sequence l.values l.initial.cursor.received l.number 0 children ≡ listed_sequence l.values l.initial.cursor.received (last_moved children) 0 children)
 
 abbrev pub decreases-sequence_on-children : goal.decreases-sequence_on-children
 decreases-sequence_on-children l = length l.begun - l.number

@@ -1,4 +1,4 @@
-use Rattle.channel_uses.proofs.RunStems.{runs-keep-origin}
+use Rattle.channel_uses.proofs.public.RunStems.{runs-keep-origin}
 use Rattle.channel_uses.proofs.Stems.{started-stems, moves-keep-origin}
 use Rattle.channel_uses.proofs.laws.moves_keep_origin.Goals as goal
 

@@ -1,5 +1,5 @@
 use Rattle.std.proofs.Common.{◌-◌, length}
-use Rattle.channel_uses.specs.walking.Located.{NoneBetween}
+use Rattle.channel_uses.specs.internal.Located.{NoneBetween}
 use Rattle.channel_uses.proofs.located.arm_from.Given as goal
 
 abbrev pub invariant-arms : goal.invariant-arms

@@ -6,7 +6,7 @@ use Rattle.std.specs.Option.{option_map}
 use Rattle.system.specs.Translation.{expression_of, decision_of}
 use Rattle.process_tree.specs.View.{code_view, once_view, sender_view}
 use Rattle.process_tree.specs.declared.code.Await.{Await}
-use Rattle.channel_uses.specs.walking.Parts.{end, AddedUses}
+use Rattle.channel_uses.specs.internal.Parts.{end, AddedUses}
 use Rattle.channel_uses.proofs.Parts.{RowSoFar, row-more, row-end, numbered-as, once-numbered, sender-numbered, repeat-numbered, drain-numbered, decides-numbered, in-turn-numbered, side-by-side-numbered, awaits-numbered, is-once, is-sender, is-repeat, is-decide, is-await, is-in-turn, is-side-by-side, is-drain}
 use Rattle.channel_uses.proofs.part.+part_of.Goals as goal
 

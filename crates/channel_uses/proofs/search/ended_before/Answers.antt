@@ -1,6 +1,6 @@
 use Rattle.std.proofs.Common.{rules, of_calls}
 use Rattle.std.proofs.lemmas.Fn.{always_returns_same}
-use Rattle.channel_uses.specs.walking.Parts.{ends_before}
+use Rattle.channel_uses.specs.internal.Parts.{ends_before}
 use Rattle.channel_uses.proofs.Searches.{ends-parted, ended-at}
 use Rattle.channel_uses.proofs.search.ended_before.Goals as goal
 

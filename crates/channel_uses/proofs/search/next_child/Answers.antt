@@ -1,5 +1,5 @@
 use Rattle.std.proofs.Common.{MatchOption, subst, sym}
-use Rattle.channel_uses.specs.walking.Parts.{end, parts, AreParts, EndAt, UnusedFrom, UnusedBetween}
+use Rattle.channel_uses.specs.internal.Parts.{end, parts, AreParts, EndAt, UnusedFrom, UnusedBetween}
 use Rattle.channel_uses.proofs.Searches.{unused-past, unused-none, unused-before, none-past, used-found, none-earlier}
 use Rattle.channel_uses.proofs.search.next_child.Goals as goal
 

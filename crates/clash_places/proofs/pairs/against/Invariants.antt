@@ -1,5 +1,5 @@
 use Rattle.std.proofs.Common.{◌≡◌, drop}
-use Rattle.clash_places.specs.walking.Pairs.{against}
+use Rattle.clash_places.specs.internal.Pairs.{against}
 use Rattle.clash_places.proofs.pairs.against.Given as goal
 
 abbrev pub invariant-loop-other : goal.invariant-loop-other

@@ -1,5 +1,5 @@
 use Rattle.std.proofs.Common.{◌≡◌, drop}
-use Rattle.clash_places.specs.walking.Pairs.{first_clash}
+use Rattle.clash_places.specs.internal.Pairs.{first_clash}
 use Rattle.clash_places.proofs.pairs.first_clash.Given as goal
 
 abbrev pub invariant-loop-one : goal.invariant-loop-one

@@ -1,7 +1,7 @@
 -- What is found among all uses.
 use Rattle.std.proofs.Common.{◌≡◌, ◌∙◌, ◌++◌, List, ap, ap₂}
 use Rattle.sharing_check.specs.Uses.{VariableUse, uses_of}
-use Rattle.clash_places.specs.walking.Pairs.{first_clash}
+use Rattle.clash_places.specs.internal.Pairs.{first_clash}
 use Rattle.clash_places.proofs.Searched.{tells}
 use Rattle.clash_places.proofs.pairs.other_use.Goals as goal
 

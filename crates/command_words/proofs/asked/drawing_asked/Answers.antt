@@ -1,5 +1,5 @@
 use Rattle.std.proofs.Common.{rules}
-use Rattle.command_words.specs.walking.Building.{rows_in}
+use Rattle.command_words.specs.internal.Building.{rows_in}
 use Rattle.command_words.proofs.WordLemmas.{drawing_told}
 use Rattle.command_words.proofs.asked.drawing_asked.Goals as goal
 

@@ -4,7 +4,7 @@ use Rattle.clap.specs.Words.{Text, first_of, found_of}
 use Rattle.clap.proofs.WalkLemmas.{first_value-rows}
 use Rattle.decimal.specs.Reading.{IsNoNumber, Reads}
 use Rattle.command_words.specs.Words.{TellsStep}
-use Rattle.command_words.specs.walking.Building.{rows_in}
+use Rattle.command_words.specs.internal.Building.{rows_in}
 use Rattle.command_words.proofs.WordLemmas.{no_step_told, step_told, text_of_row}
 use Rattle.command_words.proofs.asked.event_asked.Goals as goal
 

@@ -1,5 +1,5 @@
 use Rattle.std.proofs.Common.{refl}
-use Rattle.command_words.specs.walking.Building.{rows_in}
+use Rattle.command_words.specs.internal.Building.{rows_in}
 use Rattle.command_words.proofs.WordLemmas.{no_explain}
 use Rattle.command_words.proofs.asked.explain_asked.Goals as goal
 

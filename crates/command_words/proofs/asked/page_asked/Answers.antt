@@ -1,7 +1,7 @@
 use Rattle.std.proofs.Common.{arith, codes}
 use Rattle.std.specs.Str.Parse.{ParsesUnsigned, ExplainsUnsignedError, HasUnsignedDigitsIfOk}
 use Rattle.clap.specs.Words.{found_of}
-use Rattle.command_words.specs.walking.Building.{rows_in}
+use Rattle.command_words.specs.internal.Building.{rows_in}
 use Rattle.command_words.proofs.WordLemmas.{no_number, number_is_small, number_of_row, page_told}
 use Rattle.command_words.proofs.asked.page_asked.Goals as goal
 

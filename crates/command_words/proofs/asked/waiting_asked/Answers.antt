@@ -1,5 +1,5 @@
 use Rattle.std.proofs.Common.{refl}
-use Rattle.command_words.specs.walking.Building.{rows_in}
+use Rattle.command_words.specs.internal.Building.{rows_in}
 use Rattle.command_words.proofs.WordLemmas.{no_waiting}
 use Rattle.command_words.proofs.asked.waiting_asked.Goals as goal
 

@@ -1,6 +1,6 @@
 use Rattle.std.proofs.Common.{codes, inl, inr, refl}
 use Rattle.clap.specs.Words.{found_of}
-use Rattle.command_words.specs.walking.Building.{rows_in}
+use Rattle.command_words.specs.internal.Building.{rows_in}
 use Rattle.command_words.proofs.WordLemmas.{no_text, no_why, text_of_row}
 use Rattle.command_words.proofs.asked.why_asked.Goals as goal
 

@@ -1,5 +1,5 @@
 use Rattle.std.proofs.Common.{inl, inr, refl}
-use Rattle.command_words.specs.walking.Building.{rows_in, TellsCrew}
+use Rattle.command_words.specs.internal.Building.{rows_in, TellsCrew}
 use Rattle.command_words.proofs.WordLemmas.{no_work}
 use Rattle.command_words.proofs.asked.work_asked.Goals as goal
 

@@ -1,6 +1,6 @@
 use Rattle.std.proofs.Common.{subst}
 use Rattle.std.specs.Prelude.{IfOk}
-use Rattle.command_words.specs.walking.Building.{IsCommand}
+use Rattle.command_words.specs.internal.Building.{IsCommand}
 use Rattle.command_words.proofs.commands.with_command.Goals as goal
 
 pub returns-in-Ok : goal.returns-in-Ok

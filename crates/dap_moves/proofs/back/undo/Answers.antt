@@ -1,6 +1,6 @@
 use Rattle.std.proofs.Common.{lit<}
 use Rattle.locked_execution.specs.declared.command.Command.{Command}
-use Rattle.dap_moves.proofs.Leading.{led_by_one}
+use Rattle.dap_moves.proofs.public.Leading.{led_by_one}
 use Rattle.dap_moves.proofs.back.undo.Goals as goal
 
 pub returns-clause-led : goal.returns-clause-led

@@ -1,4 +1,4 @@
-use Rattle.dap_moves.proofs.Leading.{led_nowhere, led_on, led_by_one, keeps-headline, loses-nothing-else}
+use Rattle.dap_moves.proofs.public.Leading.{led_nowhere, led_on, led_by_one, keeps-headline, loses-nothing-else}
 use Rattle.dap_moves.proofs.laws.led_laws.Goals as goal
 
 pub returns-clause-nowhere : goal.returns-clause-nowhere

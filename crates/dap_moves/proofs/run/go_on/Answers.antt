@@ -1,5 +1,5 @@
 use Rattle.std.proofs.Common.{◌∙◌}
-use Rattle.dap_moves.proofs.Leading.{led_on}
+use Rattle.dap_moves.proofs.public.Leading.{led_on}
 use Rattle.dap_moves.proofs.Passing.{passes_on}
 use Rattle.dap_moves.proofs.run.go_on.Goals as goal
 

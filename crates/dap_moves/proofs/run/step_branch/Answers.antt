@@ -1,6 +1,6 @@
 use Rattle.std.proofs.Common.{lit<, []}
 use Rattle.locked_execution.specs.declared.command.Command.{Command}
-use Rattle.dap_moves.proofs.Leading.{led_by_one}
+use Rattle.dap_moves.proofs.public.Leading.{led_by_one}
 use Rattle.dap_moves.proofs.Passing.{passes_asked}
 use Rattle.dap_moves.proofs.run.step_branch.Goals as goal
 

@@ -1,5 +1,5 @@
 use Rattle.std.proofs.Common.{refl, ◌∙◌, []}
-use Rattle.dap_moves.proofs.Leading.{led_nowhere, led_on}
+use Rattle.dap_moves.proofs.public.Leading.{led_nowhere, led_on}
 use Rattle.dap_moves.proofs.Passing.{passes_nowhere, passes_on}
 use Rattle.dap_moves.proofs.run.step_next.Goals as goal
 

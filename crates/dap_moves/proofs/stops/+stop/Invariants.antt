@@ -2,7 +2,7 @@
 use Rattle.std.proofs.Common.{◌≡◌, drop, map, false}
 use Rattle.system_places.specs.LinesBegun.{any_onto}
 use Rattle.dap_moves.specs.Stops.{stops}
-use Rattle.dap_moves.specs.walking.StopParts.{guarded_stops, labelled_stops, arm_stops}
+use Rattle.dap_moves.specs.internal.StopParts.{guarded_stops, labelled_stops, arm_stops}
 use Rattle.dap_moves.proofs.stops.+stop.Given as goal
 
 abbrev pub invariant-commands_stop-loop-command : goal.invariant-commands_stop-loop-command

@@ -1,5 +1,5 @@
 use Rattle.std.proofs.Common.{refl, ◌∙◌}
-use Rattle.dap_moves.proofs.Leading.{led_nowhere, led_on}
+use Rattle.dap_moves.proofs.public.Leading.{led_nowhere, led_on}
 use Rattle.dap_moves.proofs.taken_back.rewind_branch.Goals as goal
 
 pub loop-init : goal.loop-init

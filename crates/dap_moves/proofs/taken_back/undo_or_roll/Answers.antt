@@ -1,4 +1,4 @@
-use Rattle.dap_moves.proofs.Leading.{led_on}
+use Rattle.dap_moves.proofs.public.Leading.{led_on}
 use Rattle.dap_moves.proofs.taken_back.undo_or_roll.Goals as goal
 
 pub returns-in-Some-NeededBy-clause-led : goal.returns-in-Some-NeededBy-clause-led

@@ -1,5 +1,5 @@
 use Rattle.std.proofs.Common.{lit<}
-use Rattle.dap_moves.proofs.Leading.{led_by_one}
+use Rattle.dap_moves.proofs.public.Leading.{led_by_one}
 use Rattle.dap_requests.proofs.console.asked.Goals as goal
 
 pub returns-clause-led : goal.returns-clause-led

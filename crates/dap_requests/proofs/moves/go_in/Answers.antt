@@ -1,4 +1,4 @@
-use Rattle.dap_requests.proofs.Saying.{stops_behind}
+use Rattle.dap_requests.proofs.public.Saying.{stops_behind}
 use Rattle.dap_requests.proofs.moves.go_in.Goals as goal
 
 pub returns-clause-stops : goal.returns-clause-stops

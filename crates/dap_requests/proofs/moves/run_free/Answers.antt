@@ -1,4 +1,4 @@
-use Rattle.dap_requests.proofs.Saying.{says_on}
+use Rattle.dap_requests.proofs.public.Saying.{says_on}
 use Rattle.dap_requests.proofs.moves.run_free.Goals as goal
 
 pub returns-clause-tells : goal.returns-clause-tells

@@ -1,4 +1,4 @@
-use Rattle.dap_requests.proofs.Saying.{stops_on}
+use Rattle.dap_requests.proofs.public.Saying.{stops_on}
 use Rattle.dap_requests.proofs.moves.tell_and_stop.Goals as goal
 
 pub returns : goal.returns

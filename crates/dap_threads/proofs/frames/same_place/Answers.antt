@@ -1,4 +1,4 @@
-use Rattle.runs.specs.walking.EventLaws.{decided, same_place-decides}
+use Rattle.runs.specs.internal.EventLaws.{decided, same_place-decides}
 use Rattle.dap_threads.proofs.frames.same_place.Goals as goal
 
 pub returns : goal.returns

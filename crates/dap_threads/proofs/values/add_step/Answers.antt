@@ -1,4 +1,4 @@
-use Rattle.machine.proofs.Standing.{live-at}
+use Rattle.machine.proofs.public.Standing.{live-at}
 use Rattle.dap_threads.proofs.values.add_step.Goals as goal
 
 pub first_dependent-requires : goal.first_dependent-requires

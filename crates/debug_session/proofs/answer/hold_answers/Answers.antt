@@ -7,8 +7,8 @@ use Rattle.debug_session.proofs.answer.hold_answers.Goals as goal
 pub loop-number-init : goal.loop-number-init
 loop-number-init g c = (
   refl,
-  progress-start c.args.sitting.now.desk.machine.checked c.args.sitting.now (reader_remaining g.R.Read.remaining c.args.reader.now.device) (g.W.Write.contents c.args.writer.now.device)
-      c.args.held.now.items c.requires,
+  progress-start c.args.script_state.now.desk.machine.checked c.args.script_state.now (reader_remaining g.R.Read.remaining c.args.reader.now.device) (g.W.Write.contents c.args.writer.now.device)
+      c.args.pending.now.items c.requires,
   refl,
   refl,
 )
@@ -16,47 +16,47 @@ loop-number-init g c = (
 pub returns-in_err-is_complete-clause-ends : goal.returns-in_err-is_complete-clause-ends
 returns-in_err-is_complete-clause-ends g c =
     let p = err_from_is_err_and c.from_residual.result c.from_residual.ensures.1 in
-    stopped-asking c.args.sitting.now.desk.machine.checked c.args.sitting.now c.loop-number.sitting
+    stopped-asking c.args.script_state.now.desk.machine.checked c.args.script_state.now c.loop-number.script_state
     (reader_remaining g.R.Read.remaining c.args.reader.now.device) (reader_remaining g.R.Read.remaining c.loop-number.reader.device) (reader_remaining g.R.Read.remaining c.next_line.new.reader.device)
     (g.W.Write.contents c.args.writer.now.device) (g.W.Write.contents c.loop-number.writer.device) (g.W.Write.contents c.next_line.new.writer.device)
-    c.loop-number.held.items c.next_line.new.held.items c.loop-number.number c.in_err-is_complete.field-0.0 c.from_residual.result c.loop-number.invariant.1 c.in_err-is_complete.ensures.line (p.1 ∙ ap Err p.2)
+    c.loop-number.pending.items c.next_line.new.pending.items c.loop-number.number c.in_err-is_complete.field-0.0 c.from_residual.result c.loop-number.invariant.1 c.in_err-is_complete.ensures.line (p.1 ∙ ap Err p.2)
 
 pub returns-in_err-answer-clause-ends : goal.returns-in_err-answer-clause-ends
 returns-in_err-answer-clause-ends g c =
     let p = err_from_is_err_and c.from_residual-in_err-answer.result c.from_residual-in_err-answer.ensures.1 in
-    stopped-by-line c.args.sitting.now.desk.machine.checked c.loop-number.sitting.desk.machine.checked c.args.sitting.now c.loop-number.sitting
+    stopped-by-line c.args.script_state.now.desk.machine.checked c.loop-number.script_state.desk.machine.checked c.args.script_state.now c.loop-number.script_state
     (reader_remaining g.R.Read.remaining c.args.reader.now.device) (reader_remaining g.R.Read.remaining c.loop-number.reader.device) (reader_remaining g.R.Read.remaining c.next_line.new.reader.device)
     (g.W.Write.contents c.args.writer.now.device) (g.W.Write.contents c.loop-number.writer.device) (g.W.Write.contents c.next_line.new.writer.device)
-    c.loop-number.held.items c.next_line.new.held.items c.loop-number.number c.next_line.new.line.items c.as_slice.result.now c.in_ok-is_complete.is_complete
+    c.loop-number.pending.items c.next_line.new.pending.items c.loop-number.number c.next_line.new.line.items c.as_slice.result.now c.in_ok-is_complete.is_complete
     c.in_err-answer.field-0.0 c.from_residual-in_err-answer.result c.loop-number.invariant.0 c.as_slice.ensures.value
     c.loop-number.invariant.1 c.in_ok-is_complete.ensures.line c.in_err-answer.ensures.answered (p.1 ∙ ap Err p.2)
 
 pub returns-in_err-hold-clause-ends : goal.returns-in_err-hold-clause-ends
 returns-in_err-hold-clause-ends g c =
     let p = err_from_is_err_and c.from_residual-in_err-hold.result c.from_residual-in_err-hold.ensures.1 in
-    stopped-by-writer c.args.sitting.now.desk.machine.checked c.loop-number.sitting.desk.machine.checked c.args.sitting.now c.loop-number.sitting c.answer_line.new.sitting
+    stopped-by-writer c.args.script_state.now.desk.machine.checked c.loop-number.script_state.desk.machine.checked c.args.script_state.now c.loop-number.script_state c.answer_line.new.script_state
     (reader_remaining g.R.Read.remaining c.args.reader.now.device) (reader_remaining g.R.Read.remaining c.loop-number.reader.device) (reader_remaining g.R.Read.remaining c.next_line.new.reader.device)
     (g.W.Write.contents c.args.writer.now.device) (g.W.Write.contents c.loop-number.writer.device) (g.W.Write.contents c.next_line.new.writer.device) (g.W.Write.contents c.hold.new.writer.device)
-    c.loop-number.held.items c.next_line.new.held.items c.hold.new.held.items c.loop-number.number c.next_line.new.line.items c.as_slice.result.now c.in_ok-answer.answer.items c.as_slice-in-loop-number.result.now c.in_ok-is_complete.is_complete
+    c.loop-number.pending.items c.next_line.new.pending.items c.hold.new.pending.items c.loop-number.number c.next_line.new.line.items c.as_slice.result.now c.in_ok-answer.answer.items c.as_slice-in-loop-number.result.now c.in_ok-is_complete.is_complete
     c.in_err-hold.field-0.0 c.from_residual-in_err-hold.result c.loop-number.invariant.0 c.as_slice.ensures.value c.as_slice-in-loop-number.ensures.value
     c.loop-number.invariant.1 c.in_ok-is_complete.ensures.line c.in_ok-answer.ensures.answered c.in_err-hold.ensures.bytes (p.1 ∙ ap Err p.2)
 
 pub returns-then-not-is_complete-clause-ends : goal.returns-then-not-is_complete-clause-ends
 returns-then-not-is_complete-clause-ends g c =
-    done-by-line c.args.sitting.now.desk.machine.checked c.loop-number.sitting.desk.machine.checked c.args.sitting.now c.loop-number.sitting c.answer_line.new.sitting
+    done-by-line c.args.script_state.now.desk.machine.checked c.loop-number.script_state.desk.machine.checked c.args.script_state.now c.loop-number.script_state c.answer_line.new.script_state
     (reader_remaining g.R.Read.remaining c.args.reader.now.device) (reader_remaining g.R.Read.remaining c.loop-number.reader.device) (reader_remaining g.R.Read.remaining c.next_line.new.reader.device)
     (g.W.Write.contents c.args.writer.now.device) (g.W.Write.contents c.loop-number.writer.device) (g.W.Write.contents c.next_line.new.writer.device) (g.W.Write.contents c.hold.new.writer.device)
-    c.loop-number.held.items c.next_line.new.held.items c.hold.new.held.items c.loop-number.number c.next_line.new.line.items c.as_slice.result.now c.in_ok-answer.answer.items c.as_slice-in-loop-number.result.now c.in_ok-is_complete.is_complete
+    c.loop-number.pending.items c.next_line.new.pending.items c.hold.new.pending.items c.loop-number.number c.next_line.new.line.items c.as_slice.result.now c.in_ok-answer.answer.items c.as_slice-in-loop-number.result.now c.in_ok-is_complete.is_complete
     c.loop-number.invariant.0 c.as_slice.ensures.value c.as_slice-in-loop-number.ensures.value c.if-not-is_complete.true
     c.loop-number.invariant.1 c.in_ok-is_complete.ensures.line c.in_ok-answer.ensures.answered c.in_ok-hold.ensures.bytes
 
 pub loop-number-preserved : goal.loop-number-preserved
 loop-number-preserved g c = (
   c.answer_line.ensures.checked ∙ c.loop-number.invariant.0,
-  more-by-line c.args.sitting.now.desk.machine.checked c.loop-number.sitting.desk.machine.checked c.args.sitting.now c.loop-number.sitting c.answer_line.new.sitting
+  more-by-line c.args.script_state.now.desk.machine.checked c.loop-number.script_state.desk.machine.checked c.args.script_state.now c.loop-number.script_state c.answer_line.new.script_state
       (reader_remaining g.R.Read.remaining c.args.reader.now.device) (reader_remaining g.R.Read.remaining c.loop-number.reader.device) (reader_remaining g.R.Read.remaining c.next_line.new.reader.device)
       (g.W.Write.contents c.args.writer.now.device) (g.W.Write.contents c.loop-number.writer.device) (g.W.Write.contents c.next_line.new.writer.device) (g.W.Write.contents c.hold.new.writer.device)
-      c.loop-number.held.items c.next_line.new.held.items c.hold.new.held.items c.loop-number.number c.next_line.new.line.items c.as_slice.result.now c.in_ok-answer.answer.items c.as_slice-in-loop-number.result.now c.in_ok-is_complete.is_complete
+      c.loop-number.pending.items c.next_line.new.pending.items c.hold.new.pending.items c.loop-number.number c.next_line.new.line.items c.as_slice.result.now c.in_ok-answer.answer.items c.as_slice-in-loop-number.result.now c.in_ok-is_complete.is_complete
       c.loop-number.invariant.0 c.as_slice.ensures.value c.as_slice-in-loop-number.ensures.value c.if-not-is_complete.false
       c.loop-number.invariant.1 c.in_ok-is_complete.ensures.line c.in_ok-answer.ensures.answered c.in_ok-hold.ensures.bytes,
   c.in_ok-is_complete.ensures.read_failures ∙ c.loop-number.invariant.2,
@@ -65,6 +65,6 @@ loop-number-preserved g c = (
 
 pub returns-clause-ends : goal.returns-clause-ends
 returns-clause-ends g c =
-    session-endless c.args.sitting.now.desk.machine.checked c.args.sitting.now c.loop-number.sitting
+    session-endless c.args.script_state.now.desk.machine.checked c.args.script_state.now c.loop-number.script_state
     (reader_remaining g.R.Read.remaining c.args.reader.now.device) (reader_remaining g.R.Read.remaining c.loop-number.reader.device)
-    (g.W.Write.contents c.args.writer.now.device) (g.W.Write.contents c.loop-number.writer.device) c.loop-number.held.items c.loop-number.number c.loop-number.invariant.1
+    (g.W.Write.contents c.args.writer.now.device) (g.W.Write.contents c.loop-number.writer.device) c.loop-number.pending.items c.loop-number.number c.loop-number.invariant.1

@@ -7,7 +7,7 @@ use Rattle.debug_session.proofs.answer.hold_answers.Given as goal
 -- the lines so far are answered, and nothing failed
 abbrev pub invariant-loop-number : goal.invariant-loop-number
 invariant-loop-number g l =
-    (l.sitting.desk.machine.checked ≡ l.initial.sitting.desk.machine.checked)
-    × Progress l.initial.sitting.desk.machine.checked l.initial.sitting (reader_remaining g.R.Read.remaining l.initial.reader.device) (reader_remaining g.R.Read.remaining l.reader.device)
-    (g.W.Write.contents l.initial.writer.device) (g.W.Write.contents l.writer.device) l.held.items l.sitting l.number
+    (l.script_state.desk.machine.checked ≡ l.initial.script_state.desk.machine.checked)
+    × Progress l.initial.script_state.desk.machine.checked l.initial.script_state (reader_remaining g.R.Read.remaining l.initial.reader.device) (reader_remaining g.R.Read.remaining l.reader.device)
+    (g.W.Write.contents l.initial.writer.device) (g.W.Write.contents l.writer.device) l.pending.items l.script_state l.number
     × (failures l.reader ≡ failures l.initial.reader) × (failures l.writer ≡ failures l.initial.writer)

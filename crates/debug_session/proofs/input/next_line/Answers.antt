@@ -1,7 +1,7 @@
 use Rattle.std.proofs.Common.{[], refl}
 use Rattle.std.specs.Io.Buffered.{reader_remaining}
-use Rattle.devices.proofs.KnownLemmas.{Appends-none}
-use Rattle.debug_session.proofs.LineLemmas.{taken-whole}
+use Rattle.devices.proofs.public.KnownLemmas.{Appends-none}
+use Rattle.debug_session.proofs.public.LineLemmas.{taken-whole}
 use Rattle.debug_session.proofs.input.next_line.Goals as goal
 
 pub returns-then-branch-clause-line : goal.returns-then-branch-clause-line

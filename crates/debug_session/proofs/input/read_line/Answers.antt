@@ -1,5 +1,5 @@
 use Rattle.std.proofs.Common.{inl, inr}
-use Rattle.debug_session.proofs.LineLemmas.{takes-ended, takes-last, takes-part}
+use Rattle.debug_session.proofs.public.LineLemmas.{takes-ended, takes-last, takes-part}
 use Rattle.debug_session.proofs.input.read_line.Goals as goal
 
 pub returns-then-strip_end-clause-line : goal.returns-then-strip_end-clause-line

@@ -3,7 +3,7 @@ use Rattle.debug_session.specs.Lines.{Asks, AsksNothing}
 use Rattle.debug_session.specs.declared.fault.Fault.{Fault}
 use Rattle.debug_session.proofs.AcceptLemmas.{told}
 use Rattle.debug_session.proofs.AskLemmas.{Unsaid, found-says, found-session, found-nothing}
-use Rattle.line_text.proofs.CutLemmas.{not-nil}
+use Rattle.line_text.proofs.public.CutLemmas.{not-nil}
 use Rattle.debug_session.proofs.read.read_command.Goals as goal
 
 pub returns-clause-line : goal.returns-clause-line

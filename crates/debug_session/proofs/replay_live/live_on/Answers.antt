@@ -1,4 +1,4 @@
-use Rattle.debug_session.proofs.ReplayLemmas.{lists}
+use Rattle.debug_session.proofs.public.ReplayLemmas.{lists}
 use Rattle.debug_session.proofs.replay_live.live_on.Goals as goal
 
 pub returns-in-Ok : goal.returns-in-Ok

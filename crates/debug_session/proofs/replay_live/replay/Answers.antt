@@ -1,4 +1,4 @@
-use Rattle.debug_session.proofs.ReplayLemmas.{replays}
+use Rattle.debug_session.proofs.public.ReplayLemmas.{replays}
 use Rattle.debug_session.proofs.replay_live.replay.Goals as goal
 
 pub returns : goal.returns

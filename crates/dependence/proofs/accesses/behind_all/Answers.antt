@@ -1,8 +1,8 @@
 use Rattle.std.proofs.Common.{◌≡◌, ◌⊎◌, inl, inr, ◌^◌, ◌<◌, ℕ, suc, List, get_or, subst, arith}
 use Rattle.std.proofs.lemmas.Bool.{cases_lt}
-use Rattle.dependence.specs.walking.Found.{FirstBehind}
+use Rattle.dependence.specs.internal.Found.{FirstBehind}
 use Rattle.dependence.proofs.Candidacy.{behind-none, behind-next}
-use Rattle.dependence.proofs.ListPlaces.{take-all}
+use Rattle.dependence.proofs.public.ListPlaces.{take-all}
 use Rattle.dependence.proofs.accesses.behind_all.Goals as goal
 use Rattle.dependence.proofs.accesses.behind_all.Goals.{then-ticket-end, else-ticket-end}
 

@@ -1,5 +1,5 @@
 use Rattle.std.proofs.Common.{take}
-use Rattle.dependence.specs.walking.Found.{FirstBehind}
+use Rattle.dependence.specs.internal.Found.{FirstBehind}
 use Rattle.dependence.proofs.accesses.behind_all.Given as goal
 
 abbrev pub invariant-loop-ticket : goal.invariant-loop-ticket

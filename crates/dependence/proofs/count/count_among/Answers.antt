@@ -2,8 +2,8 @@ use Rattle.std.proofs.Common.{◌+◌, ℕ, take, sym, subst, arith}
 use Rattle.runs.specs.Dependence.{Directly}
 use Rattle.runs.specs.Live.{Live}
 use Rattle.runs.specs.declared.event.Event.{Event}
-use Rattle.dependence.specs.walking.Tables.{CountsAmong}
-use Rattle.dependence.proofs.ListPlaces.{take-all}
+use Rattle.dependence.specs.internal.Tables.{CountsAmong}
+use Rattle.dependence.proofs.public.ListPlaces.{take-all}
 use Rattle.dependence.proofs.Counting.{among-none, among-more, among-same}
 use Rattle.dependence.proofs.count.count_among.Goals as goal
 use Rattle.dependence.proofs.count.count_among.Goals.{then-depends_directly, else-depends_directly}

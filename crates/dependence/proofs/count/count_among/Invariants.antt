@@ -1,5 +1,5 @@
 use Rattle.std.proofs.Common.{◌≤◌, take}
-use Rattle.dependence.specs.walking.Tables.{CountsAmong}
+use Rattle.dependence.specs.internal.Tables.{CountsAmong}
 use Rattle.dependence.proofs.count.count_among.Given as goal
 
 abbrev pub invariant-loop-entry : goal.invariant-loop-entry

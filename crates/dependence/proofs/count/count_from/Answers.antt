@@ -1,8 +1,8 @@
 use Rattle.std.proofs.Common.{◌∙◌, ℕ, ◌-◌, length, take, drop, sym, ap, subst}
 use Rattle.runs.specs.Live.{Live}
 use Rattle.runs.specs.declared.event.Event.{Event}
-use Rattle.dependence.specs.walking.Tables.{IsRising, CountsAmong}
-use Rattle.dependence.proofs.ListPlaces.{in-at, got-here}
+use Rattle.dependence.specs.internal.Tables.{IsRising, CountsAmong}
+use Rattle.dependence.proofs.public.ListPlaces.{in-at, got-here}
 use Rattle.dependence.proofs.Counting.{rest-is, from-rises, counts-from}
 use Rattle.dependence.proofs.count.count_from.Goals as goal
 

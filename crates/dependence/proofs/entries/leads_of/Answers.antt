@@ -2,7 +2,7 @@ use Rattle.std.proofs.Common.{◌≡◌, ◌↔◌, ◌≤◌, ℕ, List, length
 use Rattle.std.specs.List.Sorted.{IsNonDecreasing}
 use Rattle.std.proofs.lemmas.Result.{IfOk-weaker}
 use Rattle.syntax.specs.Lists.{In}
-use Rattle.dependence.specs.walking.Tables.{Topmost}
+use Rattle.dependence.specs.internal.Tables.{Topmost}
 use Rattle.dependence.proofs.Candidacy.{candidates-found}
 use Rattle.dependence.proofs.Edges.{candidates-live, candidates-alike}
 use Rattle.dependence.proofs.Sweeps.{few-falling, few-topmost}

@@ -2,7 +2,7 @@ use Rattle.std.proofs.Common.{◌≡◌, ◌∙◌, ℕ, List, [], ◌∷◌, �
 use Rattle.std.proofs.lemmas.Result.{MatchResult-from_err}
 use Rattle.syntax.specs.Lists.{In}
 use Rattle.dependence.specs.declared.links.Links.{Links}
-use Rattle.dependence.specs.walking.Tables.{PartLinked}
+use Rattle.dependence.specs.internal.Tables.{PartLinked}
 use Rattle.dependence.proofs.Edges.{take-whole}
 use Rattle.dependence.proofs.entries.link_new.Goals as goal
 

@@ -2,9 +2,9 @@ use Rattle.std.proofs.Common.{◌≡◌, ◌∙◌, ℕ, List, length, sym, ap, 
 use Rattle.runs.specs.Live.{Live, LiveAt}
 use Rattle.runs.specs.declared.event.Event.{Event}
 use Rattle.dependence.specs.declared.links.Links.{Links}
-use Rattle.dependence.specs.walking.Tables.{Linked}
-use Rattle.dependence.proofs.ListPlaces.{in-at, got-here}
-use Rattle.dependence.proofs.Linking.{part-linked}
+use Rattle.dependence.specs.internal.Tables.{Linked}
+use Rattle.dependence.proofs.public.ListPlaces.{in-at, got-here}
+use Rattle.dependence.proofs.public.Linking.{part-linked}
 use Rattle.dependence.proofs.Edges.{taken-at, take-whole}
 use Rattle.dependence.proofs.entries.take_out.Goals as goal
 

@@ -1,5 +1,5 @@
 use Rattle.std.proofs.Common.{ℕ, Err, refl}
-use Rattle.dependence.proofs.ListPlaces.{searched-by}
+use Rattle.dependence.proofs.public.ListPlaces.{searched-by}
 use Rattle.dependence.proofs.indexes.index_in.Goals as goal
 
 pub returns-in-Err : goal.returns-in-Err

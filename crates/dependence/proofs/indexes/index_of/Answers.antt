@@ -1,8 +1,8 @@
 use Rattle.std.proofs.Common.{ℕ, Some, Ok, Err, refl, ◌∙◌, ap, rules}
 use Rattle.std.proofs.lemmas.List.Sorted.{answers_always}
 use Rattle.runs.specs.declared.event.Event.{Event}
-use Rattle.dependence.proofs.ListPlaces.{searched-by}
-use Rattle.dependence.proofs.Standing.{rising-order}
+use Rattle.dependence.proofs.public.ListPlaces.{searched-by}
+use Rattle.dependence.proofs.public.Standing.{rising-order}
 use Rattle.dependence.proofs.indexes.index_of.Goals as goal
 
 pub returns-in-Ok : goal.returns-in-Ok

@@ -1,4 +1,4 @@
-use Rattle.dependence.proofs.FollowerLaws.{no-new-follower}
+use Rattle.dependence.proofs.public.FollowerLaws.{no-new-follower}
 use Rattle.dependence.proofs.laws.no_new_follower.Goals as goal
 
 pub returns : goal.returns

@@ -1,4 +1,4 @@
-use Rattle.dependence.proofs.FollowerLaws.{reached-through-followers}
+use Rattle.dependence.proofs.public.FollowerLaws.{reached-through-followers}
 use Rattle.dependence.proofs.laws.reached_through_followers.Goals as goal
 
 pub returns : goal.returns

@@ -1,8 +1,8 @@
 use Rattle.std.proofs.Common.{ℕ, ◌<◌, List, take, refl, subst}
 use Rattle.syntax.specs.Lists.{In}
-use Rattle.dependence.specs.walking.Tables.{PartLinked}
-use Rattle.dependence.proofs.ListPlaces.{in-read, in-take, in-order-take, take-all}
-use Rattle.dependence.proofs.Linking.{link-next, link-same, next-absent}
+use Rattle.dependence.specs.internal.Tables.{PartLinked}
+use Rattle.dependence.proofs.public.ListPlaces.{in-read, in-take, in-order-take, take-all}
+use Rattle.dependence.proofs.public.Linking.{link-next, link-same, next-absent}
 use Rattle.dependence.proofs.links.link_all.Goals as goal
 
 pub link_one-requires-clause-live : goal.link_one-requires-clause-live

@@ -1,6 +1,6 @@
 use Rattle.std.proofs.Common.{◌≡◌, ◌∷◌, ◌++◌, [], List, ℕ}
 use Rattle.std.proofs.lemmas.Result.{MatchResult-from_err}
-use Rattle.dependence.proofs.Linking.{changed-at}
+use Rattle.dependence.proofs.public.Linking.{changed-at}
 use Rattle.dependence.proofs.links.link_one.Goals as goal
 
 pub returns : goal.returns

@@ -1,6 +1,6 @@
 use Rattle.std.proofs.Common.{List, ℕ, ap, sym, ◌∙◌}
 use Rattle.std.specs.Prelude.{slice_get}
-use Rattle.dependence.proofs.Linking.{removed}
+use Rattle.dependence.proofs.public.Linking.{removed}
 use Rattle.dependence.proofs.links.remove.Goals as goal
 
 pub returns-in-Some : goal.returns-in-Some

@@ -1,8 +1,8 @@
 use Rattle.std.proofs.Common.{ℕ, List, drop, refl, subst}
 use Rattle.syntax.specs.Lists.{In}
-use Rattle.dependence.specs.walking.Tables.{PartLinked}
-use Rattle.dependence.proofs.ListPlaces.{in-read, drop-all}
-use Rattle.dependence.proofs.Linking.{lists-ascend, unlink-next}
+use Rattle.dependence.specs.internal.Tables.{PartLinked}
+use Rattle.dependence.proofs.public.ListPlaces.{in-read, drop-all}
+use Rattle.dependence.proofs.public.Linking.{lists-ascend, unlink-next}
 use Rattle.dependence.proofs.links.unlink_all.Goals as goal
 
 pub unlink_one-requires-clause-live : goal.unlink_one-requires-clause-live

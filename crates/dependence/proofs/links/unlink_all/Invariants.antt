@@ -1,6 +1,6 @@
 use Rattle.std.proofs.Common.{ℕ, drop}
 use Rattle.syntax.specs.Lists.{In}
-use Rattle.dependence.specs.walking.Tables.{PartLinked}
+use Rattle.dependence.specs.internal.Tables.{PartLinked}
 use Rattle.dependence.proofs.links.unlink_all.Given as goal
 
 -- the ticket is behind the followers of those that are left

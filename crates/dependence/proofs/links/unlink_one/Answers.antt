@@ -1,5 +1,5 @@
-use Rattle.dependence.specs.walking.Tables.{Removed}
-use Rattle.dependence.proofs.Linking.{changed-at}
+use Rattle.dependence.specs.internal.Tables.{Removed}
+use Rattle.dependence.proofs.public.Linking.{changed-at}
 use Rattle.dependence.proofs.links.unlink_one.Goals as goal
 
 pub returns : goal.returns

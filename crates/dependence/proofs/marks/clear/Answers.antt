@@ -1,6 +1,6 @@
 use Rattle.std.proofs.Common.{◌≡◌, ◌<◌, ◌≤◌, ◌+◌, suc, length, true, arith}
 use Rattle.std.proofs.lemmas.Option.{slice_get_within}
-use Rattle.dependence.proofs.Markings.{cleared-next}
+use Rattle.dependence.proofs.public.Markings.{cleared-next}
 use Rattle.dependence.proofs.marks.clear.Goals as goal
 
 pub loop-index-preserved : goal.loop-index-preserved

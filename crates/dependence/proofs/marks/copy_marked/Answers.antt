@@ -3,7 +3,7 @@ use Rattle.std.specs.Prelude.{IfOk}
 use Rattle.std.proofs.lemmas.List.{take_rest}
 use Rattle.runs.specs.Live.{Live}
 use Rattle.dependence.specs.Shown.{tickets_marked}
-use Rattle.dependence.proofs.Markings.{tickets-passed}
+use Rattle.dependence.proofs.public.Markings.{tickets-passed}
 use Rattle.dependence.proofs.marks.copy_marked.Goals as goal
 
 pub returns : goal.returns

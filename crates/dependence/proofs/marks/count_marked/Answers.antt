@@ -1,7 +1,7 @@
 use Rattle.std.proofs.Common.{◌≡◌, ◌∙◌, ◌-◌, ℕ, List, Bool, length, take, drop, ap, rules}
 use Rattle.std.specs.List.{count_by}
 use Rattle.std.proofs.lemmas.List.{take_rest}
-use Rattle.dependence.proofs.Markings.{count-passed, marked-count}
+use Rattle.dependence.proofs.public.Markings.{count-passed, marked-count}
 use Rattle.dependence.proofs.marks.count_marked.Goals as goal
 
 pub returns : goal.returns

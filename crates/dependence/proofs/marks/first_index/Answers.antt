@@ -1,6 +1,6 @@
 use Rattle.std.proofs.Common.{◌<◌, length, arith}
 use Rattle.std.proofs.lemmas.Option.{slice_get_within}
-use Rattle.dependence.proofs.Markings.{unmarked-before}
+use Rattle.dependence.proofs.public.Markings.{unmarked-before}
 use Rattle.dependence.proofs.marks.first_index.Goals as goal
 
 pub returns-in-Some : goal.returns-in-Some

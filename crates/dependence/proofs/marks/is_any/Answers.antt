@@ -1,4 +1,4 @@
-use Rattle.dependence.proofs.Markings.{none-set, some-set, set-one, unset}
+use Rattle.dependence.proofs.public.Markings.{none-set, some-set, set-one, unset}
 use Rattle.dependence.proofs.marks.is_any.Goals as goal
 
 pub returns : goal.returns

@@ -1,6 +1,6 @@
 use Rattle.std.proofs.Common.{ℕ, ◌-◌, ◌<◌, length, Some, Bool, ap, arith, ◌∙◌}
 use Rattle.std.proofs.lemmas.Option.{slice_get-get_or}
-use Rattle.dependence.proofs.Markings.{none-marked, last-greatest, none-at-all}
+use Rattle.dependence.proofs.public.Markings.{none-marked, last-greatest, none-at-all}
 use Rattle.dependence.proofs.marks.last_marked.Goals as goal
 
 pub returns-then-marks-index : goal.returns-then-marks-index

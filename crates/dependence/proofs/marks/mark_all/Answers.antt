@@ -1,9 +1,9 @@
 use Rattle.std.proofs.Common.{ℕ, ◌⊎◌, ◌↔◌, List, subst, ◌<◌, ◌≡◌, length, arith}
 use Rattle.std.proofs.lemmas.Option.{slice_get_within}
 use Rattle.syntax.specs.Lists.{In}
-use Rattle.dependence.specs.walking.Marking.{MarkedAt}
-use Rattle.dependence.proofs.ListPlaces.{in-read, take-all}
-use Rattle.dependence.proofs.Markings.{marked-next}
+use Rattle.dependence.specs.internal.Marking.{MarkedAt}
+use Rattle.dependence.proofs.public.ListPlaces.{in-read, take-all}
+use Rattle.dependence.proofs.public.Markings.{marked-next}
 use Rattle.dependence.proofs.marks.mark_all.Goals as goal
 
 pub index_of_live-index-requires-clause-live : goal.index_of_live-index-requires-clause-live

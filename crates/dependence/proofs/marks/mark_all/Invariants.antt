@@ -1,6 +1,6 @@
 use Rattle.std.proofs.Common.{◌⊎◌, ◌↔◌, ℕ, take}
 use Rattle.syntax.specs.Lists.{In}
-use Rattle.dependence.specs.walking.Marking.{MarkedAt}
+use Rattle.dependence.specs.internal.Marking.{MarkedAt}
 use Rattle.dependence.proofs.marks.mark_all.Given as goal
 
 abbrev pub invariant-loop-ticket : goal.invariant-loop-ticket

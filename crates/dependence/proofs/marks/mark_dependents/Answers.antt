@@ -5,12 +5,12 @@ use Rattle.syntax.specs.Lists.{In}
 use Rattle.runs.specs.Live.{Live, IsLive}
 use Rattle.dependence.specs.Followers.{ListsFollowers}
 use Rattle.dependence.specs.declared.links.Links.{Links}
-use Rattle.dependence.specs.walking.Tables.{IsRising, StandsAt}
-use Rattle.dependence.specs.walking.Marking.{MarkedAt, MarkedBelow}
+use Rattle.dependence.specs.internal.Tables.{IsRising, StandsAt}
+use Rattle.dependence.specs.internal.Marking.{MarkedAt, MarkedBelow}
 use Rattle.dependence.proofs.FromIndex.{get-drop, rising-drop, in-drop, followers-from}
-use Rattle.dependence.proofs.ListPlaces.{at-within}
-use Rattle.dependence.proofs.Linking.{linked-here}
-use Rattle.dependence.proofs.Markings.{marked-first, pass-marked, pass-unmarked, all-passed, dependents-above}
+use Rattle.dependence.proofs.public.ListPlaces.{at-within}
+use Rattle.dependence.proofs.public.Linking.{linked-here}
+use Rattle.dependence.proofs.public.Markings.{marked-first, pass-marked, pass-unmarked, all-passed, dependents-above}
 use Rattle.dependence.proofs.marks.mark_dependents.Goals as goal
 use Rattle.dependence.proofs.marks.mark_dependents.Goals.{then-marks-index, else-marks-index}
 

@@ -1,5 +1,5 @@
 use Rattle.std.proofs.Common.{drop}
-use Rattle.dependence.specs.walking.Marking.{MarkedBelow}
+use Rattle.dependence.specs.internal.Marking.{MarkedBelow}
 use Rattle.dependence.proofs.marks.mark_dependents.Given as goal
 
 abbrev pub invariant-loop-index : goal.invariant-loop-index

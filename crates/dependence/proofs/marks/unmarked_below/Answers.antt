@@ -1,5 +1,5 @@
 use Rattle.std.proofs.Common.{◌≤◌, ◌+◌, inr, length, arith}
-use Rattle.dependence.proofs.Markings.{stretch-passed, stretch-marked}
+use Rattle.dependence.proofs.public.Markings.{stretch-passed, stretch-marked}
 use Rattle.dependence.proofs.marks.unmarked_below.Goals as goal
 
 pub loop-passed-preserved : goal.loop-passed-preserved

@@ -1,5 +1,5 @@
 use Rattle.std.proofs.Common.{◌≤◌, ◌-◌, length}
-use Rattle.dependence.specs.walking.Marking.{UnmarkedTo}
+use Rattle.dependence.specs.internal.Marking.{UnmarkedTo}
 use Rattle.dependence.proofs.marks.unmarked_below.Given as goal
 
 abbrev pub invariant-loop-passed : goal.invariant-loop-passed

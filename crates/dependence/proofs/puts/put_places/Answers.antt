@@ -1,6 +1,6 @@
 use Rattle.std.proofs.Common.{inl, refl}
 use Rattle.dependence.proofs.Candidacy.{places-one, places-two}
-use Rattle.dependence.proofs.Tabling.{first-put, second-more, second-all, orderly-put, ok-weaker}
+use Rattle.dependence.proofs.public.Tabling.{first-put, second-more, second-all, orderly-put, ok-weaker}
 use Rattle.dependence.proofs.puts.put_places.Goals as goal
 
 pub returns-in-Some-clause-more : goal.returns-in-Some-clause-more

@@ -1,9 +1,9 @@
 use Rattle.std.proofs.Common.{ℕ, List, [], take, subst}
 use Rattle.syntax.specs.Lists.{In}
 use Rattle.last_events.specs.LastEvents.{Uses}
-use Rattle.dependence.specs.walking.Tabled.{MoreUses}
-use Rattle.dependence.proofs.ListPlaces.{in-take, take-all}
-use Rattle.dependence.proofs.Tabling.{uses-kept, uses-in, uses-same, uses-next, has-next, read-next}
+use Rattle.dependence.specs.internal.Tabled.{MoreUses}
+use Rattle.dependence.proofs.public.ListPlaces.{in-take, take-all}
+use Rattle.dependence.proofs.public.Tabling.{uses-kept, uses-in, uses-same, uses-next, has-next, read-next}
 use Rattle.dependence.proofs.puts.put_reads.Goals as goal
 
 pub loop-variable-init : goal.loop-variable-init

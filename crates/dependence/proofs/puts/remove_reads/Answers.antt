@@ -1,7 +1,7 @@
 use Rattle.std.proofs.Common.{ℕ, List, subst}
-use Rattle.dependence.specs.walking.Tabled.{FewerUses}
-use Rattle.dependence.proofs.ListPlaces.{take-all}
-use Rattle.dependence.proofs.Tabling.{fewer-none, fewer-next, read-next}
+use Rattle.dependence.specs.internal.Tabled.{FewerUses}
+use Rattle.dependence.proofs.public.ListPlaces.{take-all}
+use Rattle.dependence.proofs.public.Tabling.{fewer-none, fewer-next, read-next}
 use Rattle.dependence.proofs.puts.remove_reads.Goals as goal
 
 pub loop-variable-init : goal.loop-variable-init

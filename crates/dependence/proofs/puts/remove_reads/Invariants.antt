@@ -1,5 +1,5 @@
 use Rattle.std.proofs.Common.{take}
-use Rattle.dependence.specs.walking.Tabled.{FewerUses}
+use Rattle.dependence.specs.internal.Tabled.{FewerUses}
 use Rattle.dependence.proofs.puts.remove_reads.Given as goal
 
 -- the uses of those that are passed are taken out

@@ -1,7 +1,7 @@
 use Rattle.std.proofs.Common.{◌<◌, ◌≤◌, ◌+◌, ℕ, List, length, get_or, refl, sym, subst, arith}
 use Rattle.syntax.specs.Lists.{In}
-use Rattle.dependence.specs.walking.Sweeping.{FlagAt}
-use Rattle.dependence.proofs.ListPlaces.{in-read, none-more, take-all}
+use Rattle.dependence.specs.internal.Sweeping.{FlagAt}
+use Rattle.dependence.proofs.public.ListPlaces.{in-read, none-more, take-all}
 use Rattle.dependence.proofs.Sweeps.{flag-at, last-below, none-above, not-both, stands-below}
 use Rattle.dependence.proofs.topmost.is_flagged.Goals as goal
 

@@ -1,6 +1,6 @@
 use Rattle.std.proofs.Common.{ℕ, take}
 use Rattle.syntax.specs.Lists.{In}
-use Rattle.dependence.specs.walking.Sweeping.{FlagAt}
+use Rattle.dependence.specs.internal.Sweeping.{FlagAt}
 use Rattle.dependence.proofs.topmost.is_flagged.Given as goal
 
 abbrev pub invariant-loop-ticket : goal.invariant-loop-ticket

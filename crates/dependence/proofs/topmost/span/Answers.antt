@@ -1,6 +1,6 @@
 use Rattle.std.proofs.Common.{◌-◌, ◌<◌, length, arith}
 use Rattle.std.proofs.lemmas.Option.{slice_get_within}
-use Rattle.dependence.proofs.ListPlaces.{in-read}
+use Rattle.dependence.proofs.public.ListPlaces.{in-read}
 use Rattle.dependence.proofs.Sweeps.{span-of}
 use Rattle.dependence.proofs.topmost.span.Goals as goal
 

@@ -5,10 +5,10 @@ use Rattle.runs.specs.declared.event.Event.{Event}
 use Rattle.syntax.specs.Lists.{In}
 use Rattle.dependence.specs.Followers.{ListsFollowers}
 use Rattle.dependence.specs.declared.links.Links.{Links}
-use Rattle.dependence.specs.walking.Sweeping.{FlagAt, Swept}
-use Rattle.dependence.proofs.Linking.{linked-here}
-use Rattle.dependence.proofs.ListPlaces.{got-here}
-use Rattle.dependence.proofs.Standing.{lesser-stands}
+use Rattle.dependence.specs.internal.Sweeping.{FlagAt, Swept}
+use Rattle.dependence.proofs.public.Linking.{linked-here}
+use Rattle.dependence.proofs.public.ListPlaces.{got-here}
+use Rattle.dependence.proofs.public.Standing.{lesser-stands}
 use Rattle.dependence.proofs.Sweeps.{swept-none, swept-next, swept-all}
 use Rattle.dependence.proofs.topmost.topmost.Goals as goal
 

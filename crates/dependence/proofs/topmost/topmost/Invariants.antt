@@ -1,5 +1,5 @@
 use Rattle.std.proofs.Common.{◌≤◌}
-use Rattle.dependence.specs.walking.Sweeping.{Swept}
+use Rattle.dependence.specs.internal.Sweeping.{Swept}
 use Rattle.dependence.proofs.topmost.topmost.Given as goal
 
 abbrev pub invariant-loop-index : goal.invariant-loop-index

@@ -1,8 +1,8 @@
 use Rattle.std.proofs.Common.{ℕ, List, ◌-◌, get_or, length, subst}
 use Rattle.syntax.specs.Lists.{In}
-use Rattle.dependence.specs.walking.Sweeping.{IsUnreached}
+use Rattle.dependence.specs.internal.Sweeping.{IsUnreached}
 use Rattle.dependence.proofs.Distinct.{unreached-next, all-topmost}
-use Rattle.dependence.proofs.ListPlaces.{in-read, take-all}
+use Rattle.dependence.proofs.public.ListPlaces.{in-read, take-all}
 use Rattle.dependence.proofs.unreached.are_unreached.Goals as goal
 
 pub is_unreached-requires-clause-live : goal.is_unreached-requires-clause-live

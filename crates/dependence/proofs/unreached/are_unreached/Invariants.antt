@@ -1,6 +1,6 @@
 use Rattle.std.proofs.Common.{ℕ, take}
 use Rattle.syntax.specs.Lists.{In}
-use Rattle.dependence.specs.walking.Sweeping.{IsUnreached}
+use Rattle.dependence.specs.internal.Sweeping.{IsUnreached}
 use Rattle.dependence.proofs.unreached.are_unreached.Given as goal
 
 abbrev pub invariant-loop-ticket : goal.invariant-loop-ticket

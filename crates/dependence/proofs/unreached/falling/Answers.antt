@@ -1,8 +1,8 @@
 use Rattle.std.proofs.Common.{ℕ, ◌≡◌, ◌<◌, ◌≤◌, ◌-◌, ◌↔◌, List, [], suc, length, drop, sym, subst, arith}
 use Rattle.syntax.specs.Lists.{In}
-use Rattle.dependence.specs.walking.Tables.{Falling}
+use Rattle.dependence.specs.internal.Tables.{Falling}
 use Rattle.dependence.proofs.Distinct.{falling-next}
-use Rattle.dependence.proofs.ListPlaces.{drop-all}
+use Rattle.dependence.proofs.public.ListPlaces.{drop-all}
 use Rattle.dependence.proofs.unreached.falling.Goals as goal
 
 pub loop-index-init : goal.loop-index-init

@@ -1,6 +1,6 @@
 use Rattle.std.proofs.Common.{ℕ, ◌≤◌, ◌↔◌, length, drop}
 use Rattle.syntax.specs.Lists.{In}
-use Rattle.dependence.specs.walking.Tables.{Falling}
+use Rattle.dependence.specs.internal.Tables.{Falling}
 use Rattle.dependence.proofs.unreached.falling.Given as goal
 
 abbrev pub invariant-loop-index : goal.invariant-loop-index

@@ -3,9 +3,9 @@ use Rattle.runs.specs.Live.{Live, Rising}
 use Rattle.runs.specs.declared.event.Event.{Event}
 use Rattle.dependence.specs.Behind.{ComesBehind}
 use Rattle.dependence.specs.Shown.{tickets_marked}
-use Rattle.dependence.specs.walking.Tabled.{MoreTables, FewerTables}
-use Rattle.dependence.specs.walking.Whole.{IsEntered}
-use Rattle.dependence.proofs.Tabling.{fresh-behind, same-again, tabled-added, tabled-same}
+use Rattle.dependence.specs.internal.Tabled.{MoreTables, FewerTables}
+use Rattle.dependence.specs.internal.Whole.{IsEntered}
+use Rattle.dependence.proofs.public.Tabling.{fresh-behind, same-again, tabled-added, tabled-same}
 use Rattle.dependence.proofs.Wholes.{on-ok, on-err, rising-below, marked-added, whole-added, whole-same}
 use Rattle.dependence.proofs.whole.add_event.Goals as goal
 

@@ -6,12 +6,12 @@ use Rattle.last_events.specs.LastEvents.{IsAt}
 use Rattle.last_events.specs.declared.places.PlaceTable.{PlaceTable}
 use Rattle.dependence.specs.Behind.{ComesBehind}
 use Rattle.dependence.specs.declared.links.Links.{Links}
-use Rattle.dependence.specs.walking.Found.{FoundByPlace, PlacesFound}
-use Rattle.dependence.specs.walking.Tabled.{UsesOf, MorePlaces}
-use Rattle.dependence.specs.walking.Tables.{Linked, PartLinked, LinkedBehind}
-use Rattle.dependence.proofs.Linking.{linked-part, part-linked}
+use Rattle.dependence.specs.internal.Found.{FoundByPlace, PlacesFound}
+use Rattle.dependence.specs.internal.Tabled.{UsesOf, MorePlaces}
+use Rattle.dependence.specs.internal.Tables.{Linked, PartLinked, LinkedBehind}
+use Rattle.dependence.proofs.public.Linking.{linked-part, part-linked}
 use Rattle.dependence.proofs.Edges.{kept-live}
-use Rattle.dependence.proofs.Tabling.{fresh-behind, orderly-behind, uses-kept, ok-weaker, err-weaker, on-ok-of}
+use Rattle.dependence.proofs.public.Tabling.{fresh-behind, orderly-behind, uses-kept, ok-weaker, err-weaker, on-ok-of}
 use Rattle.dependence.proofs.Wholes.{tops-at}
 use Rattle.dependence.proofs.whole.enter.Goals as goal
 

@@ -1,7 +1,7 @@
 use Rattle.std.proofs.Common.{◌∙◌, List, ℕ, sym, ap, subst}
 use Rattle.dependence.specs.Followers.{ListsFollowers}
 use Rattle.dependence.specs.declared.links.Links.{Links}
-use Rattle.dependence.proofs.Linking.{followers-at}
+use Rattle.dependence.proofs.public.Linking.{followers-at}
 use Rattle.dependence.proofs.whole.followers_of.Goals as goal
 
 pub returns : goal.returns

@@ -1,7 +1,7 @@
 use Rattle.std.proofs.Common.{◌∙◌, List, ℕ, sym, ap, subst}
 use Rattle.dependence.specs.Followers.{ListsLeads}
 use Rattle.dependence.specs.declared.links.Links.{Links}
-use Rattle.dependence.proofs.Linking.{leads-at}
+use Rattle.dependence.proofs.public.Linking.{leads-at}
 use Rattle.dependence.proofs.whole.leads_at.Goals as goal
 
 pub returns : goal.returns

@@ -5,7 +5,7 @@ use Rattle.runs.specs.Dependence.{Without}
 use Rattle.runs.specs.Live.{Live, WithoutTickets}
 use Rattle.dependence.specs.Shown.{tickets_marked}
 use Rattle.dependence.proofs.Edges.{without-index}
-use Rattle.dependence.proofs.Tabling.{tabled-taken}
+use Rattle.dependence.proofs.public.Tabling.{tabled-taken}
 use Rattle.dependence.proofs.Wholes.{whole-removed, marked-removed, stands-in}
 use Rattle.dependence.proofs.whole.take_event.Goals as goal
 

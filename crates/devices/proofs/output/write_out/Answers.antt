@@ -1,6 +1,6 @@
 use Rattle.std.proofs.Common.{ap, ◌∙◌, Err}
 use Rattle.std.proofs.lemmas.Result.{err_from_is_err_and}
-use Rattle.devices.proofs.KnownLemmas.{write-more, write-failed}
+use Rattle.devices.proofs.public.KnownLemmas.{write-more, write-failed}
 use Rattle.devices.proofs.output.write_out.Goals as goal
 
 pub returns-in_err-count-clause-bytes : goal.returns-in_err-count-clause-bytes

@@ -1,7 +1,7 @@
 -- Each call has less to do: a part of the command, or a procedure before it.
 use Rattle.std.proofs.Common.{◌≤◌, length, arith, sym, ◌∙◌, ap}
 use Rattle.std.proofs.lemmas.Bool.Decides.{nat_tests}
-use Rattle.elaborate.specs.walking.Makers.{WithMade}
+use Rattle.elaborate.specs.internal.Makers.{WithMade}
 use Rattle.system.specs.declared.command.Command.{Command}
 use Rattle.elaborate.proofs.Weights.{weight, entered_weight, item_weight, arm_item, guarded_item, labelled_item}
 use Rattle.elaborate.proofs.Calls.{goes_along, enters, ends}

@@ -1,8 +1,8 @@
 use Rattle.std.proofs.Common.{◌≡◌, ◌+◌, ◌≤◌, [], length, drop, map}
 use Rattle.elaborate.proofs.Weights.{total, weight, weight_of_guarded, weight_of_labelled, weight_of_arm, weights, last_weight}
 use Rattle.std.specs.Option.{option_map}
-use Rattle.elaborate.specs.walking.Makers.{maker_of, makers, all_onto, called, after_call}
-use Rattle.elaborate.specs.walking.BodyParts.{maker_of_guarded, maker_of_labelled, maker_of_arm}
+use Rattle.elaborate.specs.internal.Makers.{maker_of, makers, all_onto, called, after_call}
+use Rattle.elaborate.specs.internal.BodyParts.{maker_of_guarded, maker_of_labelled, maker_of_arm}
 use Rattle.elaborate.proofs.body.+body.Given as goal
 
 abbrev pub decreases-command_of : goal.decreases-command_of

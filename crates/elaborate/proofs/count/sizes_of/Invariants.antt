@@ -1,6 +1,6 @@
 use Rattle.std.proofs.Common.{◌≡◌, [], drop}
-use Rattle.elaborate.specs.walking.Counting.{sizes_onto}
-use Rattle.elaborate.specs.walking.Limited.{limited}
+use Rattle.elaborate.specs.internal.Counting.{sizes_onto}
+use Rattle.elaborate.specs.internal.Limited.{limited}
 use Rattle.elaborate.proofs.count.sizes_of.Given as goal
 
 -- with the procedures that are left, the sizes are those of all

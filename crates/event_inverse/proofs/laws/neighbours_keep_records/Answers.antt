@@ -1,5 +1,5 @@
 -- Two events made the other way round.
-use Rattle.event_inverse.proofs.Neighbours.{neighbours}
+use Rattle.event_inverse.proofs.public.Neighbours.{neighbours}
 use Rattle.event_inverse.proofs.laws.neighbours_keep_records.Goals as goal
 
 pub returns : goal.returns

@@ -1,5 +1,5 @@
 -- The undo in the middle of a list.
-use Rattle.event_inverse.proofs.FromOpening.{undone-by-records}
+use Rattle.event_inverse.proofs.public.FromOpening.{undone-by-records}
 use Rattle.event_inverse.proofs.laws.undone_by_records.Goals as goal
 
 pub returns : goal.returns

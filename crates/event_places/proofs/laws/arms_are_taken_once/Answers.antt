@@ -1,4 +1,4 @@
-use Rattle.event_places.proofs.Taken.{taken_by_the_event, none_taken}
+use Rattle.event_places.proofs.public.Taken.{taken_by_the_event, none_taken}
 use Rattle.event_places.proofs.laws.arms_are_taken_once.Goals as goal
 
 pub returns-clause-event : goal.returns-clause-event

@@ -2,8 +2,8 @@ use Rattle.std.proofs.Common.{◌≡◌, List, map, refl, sym, ap, subst, ◌∙
 use Rattle.address.specs.declared.Entry.{Entry}
 use Rattle.last_events.specs.LastEvents.{ticket_at, first_child}
 use Rattle.last_events.specs.declared.branch.Seat.{Seat}
-use Rattle.last_events.specs.walking.Search.{Splits}
-use Rattle.last_events.specs.walking.Seats.{Places, way_of, AllOrdered, EndsAtBranch, seat_way, HasSeat, IsSound}
+use Rattle.last_events.specs.internal.Search.{Splits}
+use Rattle.last_events.specs.internal.Seats.{Places, way_of, AllOrdered, EndsAtBranch, seat_way, HasSeat, IsSound}
 use Rattle.last_events.proofs.ChildLaws.{child-absent}
 use Rattle.last_events.proofs.CodeLaws.{is-way}
 use Rattle.last_events.proofs.LastLaws.{child-inner}

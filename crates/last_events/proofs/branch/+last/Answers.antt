@@ -1,10 +1,10 @@
 use Rattle.std.proofs.Common.{◌≡◌, ◌<◌, ◌+◌, ◌-◌, List, length, map, drop, sym, ap, subst, ◌∙◌, arith}
 use Rattle.address.specs.declared.Entry.{Entry}
 use Rattle.last_events.specs.declared.branch.Seat.{Seat}
-use Rattle.last_events.specs.walking.Search.{Splits}
-use Rattle.last_events.specs.walking.Seats.{Places, ordered_of, seat_way, seat_places, flat, IsWay, IsSound, IsBranch}
-use Rattle.last_events.specs.walking.Sizes.{entries_of}
-use Rattle.last_events.specs.walking.Walks.{Related, AddedLast}
+use Rattle.last_events.specs.internal.Search.{Splits}
+use Rattle.last_events.specs.internal.Seats.{Places, ordered_of, seat_way, seat_places, flat, IsWay, IsSound, IsBranch}
+use Rattle.last_events.specs.internal.Sizes.{entries_of}
+use Rattle.last_events.specs.internal.Walks.{Related, AddedLast}
 use Rattle.last_events.proofs.CodeLaws.{item-in, each-more, entries-dropped, entries-item, entries-fall}
 use Rattle.last_events.proofs.LastLaws.{event-last, inner-last, related-behind, related-seat, related-dropped, branch-dropped, group-last}
 use Rattle.last_events.proofs.ListLaws.{every-in, if-ok}

@@ -1,8 +1,8 @@
 -- In a branch there are fewer entries than in what it stands in.
 use Rattle.std.proofs.Common.{◌+◌, ◌*◌, take}
-use Rattle.last_events.specs.walking.Seats.{seat_places, flat}
-use Rattle.last_events.specs.walking.Sizes.{entries_of}
-use Rattle.last_events.specs.walking.Walks.{AddedLast}
+use Rattle.last_events.specs.internal.Seats.{seat_places, flat}
+use Rattle.last_events.specs.internal.Sizes.{entries_of}
+use Rattle.last_events.specs.internal.Walks.{AddedLast}
 use Rattle.last_events.proofs.branch.+last.Given as goal
 
 abbrev pub decreases-BranchEvents::add_last : goal.decreases-BranchEvents::add_last

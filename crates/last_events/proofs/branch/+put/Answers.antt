@@ -3,8 +3,8 @@ use Rattle.std.specs.Box.{with_value}
 use Rattle.address.specs.declared.Entry.{Entry}
 use Rattle.last_events.specs.LastEvents.{PutAt, Orderly}
 use Rattle.last_events.specs.declared.branch.Seat.{Seat}
-use Rattle.last_events.specs.walking.Seats.{Places, seat_way, seat_places, flat, IsSound, IsBranch, FitsBehind}
-use Rattle.last_events.specs.walking.Walks.{AddedFrom}
+use Rattle.last_events.specs.internal.Seats.{Places, seat_way, seat_places, flat, IsSound, IsBranch, FitsBehind}
+use Rattle.last_events.specs.internal.Walks.{AddedFrom}
 use Rattle.last_events.proofs.CodeLaws.{is-way, inserted-branch, inserted-put, stands-behind, group-near, found-seat, found-none}
 use Rattle.last_events.proofs.LastLaws.{branch-taken, orderly-behind, orderly-seat, from-behind, from-event}
 use Rattle.last_events.proofs.ListLaws.{on-ok, err-on, set-behind}

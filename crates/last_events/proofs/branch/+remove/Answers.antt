@@ -1,7 +1,7 @@
 use Rattle.std.proofs.Common.{◌<◌, List, length, refl, sym, subst, ◌∙◌, arith}
 use Rattle.address.specs.declared.Entry.{Entry}
 use Rattle.last_events.specs.LastEvents.{RemovedAt}
-use Rattle.last_events.specs.walking.Seats.{Places, FitsBehind}
+use Rattle.last_events.specs.internal.Seats.{Places, FitsBehind}
 use Rattle.last_events.proofs.SeatLaws.{Stands, stands-at, stands-sound, fits-behind, left-less, event-removed, inner-taken, gone-branch, gone-removed, kept-branch, kept-removed, taken-all, taken-some, absent-as}
 use Rattle.last_events.proofs.branch.+remove.Goals as goal
 

@@ -1,6 +1,6 @@
 use Rattle.std.proofs.Common.{◌<◌, ◌≤◌, length, sym, ap, ◌∙◌, true≢false, arith}
 use Rattle.last_events.specs.LastEvents.{first_child}
-use Rattle.last_events.specs.walking.Seats.{seat_way}
+use Rattle.last_events.specs.internal.Seats.{seat_way}
 use Rattle.last_events.proofs.ChildLaws.{child-none, child-some, inner-not-child}
 use Rattle.last_events.proofs.SeatLaws.{has-is, has-within}
 use Rattle.last_events.proofs.branch.event_behind.Goals as goal

@@ -1,6 +1,6 @@
 use Rattle.std.proofs.Common.{◌<◌, ◌≤◌, length, sym, ◌∙◌, true≢false, arith}
 use Rattle.std.proofs.lemmas.Slice.Eq.{slice_eq-Decides}
-use Rattle.address.proofs.Entries.{entry_eq-Decides}
+use Rattle.address.proofs.public.Entries.{entry_eq-Decides}
 use Rattle.last_events.proofs.SeatLaws.{has-at, has-is, has-within}
 use Rattle.last_events.proofs.branch.has_way.Goals as goal
 

@@ -2,7 +2,7 @@ use Rattle.std.proofs.Common.{◌≡◌, ◌≢◌, None, Some, List, [], ◌∷
 use Rattle.std.proofs.lemmas.Slice.Eq.{strip_prefix_is}
 use Rattle.address.specs.declared.Entry.{Entry}
 use Rattle.address.specs.declared.Entry.TheVariants.{Ordered}
-use Rattle.address.proofs.Entries.{entry_eq-Decides}
+use Rattle.address.proofs.public.Entries.{entry_eq-Decides}
 use Rattle.last_events.proofs.WayLaws.{same-rest}
 use Rattle.last_events.proofs.children.is_first_child.Goals as goal
 

@@ -1,6 +1,6 @@
 use Rattle.std.proofs.Common.{◌≡◌, ◌<◌, length, map, List, Some, slice_get, sym, ◌∙◌, ap, arith}
 use Rattle.std.proofs.lemmas.Slice.Eq.{slice_eq-Decides}
-use Rattle.address.proofs.Entries.{entry_eq-Decides}
+use Rattle.address.proofs.public.Entries.{entry_eq-Decides}
 use Rattle.address.specs.declared.Entry.{Entry}
 use Rattle.last_events.proofs.SearchLaws.{split-at, place-read, length-places}
 use Rattle.last_events.proofs.search.is_at.Goals as goal

@@ -1,6 +1,6 @@
 use Rattle.std.proofs.Common.{ℕ, List, ◌++◌, take, drop, subst, sym, ap, ◌∙◌, inl, inr}
 use Rattle.syntax.specs.Lists.{In}
-use Rattle.last_events.specs.walking.Tickets.{Ascends, Parts}
+use Rattle.last_events.specs.internal.Tickets.{Ascends, Parts}
 use Rattle.last_events.proofs.TicketLaws.{later-ascends, between-in, in-either, in-left, in-right}
 use Rattle.last_events.proofs.tickets.add_between.Goals as goal
 

@@ -1,5 +1,5 @@
 use Rattle.std.proofs.Common.{ℕ, subst, arith}
-use Rattle.last_events.specs.walking.Tickets.{Parts}
+use Rattle.last_events.specs.internal.Tickets.{Parts}
 use Rattle.last_events.proofs.TicketLaws.{none-less, last-less}
 use Rattle.last_events.proofs.tickets.last_below.Goals as goal
 

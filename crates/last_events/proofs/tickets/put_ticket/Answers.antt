@@ -1,6 +1,6 @@
 use Rattle.std.proofs.Common.{ℕ, List, subst, sym, true≢false, ◌∙◌}
 use Rattle.syntax.specs.Lists.{In}
-use Rattle.last_events.specs.walking.Tickets.{Ascends}
+use Rattle.last_events.specs.internal.Tickets.{Ascends}
 use Rattle.last_events.proofs.TicketLaws.{put-ascends, put-in, put-there, same-parts, same-among}
 use Rattle.last_events.proofs.tickets.put_ticket.Goals as goal
 

@@ -1,6 +1,6 @@
 use Rattle.std.proofs.Common.{ℕ, List, ◌<◌, length, subst, sym, true≢false, ◌∙◌, arith}
 use Rattle.syntax.specs.Lists.{In}
-use Rattle.last_events.specs.walking.Tickets.{Ascends}
+use Rattle.last_events.specs.internal.Tickets.{Ascends}
 use Rattle.last_events.proofs.TicketLaws.{among-within, gone-ascends, gone-in, gone-absent, same-parts, same-among}
 use Rattle.last_events.proofs.tickets.remove_ticket.Goals as goal
 

@@ -1,5 +1,5 @@
 use Rattle.std.proofs.Common.{◌≡◌, ℕ, ◌+◌, ◌-◌, length, get_or, []}
-use Rattle.last_events.specs.walking.Tickets.{rows_of}
+use Rattle.last_events.specs.internal.Tickets.{rows_of}
 use Rattle.last_events.proofs.uses.make_rows.Given as goal
 
 abbrev pub invariant-rows : goal.invariant-rows

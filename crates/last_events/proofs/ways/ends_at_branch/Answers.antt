@@ -1,5 +1,5 @@
 use Rattle.std.proofs.Common.{sym, subst}
-use Rattle.last_events.specs.walking.Seats.{AllOrdered}
+use Rattle.last_events.specs.internal.Seats.{AllOrdered}
 use Rattle.last_events.proofs.WayLaws.{none-way, branch-whole, ordered-whole}
 use Rattle.last_events.proofs.ways.ends_at_branch.Goals as goal
 

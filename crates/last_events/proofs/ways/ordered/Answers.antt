@@ -1,6 +1,6 @@
 use Rattle.std.proofs.Common.{◌≡◌, List, refl, sym, subst}
 use Rattle.address.specs.declared.Entry.{Entry}
-use Rattle.last_events.specs.walking.Seats.{ordered_of}
+use Rattle.last_events.specs.internal.Seats.{ordered_of}
 use Rattle.last_events.proofs.WayLaws.{none-way, ordered-before, ordered-whole, all-ordered}
 use Rattle.last_events.proofs.ways.ordered.Goals as goal
 

@@ -1,6 +1,6 @@
 use Rattle.std.proofs.Common.{◌≡◌, ◌<◌, ◌+◌, ℕ, suc, true, false, length, take, drop, slice_get, sym, subst, ◌∙◌, arith}
-use Rattle.last_events.specs.walking.Forks.{is_ordered_entry}
-use Rattle.last_events.specs.walking.Seats.{way_of, rest_of, AllOrdered}
+use Rattle.last_events.specs.internal.Forks.{is_ordered_entry}
+use Rattle.last_events.specs.internal.Seats.{way_of, rest_of, AllOrdered}
 use Rattle.last_events.proofs.WayLaws.{one-more, within-more, way-ends, rest-begins, way-whole, rest-none}
 use Rattle.last_events.proofs.ways.way_length.Goals as goal
 

@@ -1,5 +1,5 @@
 use Rattle.std.proofs.Common.{◌-◌, ◌≤◌, length, take}
-use Rattle.last_events.specs.walking.Seats.{AllOrdered}
+use Rattle.last_events.specs.internal.Seats.{AllOrdered}
 use Rattle.last_events.proofs.ways.way_length.Given as goal
 
 abbrev pub invariant-loop-count : goal.invariant-loop-count

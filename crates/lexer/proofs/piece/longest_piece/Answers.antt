@@ -1,5 +1,5 @@
 use Rattle.std.proofs.Common.{◌≡◌, sym, ◌∙◌}
-use Rattle.lexer.specs.walking.Fronts.{class_at, NoSymbolBeyond}
+use Rattle.lexer.specs.internal.Fronts.{class_at, NoSymbolBeyond}
 use Rattle.lexer.specs.declared.class.Class.TheVariants.{Blank, LineComment, Word, Number, Symbol}
 use Rattle.lexer.proofs.PieceLemmas.{class_begins}
 use Rattle.lexer.proofs.SymbolLemmas.{symbol_front, nothing_spelled}

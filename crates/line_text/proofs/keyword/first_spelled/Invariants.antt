@@ -1,5 +1,5 @@
 use Rattle.std.proofs.Common.{◌≡◌, length}
-use Rattle.line_text.specs.walking.Spelled as spec
+use Rattle.line_text.specs.internal.Spelled as spec
 use Rattle.line_text.proofs.keyword.first_spelled.Given as goal
 
 -- what is found in the rest is what is found in all

@@ -1,7 +1,7 @@
 use Rattle.std.proofs.Common.{arith}
 use Rattle.std.proofs.lemmas.List.Elements.{All-more}
 use Rattle.line_text.specs.Fields.{IsNoSpace}
-use Rattle.line_text.proofs.CutLemmas.{begins-at, end-of-field}
+use Rattle.line_text.proofs.public.CutLemmas.{begins-at, end-of-field}
 use Rattle.line_text.proofs.operands.length_to_space.Goals as goal
 
 pub returns-then-byte-eq32 : goal.returns-then-byte-eq32

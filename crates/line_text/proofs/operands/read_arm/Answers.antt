@@ -1,4 +1,4 @@
-use Rattle.line_text.proofs.NumberLemmas.{arm-read}
+use Rattle.line_text.proofs.public.NumberLemmas.{arm-read}
 use Rattle.line_text.proofs.operands.read_arm.Goals as goal
 
 pub returns : goal.returns

@@ -1,4 +1,4 @@
-use Rattle.line_text.proofs.NumberLemmas.{branch-read}
+use Rattle.line_text.proofs.public.NumberLemmas.{branch-read}
 use Rattle.line_text.proofs.operands.read_branch.Goals as goal
 
 pub returns : goal.returns

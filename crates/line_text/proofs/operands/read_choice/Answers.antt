@@ -1,5 +1,5 @@
 use Rattle.std.proofs.Common.{sym, ◌∙◌, eqb-true}
-use Rattle.line_text.proofs.CutLemmas.{nil-by-length, not-nil}
+use Rattle.line_text.proofs.public.CutLemmas.{nil-by-length, not-nil}
 use Rattle.line_text.proofs.ChoiceLemmas.{no-choice-arm, no-choice-root, no-choice-place, may-be-choice}
 use Rattle.line_text.proofs.operands.read_choice.Goals as goal
 

@@ -1,4 +1,4 @@
-use Rattle.line_text.proofs.NumberLemmas.{ticket-read}
+use Rattle.line_text.proofs.public.NumberLemmas.{ticket-read}
 use Rattle.line_text.proofs.operands.read_ticket.Goals as goal
 
 pub returns : goal.returns

@@ -1,4 +1,4 @@
-use Rattle.line_text.proofs.NumberLemmas.{variable-read}
+use Rattle.line_text.proofs.public.NumberLemmas.{variable-read}
 use Rattle.line_text.proofs.operands.read_variable.Goals as goal
 
 pub returns : goal.returns

@@ -1,11 +1,11 @@
 use Rattle.std.proofs.Common.{[], refl, ◌∙◌, arith, take}
-use Rattle.machine.proofs.HeadlineLaws.{headline}
-use Rattle.runs.proofs.ObjectLaws.{stays-over-lists, tickets-grow}
+use Rattle.machine.proofs.public.HeadlineLaws.{headline}
+use Rattle.runs.proofs.public.ObjectLaws.{stays-over-lists, tickets-grow}
 use Rattle.locked_execution.specs.AtDesk.{execution}
 use Rattle.locked_execution.specs.Bridge.{commands_of}
-use Rattle.locked_execution.proofs.AskedLists.{answered-more}
-use Rattle.locked_execution.proofs.BackLaws.{none-take-less, all-amount-to-back-and-forth}
-use Rattle.locked_execution.proofs.BridgeLaws.{are-on-execution}
+use Rattle.locked_execution.proofs.public.AskedLists.{answered-more}
+use Rattle.locked_execution.proofs.public.BackLaws.{none-take-less, all-amount-to-back-and-forth}
+use Rattle.locked_execution.proofs.public.BridgeLaws.{are-on-execution}
 use Rattle.locked_execution.proofs.asked.run_commands.Goals as goal
 
 pub loop-session-preserved : goal.loop-session-preserved

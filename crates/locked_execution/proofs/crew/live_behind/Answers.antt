@@ -2,7 +2,7 @@ use Rattle.std.proofs.Common.{◌≡◌, ◌++◌, ◌∷◌, [], length, sym, a
 use Rattle.std.specs.Vec.Iter.{into_iter_items}
 use Rattle.recorded_calls.specs.History.{calls_by, NoCallsFrom}
 use Rattle.locked_object.specs.Keepers.{history}
-use Rattle.locked_object.specs.Passes.{number, seen, own}
+use Rattle.locked_object.specs.Passes.{number, seen_history, own}
 use Rattle.locked_execution.specs.Working.{HasAllOf}
 use Rattle.locked_execution.proofs.WorkLemmas.{none_left, fit_here, has_more}
 use Rattle.locked_execution.proofs.crew.live_behind.Goals as goal
@@ -20,8 +20,8 @@ loop-pass-preserved c =
     let shown = c.show.ensures in
     let p = c.in-Some.pass in
     let q = c.show.new.pass in
-    let of_q : calls_by (number q) (seen q) ≡ own q = subst (λ n. calls_by n (seen q) ≡ own q) (sym q.numbered) shown.pass.0.own_calls in
-    let of_p : calls_by (number p) (seen q) ≡ own p = subst (λ n. calls_by n (seen q) ≡ own p) shown.pass.1 (of_q ∙ shown.pass.2) in
+    let of_q : calls_by (number q) (seen_history q) ≡ own q = subst (λ n. calls_by n (seen_history q) ≡ own q) (sym q.numbered) shown.pass.0.own_calls in
+    let of_p : calls_by (number p) (seen_history q) ≡ own p = subst (λ n. calls_by n (seen_history q) ≡ own p) shown.pass.1 (of_q ∙ shown.pass.2) in
     let here : calls_by (number p) (history at.keeper) ≡ own p = subst (λ log. calls_by (number p) log ≡ own p) shown.seen of_p in
     record {
       rest = append_assoc at.yielded (c.in-Some.pass ∷ []) _ ∙ rw (← steps) at.invariant.rest;

@@ -1,5 +1,5 @@
 -- Replies.
-use Rattle.locked_execution.proofs.AskedLists.{answered-joins}
+use Rattle.locked_execution.proofs.public.AskedLists.{answered-joins}
 use Rattle.locked_execution.proofs.OneReplies.{one-reply-each}
 use Rattle.locked_execution.proofs.SomeReplies.{some-reply-each}
 use Rattle.locked_execution.proofs.laws.reply_laws.Goals as goal

@@ -1,5 +1,5 @@
 -- Going back.
-use Rattle.locked_execution.proofs.BackLaws.{none-take-less, roll-takes-no-others, consequences-tell-roll, value-from-before, all-amount-to-back-and-forth}
+use Rattle.locked_execution.proofs.public.BackLaws.{none-take-less, roll-takes-no-others, consequences-tell-roll, value-from-before, all-amount-to-back-and-forth}
 use Rattle.locked_execution.proofs.laws.rollback_laws.Goals as goal
 
 pub returns : goal.returns

@@ -1,5 +1,5 @@
 use Rattle.std.proofs.Common.{◌≡◌, ◌+◌, drop}
-use Rattle.machine.specs.walking.Sorting.{lesser_count}
+use Rattle.machine.specs.internal.Sorting.{lesser_count}
 use Rattle.machine.proofs.breaks.lesser_count.Given as goal
 
 abbrev pub invariant-loop-i : goal.invariant-loop-i

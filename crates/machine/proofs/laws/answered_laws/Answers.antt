@@ -1,5 +1,5 @@
-use Rattle.runs.proofs.ObjectLaws.{stays-over-lists, tickets-grow}
-use Rattle.machine.proofs.HeadlineLaws.{headline}
+use Rattle.runs.proofs.public.ObjectLaws.{stays-over-lists, tickets-grow}
+use Rattle.machine.proofs.public.HeadlineLaws.{headline}
 use Rattle.machine.proofs.laws.answered_laws.Goals as goal
 
 pub returns : goal.returns

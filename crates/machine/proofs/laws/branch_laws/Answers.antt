@@ -1,4 +1,4 @@
-use Rattle.machine.proofs.Branches.{stepped-is-step, others-leave}
+use Rattle.machine.proofs.public.Branches.{stepped-is-step, others-leave}
 use Rattle.machine.proofs.laws.branch_laws.Goals as goal
 
 pub returns : goal.returns

@@ -1,7 +1,7 @@
 -- With the parts that are left, the ends are those of all.
 use Rattle.std.proofs.Common.{◌≡◌, drop, map}
 use Rattle.outline.specs.Ends.{ends_in, in_turn, arms_in_turn}
-use Rattle.outline.specs.walking.Parts.{ends_in_guarded, ends_in_labelled, ends_in_arm}
+use Rattle.outline.specs.internal.Parts.{ends_in_guarded, ends_in_labelled, ends_in_arm}
 use Rattle.outline.proofs.ends.+ends.Given as goal
 
 abbrev pub invariant-add_all-loop-command : goal.invariant-add_all-loop-command

@@ -1,6 +1,6 @@
 use Rattle.std.proofs.Common.{arith}
-use Rattle.parser.specs.walking.Reading.{simple}
-use Rattle.parser.specs.walking.Reads.{place}
+use Rattle.parser.specs.internal.Reading.{simple}
+use Rattle.parser.specs.internal.Reads.{place}
 use Rattle.parser.proofs.Levels.{none_inside, simple_inside}
 use Rattle.parser.proofs.command.+simple.Goals as goal
 

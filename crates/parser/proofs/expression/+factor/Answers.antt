@@ -1,6 +1,6 @@
 use Rattle.std.proofs.Common.{arith}
-use Rattle.parser.specs.walking.Reading.{factor}
-use Rattle.parser.specs.walking.Reads.{place}
+use Rattle.parser.specs.internal.Reading.{factor}
+use Rattle.parser.specs.internal.Reads.{place}
 use Rattle.parser.proofs.Levels.{none_inside, factor_inside}
 use Rattle.parser.proofs.expression.+factor.Goals as goal
 

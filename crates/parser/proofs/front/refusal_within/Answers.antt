@@ -1,4 +1,4 @@
-use Rattle.parser.specs.walking.Reads.{place}
+use Rattle.parser.specs.internal.Reads.{place}
 use Rattle.parser.proofs.InsideLemmas.{begins_whole, told}
 use Rattle.parser.proofs.front.refusal_within.Goals as goal
 use Rattle.parser.proofs.front.refusal_within.Goals.{in-Ok, in-Err}

@@ -1,8 +1,8 @@
 use Rattle.std.proofs.Common.{rules, ◌≡◌, true, false, length, ap}
 use Rattle.parser.specs.Input.{next, is_one_of}
-use Rattle.parser.specs.walking.Reads.{Halts}
-use Rattle.parser.specs.walking.Reading.{several, one_more}
-use Rattle.parser.specs.walking.Reads.{place}
+use Rattle.parser.specs.internal.Reads.{Halts}
+use Rattle.parser.specs.internal.Reading.{several, one_more}
+use Rattle.parser.specs.internal.Reads.{place}
 use Rattle.parser.proofs.Turns.{before_turns, after_turn, without_turn, after_turns, halted_turn}
 use Rattle.parser.proofs.list.several.Goals as goal
 

@@ -1,7 +1,7 @@
 use Rattle.std.proofs.Common.{List, Bool, sym, subst}
 use Rattle.std.proofs.lemmas.Result.{IfOk-weaker}
 use Rattle.past.specs.Past.{ListsPast}
-use Rattle.past.specs.walking.Marked.{MarksPast, ListsMarked}
+use Rattle.past.specs.internal.Marked.{MarksPast, ListsMarked}
 use Rattle.past.proofs.ListedPast.{listed}
 use Rattle.past.proofs.past.past_of.Goals as goal
 

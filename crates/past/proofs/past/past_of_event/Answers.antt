@@ -1,4 +1,4 @@
-use Rattle.dependence.proofs.ListPlaces.{in-at}
+use Rattle.dependence.proofs.public.ListPlaces.{in-at}
 use Rattle.past.proofs.past.past_of_event.Goals as goal
 
 pub past_of-requires : goal.past_of-requires

@@ -5,7 +5,7 @@ use Rattle.std.specs.Option.{option_to_list}
 use Rattle.runs.specs.declared.event.Event.{Event}
 use Rattle.picture_data.specs.Shown.{EachStandsIn}
 use Rattle.picture_data.specs.Spots.{ready_spots}
-use Rattle.picture_data.specs.walking.SpotsSoFar.{AddsSpots}
+use Rattle.picture_data.specs.internal.SpotsSoFar.{AddsSpots}
 use Rattle.picture_data.proofs.WaitLaws.{shows-waits}
 use Rattle.picture_data.proofs.end.end_of.Goals as goal
 
@@ -14,11 +14,11 @@ returns c =
     let told = c.in_ok-waiting.ensures in
     record {
       ready = c.in_ok-ready.ensures;
-      sides = subst (λ (es : List Event). EachStandsIn c.args.machine.now c.args.table.now.lanes.items es c.in_ok-ready_sides.ready_sides.items)
-          c.as_slice-events.ensures c.in_ok-ready_sides.ensures;
+      actions = subst (λ (es : List Event). EachStandsIn c.args.machine.now c.args.table.now.lanes.items es c.in_ok-ready_actions.ready_actions.items)
+          c.as_slice-events.ensures c.in_ok-ready_actions.ensures;
       progress = (told.0, told.1, told.2.progress);
       waits = shows-waits c.args.machine.now c.args.table.now.lanes.items c.in_ok-waiting.waiting _ c.in_ok-shown.shown.places.items
-          c.in_ok-shown.shown.place_of_side.items c.in_ok-waiting.ensures c.in_ok-shown.ensures
+          c.in_ok-shown.shown.place_of_action.items c.in_ok-waiting.ensures c.in_ok-shown.ensures
           (subst
           (λ (es : List Event).
           AddsSpots c.args.table.now.lanes.items c.in_ok-shown.shown.places.items c.add_ready_places.new.places.items
@@ -26,7 +26,7 @@ returns c =
           c.as_slice-events.ensures c.in_ok-add_ready_places.ensures)
           (c.in_ok-ring.ensures
           ∙ ap (λ (found : List ℕ). flat_map (λ (i : ℕ). option_to_list (slice_get found i)) c.as_slice-ring_sides.result.now)
-          c.as_slice-place_of_side.ensures.value
-          ∙ ap (λ (sides : List ℕ). flat_map (λ (i : ℕ). option_to_list (slice_get c.in_ok-shown.shown.place_of_side.items i)) sides)
+          c.as_slice-place_of_action.ensures.value
+          ∙ ap (λ (actions : List ℕ). flat_map (λ (i : ℕ). option_to_list (slice_get c.in_ok-shown.shown.place_of_action.items i)) actions)
           c.as_slice-ring_sides.ensures.value);
     }

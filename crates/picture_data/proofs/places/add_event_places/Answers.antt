@@ -1,4 +1,4 @@
-use Rattle.dependence.proofs.Tabling.{ok-weaker}
+use Rattle.dependence.proofs.public.Tabling.{ok-weaker}
 use Rattle.picture_data.proofs.SpotLaws.{event-one, event-two}
 use Rattle.picture_data.proofs.places.add_event_places.Goals as goal
 

@@ -1,6 +1,6 @@
 use Rattle.std.proofs.Common.{take}
 use Rattle.picture_data.specs.Spots.{ready_spots}
-use Rattle.picture_data.specs.walking.SpotsSoFar.{AddsSpots}
+use Rattle.picture_data.specs.internal.SpotsSoFar.{AddsSpots}
 use Rattle.picture_data.proofs.places.add_ready_places.Given as goal
 
 abbrev pub invariant-loop-event : goal.invariant-loop-event

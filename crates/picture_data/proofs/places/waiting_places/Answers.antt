@@ -1,7 +1,7 @@
 use Rattle.std.proofs.Common.{◌≡◌, ◌∙◌, ◌-◌, ◌<◌, ◌≤◌, ◌∷◌, [], ◌++◌, ℕ, List, length, get_or, ap, arith, subst}
 use Rattle.std.specs.Prelude.{slice_get}
 use Rattle.std.specs.Option.{option_copied}
-use Rattle.offered_sides.specs.declared.side.OfferedSide.{OfferedSide}
+use Rattle.local_actions.specs.declared.action.LocalAction.{LocalAction}
 use Rattle.rings.specs.declared.partner.Partner.{Partner}
 use Rattle.picture_data.specs.declared.places.Place.{Place as Shown}
 use Rattle.picture_data.proofs.SpotLaws.{spots-all, spots-next}
@@ -9,25 +9,25 @@ use Rattle.picture_data.proofs.places.waiting_places.Goals as goal
 
 pub loop-index-preserved : goal.loop-index-preserved
 loop-index-preserved c =
-    let less : c.loop-index.index < length c.args.waiting.now.sides =
-    subst (λ (xs : List OfferedSide). c.loop-index.index < length xs) c.as_slice-side-items.ensures c.loop-index-test.true in
-    let here : c.side-item.result ≡ get_or c.args.waiting.now.sides c.loop-index.index c.side-item.result =
-    subst (λ (xs : List OfferedSide). c.side-item.result ≡ get_or xs c.loop-index.index c.side-item.result) c.as_slice-side-items.ensures c.side-item.is in
-    spots-next c.args.machine.now c.args.now.now.table.now.lanes.items c.args.waiting.now.partners.items c.args.waiting.now.sides c.loop-index.index
-    c.side-item.result (option_copied c.partner_at-partner.result) c.loop-index.places.items c.add_side.new.places.items
-    c.loop-index.place_of_side.items c.push.new.self.items less here
+    let less : c.loop-index.index < length c.args.waiting.now.actions =
+    subst (λ (xs : List LocalAction). c.loop-index.index < length xs) c.as_slice-action-items.ensures c.loop-index-test.true in
+    let here : c.action-item.result ≡ get_or c.args.waiting.now.actions c.loop-index.index c.action-item.result =
+    subst (λ (xs : List LocalAction). c.action-item.result ≡ get_or xs c.loop-index.index c.action-item.result) c.as_slice-action-items.ensures c.action-item.is in
+    spots-next c.args.machine.now c.args.now.now.table.now.lanes.items c.args.waiting.now.partners.items c.args.waiting.now.actions c.loop-index.index
+    c.action-item.result (option_copied c.partner_at-partner.result) c.loop-index.places.items c.add_action.new.places.items
+    c.loop-index.place_of_action.items c.push.new.self.items less here
     (c.partner_at-partner.ensures ∙ ap (λ (ps : List Partner). slice_get ps c.loop-index.index) c.as_slice-partners.ensures.value)
-    c.loop-index.invariant c.in_ok-add_side.ensures.spots c.in_ok-add_side.ensures.lanes c.in_ok-add_side.ensures.kept
-    c.in_ok-add_side.ensures.last
+    c.loop-index.invariant c.in_ok-add_action.ensures.spots c.in_ok-add_action.ensures.lanes c.in_ok-add_action.ensures.kept
+    c.in_ok-add_action.ensures.last
     (c.in_ok-push.ensures.items
-    ∙ ap (λ (k : ℕ). c.loop-index.place_of_side.items ++ k ∷ [])
+    ∙ ap (λ (k : ℕ). c.loop-index.place_of_action.items ++ k ∷ [])
     (c.last_index.ensures ∙ ap (λ (ps : List Shown). length ps - 1) c.as_slice.ensures.value))
 
 pub returns : goal.returns
 returns c =
-    let size : length c.as_slice-side-items.result.now ≡ length c.args.waiting.now.sides =
-    ap (λ (xs : List OfferedSide). length xs) c.as_slice-side-items.ensures in
+    let size : length c.as_slice-action-items.result.now ≡ length c.args.waiting.now.actions =
+    ap (λ (xs : List LocalAction). length xs) c.as_slice-action-items.ensures in
     let past = c.loop-index-test.false in
-    let whole : length c.args.waiting.now.sides ≤ c.loop-index.index = omega arith in
-    spots-all c.args.machine.now c.args.now.now.table.now.lanes.items c.args.waiting.now.partners.items c.args.waiting.now.sides c.loop-index.index
-    c.loop-index.places.items c.loop-index.place_of_side.items whole c.loop-index.invariant
+    let whole : length c.args.waiting.now.actions ≤ c.loop-index.index = omega arith in
+    spots-all c.args.machine.now c.args.now.now.table.now.lanes.items c.args.waiting.now.partners.items c.args.waiting.now.actions c.loop-index.index
+    c.loop-index.places.items c.loop-index.place_of_action.items whole c.loop-index.invariant

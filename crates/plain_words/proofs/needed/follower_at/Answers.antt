@@ -1,4 +1,4 @@
-use Rattle.dependence.proofs.ListPlaces.{in-at}
+use Rattle.dependence.proofs.public.ListPlaces.{in-at}
 use Rattle.plain_words.proofs.needed.follower_at.Goals as goal
 
 pub follows_one-requires : goal.follows_one-requires

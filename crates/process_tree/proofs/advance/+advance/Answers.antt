@@ -8,8 +8,8 @@ use Rattle.process_tree.specs.Places.{wrap}
 use Rattle.process_tree.specs.View.{repeat_view, decide_view, await_view, row_view, proc_view, out_view, procs_of, begun_of, opened_of}
 use Rattle.process_tree.specs.Children.{proc_at}
 use Rattle.process_tree.specs.declared.proc.Proc.{Proc}
-use Rattle.process_tree.proofs.Steps.{none-is, is-some, wrapped, took-inside, opened-inside, opened-closes, turn-next, turn-is, parallel-somewhere, parallel-moves, sequence-somewhere, sequence-moves, child-asked, child-moved, branch-at, branch-set, branch-within, begun-at, begun-set, view-same}
-use Rattle.process_tree.proofs.Views.{repeat_body}
+use Rattle.process_tree.proofs.public.Steps.{none-is, is-some, wrapped, took-inside, opened-inside, opened-closes, turn-next, turn-is, parallel-somewhere, parallel-moves, sequence-somewhere, sequence-moves, child-asked, child-moved, branch-at, branch-set, branch-within, begun-at, begun-set, view-same}
+use Rattle.process_tree.proofs.public.Views.{repeat_body}
 use Rattle.process_tree.proofs.advance.+advance.Goals as goal
 
 pub in_branch-advance-requires : goal.in_branch-advance-requires

@@ -3,8 +3,8 @@ use Rattle.std.proofs.Common.{◌∙◌, sym, ap}
 use Rattle.std.proofs.lemmas.Result.{IfOk-weaker}
 use Rattle.process_tree.specs.Proc.{started}
 use Rattle.process_tree.specs.View.{proc_view}
-use Rattle.process_tree.proofs.Steps.{arm-at, arm-past}
-use Rattle.process_tree.proofs.Views.{proc_idle}
+use Rattle.process_tree.proofs.public.Steps.{arm-at, arm-past}
+use Rattle.process_tree.proofs.public.Views.{proc_idle}
 use Rattle.process_tree.proofs.advance.begin_arm.Goals as goal
 
 pub returns-in-Some : goal.returns-in-Some

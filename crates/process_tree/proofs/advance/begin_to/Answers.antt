@@ -1,7 +1,7 @@
 -- One child more.
 use Rattle.std.proofs.Common.{◌≡◌, Some, length, map, slice_get, ◌∙◌, sym, ap, subst, arith}
 use Rattle.process_tree.specs.View.{row_view, proc_view, begun_of}
-use Rattle.process_tree.proofs.Steps.{begun-more, begun-in-row, get-past}
+use Rattle.process_tree.proofs.public.Steps.{begun-more, begun-in-row, get-past}
 use Rattle.process_tree.proofs.advance.begin_to.Goals as goal
 
 pub children-preserved : goal.children-preserved

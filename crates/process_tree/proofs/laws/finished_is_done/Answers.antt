@@ -1,5 +1,5 @@
 -- A process is finished where nothing is left of it.
-use Rattle.process_tree.proofs.Formed.{finished-done}
+use Rattle.process_tree.proofs.public.Formed.{finished-done}
 use Rattle.process_tree.proofs.laws.finished_is_done.Goals as goal
 
 pub returns : goal.returns

@@ -1,5 +1,5 @@
 -- What has begun is tidy, and moves keep it so.
-use Rattle.process_tree.proofs.Tidy.{started-tidy, moves-keep-tidy}
+use Rattle.process_tree.proofs.public.Tidy.{started-tidy, moves-keep-tidy}
 use Rattle.process_tree.proofs.laws.moves_keep_tidy.Goals as goal
 
 pub returns : goal.returns

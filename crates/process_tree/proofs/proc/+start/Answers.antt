@@ -4,7 +4,7 @@ use Rattle.process_tree.specs.Proc.{started}
 use Rattle.process_tree.specs.View.{code_view}
 use Rattle.process_tree.specs.declared.code.Code.{Code}
 use Rattle.process_tree.specs.declared.code.Row.{Row}
-use Rattle.process_tree.proofs.Views.{parallel_started}
+use Rattle.process_tree.proofs.public.Views.{parallel_started}
 use Rattle.process_tree.proofs.proc.+start.Goals as goal
 
 pub start-returns-in_ok-procs-in-SideBySide : goal.start-returns-in_ok-procs-in-SideBySide

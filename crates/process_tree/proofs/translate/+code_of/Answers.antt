@@ -1,4 +1,4 @@
-use Rattle.process_tree.proofs.Views.{arms_and_else}
+use Rattle.process_tree.proofs.public.Views.{arms_and_else}
 use Rattle.process_tree.proofs.translate.+code_of.Goals as goal
 
 pub with_last-returns-in_ok-push-in-Some : goal.with_last-returns-in_ok-push-in-Some

@@ -1,6 +1,6 @@
 use Rattle.std.proofs.Common.{◌≡◌, ◌++◌, drop, map}
 use Rattle.process_tree.specs.Translation.{code_of}
-use Rattle.process_tree.specs.walking.Arms.{guarded_of, labelled_of, arm_of}
+use Rattle.process_tree.specs.internal.Arms.{guarded_of, labelled_of, arm_of}
 use Rattle.process_tree.specs.View.{code_view}
 use Rattle.process_tree.proofs.translate.+code_of.Given as goal
 

@@ -1,5 +1,5 @@
 use Rattle.std.proofs.Common.{◌≡◌, ◌++◌, drop, map}
-use Rattle.process_tree.specs.walking.Arms.{arm_of}
+use Rattle.process_tree.specs.internal.Arms.{arm_of}
 use Rattle.process_tree.proofs.translate.channels_of.Given as goal
 
 abbrev pub invariant-loop-arm : goal.invariant-loop-arm

@@ -1,6 +1,6 @@
 use Rattle.std.proofs.Common.{◌≡◌, ◌++◌, drop, map}
 use Rattle.system.specs.Translation.{expression_of}
-use Rattle.process_tree.specs.walking.Arms.{guarded_of}
+use Rattle.process_tree.specs.internal.Arms.{guarded_of}
 use Rattle.process_tree.proofs.translate.guards_of.Given as goal
 
 abbrev pub invariant-loop-arm : goal.invariant-loop-arm

@@ -1,5 +1,5 @@
 use Rattle.std.proofs.Common.{◌≡◌, ◌++◌, drop, map}
-use Rattle.process_tree.specs.walking.Arms.{labelled_of}
+use Rattle.process_tree.specs.internal.Arms.{labelled_of}
 use Rattle.process_tree.proofs.translate.labels_of.Given as goal
 
 abbrev pub invariant-loop-arm : goal.invariant-loop-arm

@@ -2,7 +2,7 @@ use Rattle.std.proofs.Common.{subst}
 use Rattle.machine.specs.AtMachine.{AtMachine}
 use Rattle.trace_file.specs.declared.fault.Fault.TheVariants.{Memory}
 use Rattle.questions.specs.Asking.{AnswersWhy}
-use Rattle.questions.proofs.Handing.{refused}
+use Rattle.questions.proofs.public.Handing.{refused}
 use Rattle.questions.proofs.WhyLemmas.{answers}
 use Rattle.questions.proofs.why.why_text.Goals as goal
 

@@ -3,7 +3,7 @@ use Rattle.std.proofs.Common.{map, None, ap, ◌∙◌}
 use Rattle.std.proofs.lemmas.Result.{IfOk-weaker}
 use Rattle.system.specs.Residual.{test, choose}
 use Rattle.system.specs.Translation.{arms_of, decision_of}
-use Rattle.calculus.specs.Left.{residual_of_left}
+use Rattle.calculus.specs.ResidualTree.{residual_of_tree}
 use Rattle.rendezvous.proofs.Rows.{sequence_made, parallel_made, test_made, await_made}
 use Rattle.rendezvous.proofs.code.+left_of_code.Goals as goal
 
@@ -22,11 +22,11 @@ left_side_by_side-returns t c =
 pub left_of_decide-returns : goal.left_of_decide-returns
 left_of_decide-returns t c =
     IfOk-weaker c.test.result _ _
-    (λ made h. test_made c.args.decide.now c.as_slice.result.now c.in_ok-arms.arms made c.as_slice.ensures c.in_ok-arms.ensures (h ∙ ap (λ d. test d (arms_of (map residual_of_left c.in_ok-arms.arms) None)) (ap decision_of c.in_ok-decision.ensures)))
+    (λ made h. test_made c.args.decide.now c.as_slice.result.now c.in_ok-arms.arms made c.as_slice.ensures c.in_ok-arms.ensures (h ∙ ap (λ d. test d (arms_of (map residual_of_tree c.in_ok-arms.arms) None)) (ap decision_of c.in_ok-decision.ensures)))
     c.test.ensures
 
 pub left_of_await-returns : goal.left_of_await-returns
 left_of_await-returns t c =
     IfOk-weaker c.choose.result _ _
-    (λ made h. await_made c.args.waiting.now c.as_slice.result.now c.in_ok-arms.arms made c.as_slice.ensures c.in_ok-arms.ensures (h ∙ ap (λ ds. choose ds (arms_of (map residual_of_left c.in_ok-arms.arms) None)) c.as_slice-2.ensures))
+    (λ made h. await_made c.args.waiting.now c.as_slice.result.now c.in_ok-arms.arms made c.as_slice.ensures c.in_ok-arms.ensures (h ∙ ap (λ ds. choose ds (arms_of (map residual_of_tree c.in_ok-arms.arms) None)) c.as_slice-2.ensures))
     c.choose.ensures

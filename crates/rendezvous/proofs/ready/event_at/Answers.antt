@@ -1,5 +1,5 @@
 -- The first of the list that has the choice.
-use Rattle.offered_sides.specs.View.{state_of}
+use Rattle.local_actions.specs.View.{state_of}
 use Rattle.rendezvous.proofs.Listed.{ready-with}
 use Rattle.rendezvous.proofs.ready.event_at.Goals as goal
 

@@ -4,8 +4,8 @@ use Rattle.std.proofs.lemmas.Result.{IfOk-weaker}
 use Rattle.runs.specs.Steps.{State}
 use Rattle.runs.specs.WellFormed.{WellFormed}
 use Rattle.process_tree.specs.View.{tree_view}
-use Rattle.process_tree.proofs.Formed.{left-formed}
-use Rattle.offered_sides.specs.View.{state_of}
+use Rattle.process_tree.proofs.public.Formed.{left-formed}
+use Rattle.local_actions.specs.View.{state_of}
 use Rattle.rendezvous.proofs.Listed.{Exactly, sorted-ready}
 use Rattle.rendezvous.proofs.ready.ready_events.Goals as goal
 

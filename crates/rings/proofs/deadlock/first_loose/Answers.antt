@@ -10,7 +10,7 @@ loop-index-preserved c =
     let at : slice_get c.args.partners.now i ≡ Some p =
     at-get c.args.partners.now i p (omega (arith, c.loop-index-test.true, c.requires.partners)) c.index-partners-index.is in (
       length-set c.loop-index.passed i c.in-Some.next ∙ c.loop-index.invariant.0,
-      passed-more c.args.sides.now c.args.partners.now c.args.marks.now c.loop-index.passed (slice_set c.loop-index.passed i c.in-Some.next) i c.in-Some.next p
+      passed-more c.args.actions.now c.args.partners.now c.args.marks.now c.loop-index.passed (slice_set c.loop-index.passed i c.in-Some.next) i c.in-Some.next p
           (omega (arith, c.loop-index-test.true, c.loop-index.invariant.0)) at c.loop-index.invariant.1 c.in-Some.ensures.1 refl,
       below_more _ _ c.loop-index.invariant.2 (λ on. (p, at, sym c.is_marked-in-loop-index.ensures ∙ c.if-is_marked.false, c.in-Some.ensures.0)),
     )

@@ -2,7 +2,7 @@
 use Rattle.std.proofs.Common.{◌≡◌, ℕ, ◌+◌, ◌-◌, ◌<◌, ◌≤◌, length, arith}
 use Rattle.std.specs.Option.{option_copied}
 use Rattle.process_tree.specs.View.{code_view}
-use Rattle.rings.specs.walking.Seen.{code_seen, standing}
+use Rattle.rings.specs.internal.Seen.{code_seen, standing}
 use Rattle.rings.proofs.Rows.{turned, branched, fresh-turn, fresh-branch, fresh-end, fresh-last}
 use Rattle.rings.proofs.fresh.+look_fresh.Goals as goal
 

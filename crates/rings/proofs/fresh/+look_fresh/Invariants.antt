@@ -1,7 +1,7 @@
 -- From the last child down to this one all is found.
 use Rattle.std.proofs.Common.{◌≡◌, ◌≤◌, drop, length}
 use Rattle.std.specs.Option.{option_copied}
-use Rattle.rings.specs.walking.Seen.{standing}
+use Rattle.rings.specs.internal.Seen.{standing}
 use Rattle.rings.proofs.Rows.{fresh-in-turn, fresh-abreast, fresh-any}
 use Rattle.rings.proofs.fresh.+look_fresh.Given as goal
 

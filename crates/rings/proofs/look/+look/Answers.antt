@@ -3,9 +3,9 @@ use Rattle.std.proofs.Common.{◌≡◌, ℕ, ◌+◌, ◌-◌, ◌<◌, ◌≤�
 use Rattle.std.proofs.lemmas.Result.{IfOk-weaker}
 use Rattle.std.specs.Option.{option_copied}
 use Rattle.process_tree.specs.View.{await_view, code_view, proc_view}
-use Rattle.offered_sides.proofs.Begun.{begun-row}
-use Rattle.offered_sides.proofs.Endings.{row-end, row-some}
-use Rattle.rings.specs.walking.Seen.{code_seen, seen, standing}
+use Rattle.local_actions.proofs.public.Begun.{begun-row}
+use Rattle.local_actions.proofs.public.Endings.{row-end, row-some}
+use Rattle.rings.specs.internal.Seen.{code_seen, seen, standing}
 use Rattle.rings.proofs.Rows.{begun-seen-at, branched, fresh-seen-at, opened-seen, procs-branch, procs-end, procs-last, procs-turn, turned}
 use Rattle.rings.proofs.look.+look.Goals as goal
 

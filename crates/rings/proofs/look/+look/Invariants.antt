@@ -2,7 +2,7 @@
 use Rattle.std.proofs.Common.{◌≡◌, ◌≤◌, length, map}
 use Rattle.std.specs.Option.{option_copied}
 use Rattle.process_tree.specs.View.{begun_of, proc_view, row_view}
-use Rattle.rings.specs.walking.Seen.{standing}
+use Rattle.rings.specs.internal.Seen.{standing}
 use Rattle.rings.proofs.Rows.{procs-abreast, procs-in-turn}
 use Rattle.rings.proofs.look.+look.Given as goal
 

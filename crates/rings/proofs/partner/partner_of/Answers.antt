@@ -1,5 +1,5 @@
 use Rattle.process_tree.specs.View.{proc_view, tree_view}
-use Rattle.rings.specs.walking.Seen.{standing}
+use Rattle.rings.specs.internal.Seen.{standing}
 use Rattle.rings.proofs.Left.{partner-is}
 use Rattle.rings.proofs.partner.partner_of.Goals as goal
 

@@ -1,5 +1,5 @@
 use Rattle.std.proofs.Common.{◌≡◌, ◌∙◌, ℕ, true, false, slice_index_or, sym, subst, true≢false, arith}
-use Rattle.rings.specs.walking.Search.{same_at}
+use Rattle.rings.specs.internal.Search.{same_at}
 use Rattle.rings.proofs.Places.{not-here, not-there}
 use Rattle.rings.proofs.ring.index_on.Goals as goal
 
@@ -7,8 +7,8 @@ pub loop-index-preserved : goal.loop-index-preserved
 loop-index-preserved c = λ j i m.
     not-here c.args.way.now c.loop-index.index 0 j (omega arith)
     (λ e.
-    let at : same_at c.args.sides.now (slice_index_or c.args.way.now c.loop-index.index 0) c.args.side ≡ true =
-    subst (λ (k : ℕ). same_at c.args.sides.now k c.args.side ≡ true) (sym e) m in
+    let at : same_at c.args.actions.now (slice_index_or c.args.way.now c.loop-index.index 0) c.args.action ≡ true =
+    subst (λ (k : ℕ). same_at c.args.actions.now k c.args.action ≡ true) (sym e) m in
     let both : true ≡ false = sym at ∙ sym c.is_at_one.ensures ∙ c.if-is_at_one.false in
     true≢false both)
     (c.loop-index.invariant j i m)

@@ -4,4 +4,4 @@ use Rattle.rings.proofs.ring.ring_among.Goals as goal
 
 pub returns : goal.returns
 returns c = λ r help given told.
-    IfOk-weaker c.ring_of_indexes.result _ _ (λ ring h. tells r help c.args.sides.now c.args.partners.now c.args.marks.now given told ring.items h) c.ring_of_indexes.ensures
+    IfOk-weaker c.ring_of_indexes.result _ _ (λ ring h. tells r help c.args.actions.now c.args.partners.now c.args.marks.now given told ring.items h) c.ring_of_indexes.ensures

@@ -1,4 +1,4 @@
-use Rattle.offered_sides.proofs.PlacedSides.{told-same}
+use Rattle.local_actions.proofs.public.PlacedActions.{told-same}
 use Rattle.rings.proofs.waits.is_same.Goals as goal
 
 pub returns : goal.returns

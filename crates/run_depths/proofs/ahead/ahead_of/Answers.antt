@@ -1,5 +1,5 @@
-use Rattle.dependence.proofs.ListPlaces.{in-at, in-read}
-use Rattle.run_depths.proofs.Deepening.{ahead-all, ahead-next}
+use Rattle.dependence.proofs.public.ListPlaces.{in-at, in-read}
+use Rattle.run_depths.proofs.public.Deepening.{ahead-all, ahead-next}
 use Rattle.run_depths.proofs.ahead.ahead_of.Goals as goal
 
 pub followers-followers-requires : goal.followers-followers-requires

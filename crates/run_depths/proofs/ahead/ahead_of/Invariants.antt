@@ -1,5 +1,5 @@
 use Rattle.std.proofs.Common.{take}
-use Rattle.run_depths.proofs.Deepening.{AheadTo}
+use Rattle.run_depths.proofs.public.Deepening.{AheadTo}
 use Rattle.run_depths.proofs.ahead.ahead_of.Given as goal
 
 abbrev pub invariant-loop-follower : goal.invariant-loop-follower

@@ -1,4 +1,4 @@
-use Rattle.run_depths.proofs.Deepening.{RowsTo}
+use Rattle.run_depths.proofs.public.Deepening.{RowsTo}
 use Rattle.run_depths.proofs.ahead.all_ahead.Given as goal
 
 abbrev pub invariant-loop-index : goal.invariant-loop-index

@@ -1,4 +1,4 @@
-use Rattle.run_depths.proofs.Deepening.{stands-ahead}
+use Rattle.run_depths.proofs.public.Deepening.{stands-ahead}
 use Rattle.run_depths.proofs.ahead.distance.Goals as goal
 
 pub overflow_sub-result : goal.overflow_sub-result

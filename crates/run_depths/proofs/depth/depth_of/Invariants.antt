@@ -1,5 +1,5 @@
 use Rattle.std.proofs.Common.{◌≤◌, length, take}
-use Rattle.run_depths.proofs.Deepening.{DepthTo}
+use Rattle.run_depths.proofs.public.Deepening.{DepthTo}
 use Rattle.run_depths.proofs.depth.depth_of.Given as goal
 
 abbrev pub invariant-loop-lead : goal.invariant-loop-lead

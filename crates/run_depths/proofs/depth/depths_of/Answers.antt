@@ -1,7 +1,7 @@
 use Rattle.std.proofs.Common.{◌≡◌, ℕ, ◌<◌, ◌∙◌, List, length, ap, arith}
 use Rattle.runs.specs.Live.{Live}
-use Rattle.dependence.proofs.ListPlaces.{in-at}
-use Rattle.run_depths.proofs.Deepening.{all-known, item-at, known-pushed, lead-before}
+use Rattle.dependence.proofs.public.ListPlaces.{in-at}
+use Rattle.run_depths.proofs.public.Deepening.{all-known, item-at, known-pushed, lead-before}
 use Rattle.run_depths.proofs.depth.depths_of.Goals as goal
 
 pub depth_of-depth-requires-clause-live : goal.depth_of-depth-requires-clause-live

@@ -1,4 +1,4 @@
-use Rattle.run_depths.proofs.Deepening.{KnownTo}
+use Rattle.run_depths.proofs.public.Deepening.{KnownTo}
 use Rattle.run_depths.proofs.depth.depths_of.Given as goal
 
 abbrev pub invariant-loop-entry : goal.invariant-loop-entry

@@ -1,5 +1,5 @@
 use Rattle.std.proofs.Common.{◌-◌, drop, length}
-use Rattle.run_depths.specs.walking.RacesSoFar.{RacesWith}
+use Rattle.run_depths.specs.internal.RacesSoFar.{RacesWith}
 use Rattle.run_depths.proofs.races.add_races.Given as goal
 
 abbrev pub invariant-loop-back : goal.invariant-loop-back

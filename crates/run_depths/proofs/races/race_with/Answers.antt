@@ -1,8 +1,8 @@
 use Rattle.std.proofs.Common.{◌≡◌, ◌∙◌, ℕ, sym, ap, subst}
 use Rattle.runs.specs.Live.{LiveAt}
 use Rattle.runs.specs.declared.event.Event.{Event}
-use Rattle.runs.proofs.Options.{some-injective}
-use Rattle.dependence.proofs.ListPlaces.{in-at}
+use Rattle.runs.proofs.public.Options.{some-injective}
+use Rattle.dependence.proofs.public.ListPlaces.{in-at}
 use Rattle.run_depths.proofs.RaceLaws.{no-race}
 use Rattle.run_depths.proofs.races.race_with.Goals as goal
 

@@ -1,4 +1,4 @@
-use Rattle.run_depths.specs.walking.RacesSoFar.{RacesTo}
+use Rattle.run_depths.specs.internal.RacesSoFar.{RacesTo}
 use Rattle.run_depths.proofs.races.races_of.Given as goal
 
 abbrev pub invariant-loop-index : goal.invariant-loop-index

@@ -1,4 +1,4 @@
-use Rattle.runs.proofs.ReadTests.{written-read, written-written}
+use Rattle.runs.proofs.public.ReadTests.{written-read, written-written}
 use Rattle.runs.proofs.dependence.writes_for.Goals as goal
 
 pub returns-then-reads : goal.returns-then-reads

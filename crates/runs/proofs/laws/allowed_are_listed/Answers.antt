@@ -1,5 +1,5 @@
 -- The list of allowed events has them all, and no others.
-use Rattle.runs.proofs.FromOpening.{allowed_are_listed, allowed_where_formed}
+use Rattle.runs.proofs.public.FromOpening.{allowed_are_listed, allowed_where_formed}
 use Rattle.runs.proofs.laws.allowed_are_listed.Goals as goal
 
 pub returns : goal.returns

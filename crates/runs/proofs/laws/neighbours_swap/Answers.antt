@@ -1,5 +1,5 @@
 -- Neighbours of a run swap.
-use Rattle.runs.proofs.FromOpening.{neighbours_swap}
+use Rattle.runs.proofs.public.FromOpening.{neighbours_swap}
 use Rattle.runs.proofs.laws.neighbours_swap.Goals as goal
 
 pub returns : goal.returns

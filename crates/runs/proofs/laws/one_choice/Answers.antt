@@ -1,5 +1,5 @@
 -- One choice takes one event.
-use Rattle.runs.proofs.FromOpening.{one_choice}
+use Rattle.runs.proofs.public.FromOpening.{one_choice}
 use Rattle.runs.proofs.laws.one_choice.Goals as goal
 
 pub returns : goal.returns

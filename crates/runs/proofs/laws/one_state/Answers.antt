@@ -1,5 +1,5 @@
 -- A list leads to one state.
-use Rattle.runs.proofs.FromOpening.{one_state}
+use Rattle.runs.proofs.public.FromOpening.{one_state}
 use Rattle.runs.proofs.laws.one_state.Goals as goal
 
 pub returns : goal.returns

@@ -1,5 +1,5 @@
 -- Respecting orders run.
-use Rattle.runs.proofs.FromOpening.{respecting_orders}
+use Rattle.runs.proofs.public.FromOpening.{respecting_orders}
 use Rattle.runs.proofs.laws.respecting_orders.Goals as goal
 
 pub returns : goal.returns

@@ -1,5 +1,5 @@
 -- A list runs without an event.
-use Rattle.runs.proofs.FromOpening.{runs_without}
+use Rattle.runs.proofs.public.FromOpening.{runs_without}
 use Rattle.runs.proofs.laws.runs_without.Goals as goal
 
 pub returns : goal.returns

@@ -1,5 +1,5 @@
 -- A list runs without an event and its consequences.
-use Rattle.runs.proofs.FromOpening.{runs_without_consequences}
+use Rattle.runs.proofs.public.FromOpening.{runs_without_consequences}
 use Rattle.runs.proofs.laws.runs_without_consequences.Goals as goal
 
 pub returns : goal.returns

@@ -1,5 +1,5 @@
 -- Lists with the same events have the same dependents.
-use Rattle.runs.proofs.FromOpening.{orders_depend_alike, runs_depend_alike}
+use Rattle.runs.proofs.public.FromOpening.{orders_depend_alike, runs_depend_alike}
 use Rattle.runs.proofs.laws.same_dependents.Goals as goal
 
 pub returns : goal.returns

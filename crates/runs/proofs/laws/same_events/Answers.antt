@@ -1,5 +1,5 @@
 -- Lists with the same events are respecting orders of each other.
-use Rattle.runs.proofs.FromOpening.{same_events}
+use Rattle.runs.proofs.public.FromOpening.{same_events}
 use Rattle.runs.proofs.laws.same_events.Goals as goal
 
 pub returns : goal.returns

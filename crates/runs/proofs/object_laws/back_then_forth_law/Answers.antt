@@ -1,5 +1,5 @@
 -- Back, then forth.
-use Rattle.runs.proofs.ObjectLaws.{back-then-forth-law}
+use Rattle.runs.proofs.public.ObjectLaws.{back-then-forth-law}
 use Rattle.runs.proofs.object_laws.back_then_forth_law.Goals as goal
 
 pub returns : goal.returns

@@ -1,5 +1,5 @@
 -- Dependence by tickets, and consequences.
-use Rattle.runs.proofs.ObjectLaws.{depends-on-is-causes, consequences-exactly}
+use Rattle.runs.proofs.public.ObjectLaws.{depends-on-is-causes, consequences-exactly}
 use Rattle.runs.proofs.object_laws.dependence_laws.Goals as goal
 
 pub returns : goal.returns

@@ -1,5 +1,5 @@
 -- Least rollback.
-use Rattle.runs.proofs.ObjectLaws.{least-rollback-law}
+use Rattle.runs.proofs.public.ObjectLaws.{least-rollback-law}
 use Rattle.runs.proofs.object_laws.least_rollback_law.Goals as goal
 
 pub returns : goal.returns

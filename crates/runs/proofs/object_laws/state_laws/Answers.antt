@@ -1,5 +1,5 @@
 -- The state in every order.
-use Rattle.runs.proofs.ObjectLaws.{state-in-every-order, state-after-any-commands}
+use Rattle.runs.proofs.public.ObjectLaws.{state-in-every-order, state-after-any-commands}
 use Rattle.runs.proofs.object_laws.state_laws.Goals as goal
 
 pub returns : goal.returns

@@ -1,6 +1,6 @@
 -- Steps.
-use Rattle.runs.proofs.ObjectLaws.{step-makes, not-ready-exactly, limits-exactly}
-use Rattle.runs.proofs.SomeReplies.{steps-exactly}
+use Rattle.runs.proofs.public.ObjectLaws.{step-makes, not-ready-exactly, limits-exactly}
+use Rattle.runs.proofs.public.SomeReplies.{steps-exactly}
 use Rattle.runs.proofs.object_laws.step_laws.Goals as goal
 
 pub returns : goal.returns

@@ -1,6 +1,6 @@
 -- With the parts that are left, what is found is what is found in all.
 use Rattle.std.proofs.Common.{◌≡◌, drop, map}
-use Rattle.sharing_check.specs.walking.Gathering.{gathering, gathering_guarded, gathering_labelled, gathering_arm, in_turn, all_beside}
+use Rattle.sharing_check.specs.internal.Gathering.{gathering, gathering_guarded, gathering_labelled, gathering_arm, in_turn, all_beside}
 use Rattle.sharing_check.proofs.clashes.+gathering.Given as goal
 
 abbrev pub invariant-add_sequence-loop-child : goal.invariant-add_sequence-loop-child

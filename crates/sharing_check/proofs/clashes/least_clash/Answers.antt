@@ -1,6 +1,6 @@
 -- What is found in the whole system is the least offset of a clash.
 use Rattle.std.proofs.Common.{◌≡◌, ap, ◌∙◌, [], None}
-use Rattle.sharing_check.specs.walking.Gathering.{Gathered, gathered, gathering}
+use Rattle.sharing_check.specs.internal.Gathering.{Gathered, gathered, gathering}
 use Rattle.sharing_check.proofs.AddsCommand.{least_is}
 use Rattle.sharing_check.proofs.clashes.least_clash.Goals as goal
 

@@ -10,9 +10,9 @@ use Rattle.system.specs.declared.expression.Expression.{Expression}
 use Rattle.system.specs.declared.expression.Use.{Use}
 use Rattle.system.specs.Residual as residual
 use Rattle.system.specs.Translation.{expression_of, residual_of, in_sequence, in_parallel, if_of, case_of, choose_of}
-use Rattle.system.specs.walking.ArmParts.{guarded_of, labelled_of, arm_of}
+use Rattle.system.specs.internal.ArmParts.{guarded_of, labelled_of, arm_of}
 use Rattle.sharing_check.specs.declared.widths.Together.TheVariants.{InOneBranch}
-use Rattle.sharing_check.specs.walking.Counting.{Table, nothing, noted, join, adding, in_turn, last_in_turn, arms_in_turn, side_by_side}
+use Rattle.sharing_check.specs.internal.Counting.{Table, nothing, table_of_widths, join, adding, in_turn, last_in_turn, arms_in_turn, side_by_side}
 use Rattle.sharing_check.proofs.CountParts.{used_by_send, used_by_receive, used_by_sync, adding_test, adding_input, adding_sequence, used_by_parallel, adding_done, adding_halted, adding_assign, adding_choose, used_by_loop, used_by_while}
 use Rattle.sharing_check.proofs.widths.+widths.Goals as goal
 
@@ -31,61 +31,61 @@ idle t command a of (inr (inr (x, w, v, e))) =
     sym (ap (λ r. adding t r) is ∙ adding_assign t x.number w (expression_of v))
 
 pub add_command-returns-in-Continue : goal.add_command-returns-in-Continue
-add_command-returns-in-Continue t c = idle (noted c.args.widths.now) c.args.command.now c.get.result.now c.get.ensures c.in-Continue.is
+add_command-returns-in-Continue t c = idle (table_of_widths c.args.widths.now) c.args.command.now c.get.result.now c.get.ensures c.in-Continue.is
 
 pub add_command-returns-in-Continue-2 : goal.add_command-returns-in-Continue-2
-add_command-returns-in-Continue-2 t c = idle (noted c.args.widths.now) c.args.command.now c.get.result.now c.get.ensures c.in-Continue.is
+add_command-returns-in-Continue-2 t c = idle (table_of_widths c.args.widths.now) c.args.command.now c.get.result.now c.get.ensures c.in-Continue.is
 
 pub add_command-returns-in-Continue-3 : goal.add_command-returns-in-Continue-3
-add_command-returns-in-Continue-3 t c = idle (noted c.args.widths.now) c.args.command.now c.get.result.now c.get.ensures c.in-Continue.is
+add_command-returns-in-Continue-3 t c = idle (table_of_widths c.args.widths.now) c.args.command.now c.get.result.now c.get.ensures c.in-Continue.is
 
 pub add_command-returns-in-Send : goal.add_command-returns-in-Send
 add_command-returns-in-Send t c =
-    let before = noted c.args.widths.now in
+    let before = table_of_widths c.args.widths.now in
     let is : residual_of c.args.command.now ≡ residual.send c.in-Send.channel.number c.in-Send.field-1 (expression_of c.in-Send.field-2) = search (rules, the_lemmas) in
-    subst (λ t. OnOk c.add.result (noted c.add.new.self ≡ t))
+    subst (λ t. OnOk c.add.result (table_of_widths c.add.new.self ≡ t))
     (sym (ap (λ r. adding before r) is ∙ ap (join InOneBranch before) (used_by_send c.in-Send.channel.number c.in-Send.field-1 (expression_of c.in-Send.field-2))))
     c.add.ensures
 
 pub add_command-returns-in-Receive : goal.add_command-returns-in-Receive
 add_command-returns-in-Receive t c =
-    let before = noted c.args.widths.now in
+    let before = table_of_widths c.args.widths.now in
     let is : residual_of c.args.command.now ≡ residual.receive c.in-Receive.channel.number c.in-Receive.field-1.number = search (rules, the_lemmas) in
-    subst (λ t. OnOk c.add-in-Receive.result (noted c.add-in-Receive.new.self ≡ t))
+    subst (λ t. OnOk c.add-in-Receive.result (table_of_widths c.add-in-Receive.new.self ≡ t))
     (sym (ap (λ r. adding before r) is ∙ ap (join InOneBranch before) (used_by_receive c.in-Receive.channel.number c.in-Receive.field-1.number)))
     c.add-in-Receive.ensures
 
 pub add_command-returns-in-Sync : goal.add_command-returns-in-Sync
 add_command-returns-in-Sync t c =
-    let before = noted c.args.widths.now in
+    let before = table_of_widths c.args.widths.now in
     let is : residual_of c.args.command.now ≡ residual.sync c.in-Sync.channel.number = search (rules, the_lemmas) in
-    subst (λ t. OnOk c.add-in-Sync.result (noted c.add-in-Sync.new.self ≡ t))
+    subst (λ t. OnOk c.add-in-Sync.result (table_of_widths c.add-in-Sync.new.self ≡ t))
     (sym (ap (λ r. adding before r) is ∙ ap (join InOneBranch before) (used_by_sync c.in-Sync.channel.number)))
     c.add-in-Sync.ensures
 
 pub add_command-returns-in-Loop : goal.add_command-returns-in-Loop
 add_command-returns-in-Loop t c =
-    let before = noted c.args.widths.now in
+    let before = table_of_widths c.args.widths.now in
     let is : residual_of c.args.command.now ≡ residual.loop 0 (residual_of c.in-Loop.body) = search (rules, the_lemmas) in
-    subst (λ t. OnOk c.add_command.result (noted c.add_command.new.widths ≡ t))
+    subst (λ t. OnOk c.add_command.result (table_of_widths c.add_command.new.widths ≡ t))
     (sym (ap (λ r. adding before r) is ∙ ap (join InOneBranch before) (used_by_loop 0 (residual_of c.in-Loop.body))))
     c.add_command.ensures
 
 pub add_command-returns-in-While : goal.add_command-returns-in-While
 add_command-returns-in-While t c =
-    let before = noted c.args.widths.now in
+    let before = table_of_widths c.args.widths.now in
     let is : residual_of c.args.command.now ≡ residual.while 0 (expression_of c.in-While.field-0) (residual_of c.in-While.body) = search (rules, the_lemmas) in
-    subst (λ t. OnOk c.add_command-in-While.result (noted c.add_command-in-While.new.widths ≡ t))
+    subst (λ t. OnOk c.add_command-in-While.result (table_of_widths c.add_command-in-While.new.widths ≡ t))
     (sym (ap (λ r. adding before r) is ∙ ap (join InOneBranch before) (used_by_while 0 (expression_of c.in-While.field-0) (residual_of c.in-While.body))))
     c.add_command-in-While.ensures
 
 pub add_command-returns-in_ok-add_guarded-in-If : goal.add_command-returns-in_ok-add_guarded-in-If
 add_command-returns-in_ok-add_guarded-in-If t c =
-    let before = noted c.args.widths.now in
+    let before = table_of_widths c.args.widths.now in
     let arms = map guarded_of c.in-If.arms in
     let last = option_map residual_of c.in-If.last in
     let is : residual_of c.args.command.now ≡ if_of arms last = search (rules, the_lemmas) in
-    subst (λ t. OnOk c.add_last.result (noted c.add_last.new.widths ≡ t))
+    subst (λ t. OnOk c.add_last.result (table_of_widths c.add_last.new.widths ≡ t))
     (ap (λ t. last_in_turn t last)
     (c.in_ok-add_guarded-in-If.ensures ∙ ap (λ gs. in_turn before (map (λ a. a.body) (map guarded_of gs))) c.as_slice.ensures)
     ∙ sym (ap (λ r. adding before r) is ∙ adding_test before _ (map (λ a. a.body) arms) last))
@@ -93,11 +93,11 @@ add_command-returns-in_ok-add_guarded-in-If t c =
 
 pub add_command-returns-in_ok-add_labelled-in-Case : goal.add_command-returns-in_ok-add_labelled-in-Case
 add_command-returns-in_ok-add_labelled-in-Case t c =
-    let before = noted c.args.widths.now in
+    let before = table_of_widths c.args.widths.now in
     let arms = map labelled_of c.in-Case.arms in
     let last = option_map residual_of c.in-Case.last in
     let is : residual_of c.args.command.now ≡ case_of (expression_of c.in-Case.field-0) arms last = search (rules, the_lemmas) in
-    subst (λ t. OnOk c.add_last-in-Case.result (noted c.add_last-in-Case.new.widths ≡ t))
+    subst (λ t. OnOk c.add_last-in-Case.result (table_of_widths c.add_last-in-Case.new.widths ≡ t))
     (ap (λ t. last_in_turn t last)
     (c.in_ok-add_labelled-in-Case.ensures ∙ ap (λ ls. in_turn before (map (λ a. a.body) (map labelled_of ls))) c.as_slice-in-Case.ensures)
     ∙ sym (ap (λ r. adding before r) is ∙ adding_test before _ (map (λ a. a.body) arms) last))
@@ -105,39 +105,39 @@ add_command-returns-in_ok-add_labelled-in-Case t c =
 
 pub add_command-returns-in_ok-add-in-Input : goal.add_command-returns-in_ok-add-in-Input
 add_command-returns-in_ok-add-in-Input t c =
-    let before = noted c.args.widths.now in
+    let before = table_of_widths c.args.widths.now in
     let channel = c.in-Input.channel.number in
     let body = residual_of c.in-Input.body in
     let is : residual_of c.args.command.now ≡ residual.choose (channel ∷ []) (residual.arm body residual.no_arms) = search (rules, the_lemmas) in
-    subst (λ t. OnOk c.add_command-in-Input.result (noted c.add_command-in-Input.new.widths ≡ t))
+    subst (λ t. OnOk c.add_command-in-Input.result (table_of_widths c.add_command-in-Input.new.widths ≡ t))
     (ap (λ t. adding t body) c.in_ok-add-in-Input.ensures ∙ sym (ap (λ r. adding before r) is ∙ adding_input before channel body))
     c.add_command-in-Input.ensures
 
 pub add_command-returns-in-Select : goal.add_command-returns-in-Select
 add_command-returns-in-Select t c =
-    let before = noted c.args.widths.now in
+    let before = table_of_widths c.args.widths.now in
     let is : residual_of c.args.command.now ≡ choose_of (map arm_of c.in-Select.arms) = search (rules, the_lemmas) in
-    subst (λ t. OnOk c.add_arms.result (noted c.add_arms.new.widths ≡ t))
+    subst (λ t. OnOk c.add_arms.result (table_of_widths c.add_arms.new.widths ≡ t))
     (ap (λ ws. arms_in_turn before (map arm_of ws)) c.as_slice-in-Select.ensures
     ∙ sym (ap (λ r. adding before r) is ∙ adding_choose before (map arm_of c.in-Select.arms)))
     c.add_arms.ensures
 
 pub add_command-returns-in-Sequence : goal.add_command-returns-in-Sequence
 add_command-returns-in-Sequence t c =
-    let before = noted c.args.widths.now in
+    let before = table_of_widths c.args.widths.now in
     let children = map residual_of c.in-Sequence.children in
     let is : residual_of c.args.command.now ≡ in_sequence 0 children = search (rules, the_lemmas) in
-    subst (λ t. OnOk c.add_commands.result (noted c.add_commands.new.widths ≡ t))
+    subst (λ t. OnOk c.add_commands.result (table_of_widths c.add_commands.new.widths ≡ t))
     (ap (λ cs. in_turn before (map residual_of cs)) c.as_slice-in-Sequence.ensures
     ∙ sym (ap (λ r. adding before r) is ∙ adding_sequence before 0 children))
     c.add_commands.ensures
 
 pub add_command-returns-in_ok-branches-in-Parallel : goal.add_command-returns-in_ok-branches-in-Parallel
 add_command-returns-in_ok-branches-in-Parallel t c =
-    let before = noted c.args.widths.now in
+    let before = table_of_widths c.args.widths.now in
     let children = map residual_of c.in-Parallel.children in
     let is : residual_of c.args.command.now ≡ in_parallel 0 children = search (rules, the_lemmas) in
-    subst (λ t. OnOk c.merge.result (noted c.merge.new.self ≡ t))
+    subst (λ t. OnOk c.merge.result (table_of_widths c.merge.new.self ≡ t))
     (ap (join InOneBranch before)
     (c.in_ok-branches-in-Parallel.ensures
     ∙ (ap (λ cs. side_by_side nothing (map residual_of cs)) c.as_slice-in-Parallel.ensures ∙ sym (used_by_parallel 0 children)))

@@ -1,5 +1,5 @@
 use Rattle.std.proofs.Common.{◌≡◌, None}
-use Rattle.sharing_check.specs.walking.Counting.{least_onto}
+use Rattle.sharing_check.specs.internal.Counting.{least_onto}
 use Rattle.sharing_check.proofs.widths.least_of.Given as goal
 
 abbrev pub invariant-loop-channel : goal.invariant-loop-channel

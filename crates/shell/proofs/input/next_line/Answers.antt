@@ -1,5 +1,5 @@
 use Rattle.std.proofs.Common.{inl, inr}
-use Rattle.debug_session.proofs.LineLemmas.{takes-last, takes-part}
+use Rattle.debug_session.proofs.public.LineLemmas.{takes-last, takes-part}
 use Rattle.shell.proofs.input.next_line.Goals as goal
 
 pub returns-in-Ok : goal.returns-in-Ok

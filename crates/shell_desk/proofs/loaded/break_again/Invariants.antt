@@ -1,4 +1,4 @@
-use Rattle.shell_desk.specs.walking.Again.{SetsAgain, IsUpTo}
+use Rattle.shell_desk.specs.internal.Again.{SetsAgain, IsUpTo}
 use Rattle.shell_desk.proofs.loaded.break_again.Given as goal
 
 abbrev pub invariant-loop-line : goal.invariant-loop-line

@@ -1,5 +1,5 @@
 use Rattle.locked_execution.specs.AtDesk.{new_desk}
-use Rattle.shell_desk.specs.walking.Again.{SetsAgain, IsOfFirst}
+use Rattle.shell_desk.specs.internal.Again.{SetsAgain, IsOfFirst}
 use Rattle.shell_desk.proofs.loaded.desk_like.Given as goal
 
 abbrev pub invariant-loop-session : goal.invariant-loop-session

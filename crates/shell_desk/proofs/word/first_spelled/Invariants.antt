@@ -1,5 +1,5 @@
 use Rattle.std.proofs.Common.{◌≡◌, length}
-use Rattle.shell_desk.specs.walking.Spelled as spec
+use Rattle.shell_desk.specs.internal.Spelled as spec
 use Rattle.shell_desk.proofs.word.first_spelled.Given as goal
 
 -- what is found in the rest is what is found in all

@@ -1,7 +1,7 @@
 -- With the parts that are left, the calls are those of all.
 use Rattle.std.proofs.Common.{◌≡◌, drop, map}
 use Rattle.source_calls.specs.Counts.{calls_in, with_all}
-use Rattle.source_calls.specs.walking.Parts.{calls_in_guarded, calls_in_labelled, calls_in_arm}
+use Rattle.source_calls.specs.internal.Parts.{calls_in_guarded, calls_in_labelled, calls_in_arm}
 use Rattle.source_calls.proofs.parts.+calls.Given as goal
 
 abbrev pub invariant-calls_in_all-loop-command : goal.invariant-calls_in_all-loop-command

@@ -1,4 +1,4 @@
-use Rattle.runs.specs.walking.EventLaws.{decided, same_place-decides}
+use Rattle.runs.specs.internal.EventLaws.{decided, same_place-decides}
 use Rattle.source_view.proofs.conflict.same_place.Goals as goal
 
 pub returns : goal.returns

@@ -1,5 +1,5 @@
 use Rattle.std.proofs.Common.{◌≡◌, List, length, drop, take_at, ap, sym, subst, arith}
-use Rattle.source_view.specs.walking.Marking.{AreMarks, break_mark}
+use Rattle.source_view.specs.internal.Marking.{AreMarks, break_mark}
 use Rattle.source_view.specs.View.{marks_on}
 use Rattle.source_view.specs.declared.marks.Marks.{Marks}
 use Rattle.source_view.proofs.Agreeing.{gathered}

@@ -1,7 +1,7 @@
 use Rattle.std.proofs.Common.{◌≡◌, suc, ◌+◌, ◌≤◌, ◌++◌, length}
 use Rattle.syntax.specs.Texts.{lines}
 use Rattle.source_view.specs.View.{lines_text}
-use Rattle.source_view.specs.walking.Marking.{marks_at}
+use Rattle.source_view.specs.internal.Marking.{marks_at}
 use Rattle.source_view.proofs.text.write_lines.Given as goal
 
 abbrev pub invariant-loop-index : goal.invariant-loop-index

@@ -1,5 +1,5 @@
 use Rattle.std.proofs.Common.{take}
-use Rattle.stimulus.specs.walking.CutAt.{Lacks}
+use Rattle.stimulus.specs.internal.CutAt.{Lacks}
 use Rattle.stimulus.proofs.entry.length_before.Given as goal
 
 -- the byte is not among those passed

@@ -1,6 +1,6 @@
 use Rattle.std.proofs.Common.{◌≡◌, false, sym, ◌∙◌, subst}
 use Rattle.lexer.specs.Names.{is_name}
-use Rattle.stimulus.specs.walking.LineParts.{IsNoGiven}
+use Rattle.stimulus.specs.internal.LineParts.{IsNoGiven}
 use Rattle.stimulus.proofs.Entries.{no_entry-name, no_entry-given}
 use Rattle.stimulus.proofs.entry.read_entry.Goals as goal
 

@@ -1,6 +1,6 @@
 use Rattle.std.proofs.Common.{◌≡◌, drop, map}
 use Rattle.system.specs.Expression.{ascending, variables_of_all}
-use Rattle.system.specs.walking.Variables.{inserted_all}
+use Rattle.system.specs.internal.Variables.{inserted_all}
 use Rattle.system.specs.Translation.{expression_of}
 use Rattle.system.proofs.decision.variables_of_all.Given as goal
 

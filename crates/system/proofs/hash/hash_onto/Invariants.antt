@@ -1,5 +1,5 @@
 use Rattle.std.proofs.Common.{◌≡◌, drop}
-use Rattle.system.specs.walking.Hashing as hashing
+use Rattle.system.specs.internal.Hashing as hashing
 use Rattle.system.proofs.hash.hash_onto.Given as goal
 
 abbrev pub invariant-loop-byte : goal.invariant-loop-byte

@@ -1,7 +1,7 @@
 -- What is found from here on is what is found in all.
 use Rattle.std.proofs.Common.{◌≡◌, drop, map, None}
 use Rattle.system_places.specs.CommandPlaces.{first_onto}
-use Rattle.system_places.specs.walking.Parts.{found_in_guarded, found_in_labelled, found_in_arm}
+use Rattle.system_places.specs.internal.Parts.{found_in_guarded, found_in_labelled, found_in_arm}
 use Rattle.system_places.proofs.command_places.+places.Given as goal
 
 abbrev pub invariant-first_guarded-loop-arm : goal.invariant-first_guarded-loop-arm

@@ -1,7 +1,7 @@
 -- What is found from here on is what is found in all.
 use Rattle.std.proofs.Common.{◌≡◌, drop, map, false}
 use Rattle.system_places.specs.LinesBegun.{any_onto, begins}
-use Rattle.system_places.specs.walking.Parts.{guarded_begins, labelled_begins, arm_begins}
+use Rattle.system_places.specs.internal.Parts.{guarded_begins, labelled_begins, arm_begins}
 use Rattle.system_places.proofs.lines_begun.+begun.Given as goal
 
 abbrev pub invariant-commands_begin-loop-command : goal.invariant-commands_begin-loop-command

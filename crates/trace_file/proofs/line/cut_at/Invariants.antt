@@ -1,5 +1,5 @@
 use Rattle.std.proofs.Common.{take}
-use Rattle.trace_file.specs.walking.Fields.{HasNone}
+use Rattle.trace_file.specs.internal.Fields.{HasNone}
 use Rattle.trace_file.proofs.line.cut_at.Given as goal
 
 -- the bytes passed are others

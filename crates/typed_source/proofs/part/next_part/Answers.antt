@@ -1,6 +1,6 @@
 use Rattle.std.proofs.Common.{◌≡◌, false, Err, rules}
-use Rattle.lexer.specs.walking.Parts.{BeginsProcedure}
-use Rattle.typed_source.specs.walking.InParts.{ReadsPart, is_end}
+use Rattle.lexer.specs.internal.Parts.{BeginsProcedure}
+use Rattle.typed_source.specs.internal.InParts.{ReadsPart, is_end}
 use Rattle.typed_source.proofs.PartLemmas.{next_read, next_refused, reads_first, refuses_next}
 use Rattle.typed_source.proofs.part.next_part.Goals as goal
 use Rattle.typed_source.proofs.part.next_part.Goals.{else-not-is_first-via-then-not-is_first+else-not-begins_procedure, else-not-is_first-via-else-not-is_first}

@@ -1,6 +1,6 @@
 use Rattle.std.proofs.Common.{◌≡◌, ◌++◌, ◌∙◌, List, ap, refl}
 use Rattle.lexer.specs.declared.token.Token.{Token}
-use Rattle.typed_source.specs.walking.InParts.{is_end}
+use Rattle.typed_source.specs.internal.InParts.{is_end}
 use Rattle.typed_source.proofs.PartLemmas.{not_end, refuses_ahead}
 use Rattle.typed_source.proofs.part.refuse_with_next.Goals as goal
 use Rattle.typed_source.proofs.part.refuse_with_next.Goals.{in-EndOfSource, in_default}

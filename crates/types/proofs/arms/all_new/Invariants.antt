@@ -1,8 +1,8 @@
 use Rattle.std.proofs.Common.{◌≡◌, drop}
 use Rattle.types.specs.Arms.{new_labels}
 use Rattle.types.specs.Findings.{and_all, demands}
-use Rattle.types.specs.walking.Least.{least}
-use Rattle.types.specs.walking.Owed.{with_all_seen}
+use Rattle.types.specs.internal.Least.{least}
+use Rattle.types.specs.internal.Owed.{with_all_seen}
 use Rattle.types.proofs.arms.all_new.Given as goal
 
 -- with the labels that are left, the outcome and the values seen are those of all

@@ -1,7 +1,7 @@
 use Rattle.std.proofs.Common.{◌≡◌, drop, map}
 use Rattle.types.specs.Arms.{new_channels, channel_of_arm}
 use Rattle.types.specs.Findings.{and_all, demands}
-use Rattle.types.specs.walking.Least.{least}
+use Rattle.types.specs.internal.Least.{least}
 use Rattle.types.proofs.arms.different.Given as goal
 
 -- with the arms that are left, the outcome is that of all

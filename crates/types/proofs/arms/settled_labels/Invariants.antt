@@ -1,8 +1,8 @@
 use Rattle.std.proofs.Common.{◌≡◌, drop, map}
 use Rattle.types.specs.Arms.{judged_label, judged_labels}
-use Rattle.types.specs.walking.Scopes.{entries}
+use Rattle.types.specs.internal.Scopes.{entries}
 use Rattle.types.specs.Findings.{with_all}
-use Rattle.types.specs.walking.Least.{least}
+use Rattle.types.specs.internal.Least.{least}
 use Rattle.types.proofs.arms.settled_labels.Given as goal
 
 -- with the labels that are left, those so far are all

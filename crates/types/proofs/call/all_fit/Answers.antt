@@ -1,4 +1,4 @@
-use Rattle.types.specs.walking.Scopes.{entries}
+use Rattle.types.specs.internal.Scopes.{entries}
 use Rattle.types.proofs.CallLemmas.{all_fit-lengths}
 use Rattle.types.proofs.call.all_fit.Goals as goal
 

@@ -1,6 +1,6 @@
 use Rattle.std.proofs.Common.{◌≡◌, drop, length}
 use Rattle.types.specs.Calls.{all_fit}
-use Rattle.types.specs.walking.Scopes.{entries}
+use Rattle.types.specs.internal.Scopes.{entries}
 use Rattle.types.proofs.call.all_fit.Given as goal
 
 -- all fit exactly where those that are left do

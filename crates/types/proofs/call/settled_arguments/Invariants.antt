@@ -1,8 +1,8 @@
 use Rattle.std.proofs.Common.{◌≡◌, drop, map}
 use Rattle.types.specs.Calls.{judged_argument, judged_arguments}
-use Rattle.types.specs.walking.Scopes.{entries}
+use Rattle.types.specs.internal.Scopes.{entries}
 use Rattle.types.specs.Findings.{with_all}
-use Rattle.types.specs.walking.Least.{least}
+use Rattle.types.specs.internal.Least.{least}
 use Rattle.types.proofs.call.settled_arguments.Given as goal
 
 -- with the arguments that are left, those so far are all

@@ -1,6 +1,6 @@
 -- What the arms of `if` and `case` owe, of right arms alone.
 use Rattle.std.proofs.Common.{◌∙◌}
-use Rattle.types.specs.walking.Scopes.{scope_of}
+use Rattle.types.specs.internal.Scopes.{scope_of}
 use Rattle.types.proofs.Owed.{if_is, case_is}
 use Rattle.types.proofs.command.+settled_command.Goals as goal
 

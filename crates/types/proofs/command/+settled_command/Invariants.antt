@@ -1,10 +1,10 @@
 use Rattle.std.proofs.Common.{◌≡◌, [], drop, map, Ok}
 use Rattle.types.specs.Commands.{judged_command, each}
 use Rattle.types.specs.Findings.{with_all, all, and_all, demands}
-use Rattle.types.specs.walking.CommandParts.{judged_arm}
-use Rattle.types.specs.walking.Least.{least}
-use Rattle.types.specs.walking.Owed.{guarded_arm, guard_owed, labelled_arm, labels_of, labels_owed}
-use Rattle.types.specs.walking.Scopes.{scope_of}
+use Rattle.types.specs.internal.CommandParts.{judged_arm}
+use Rattle.types.specs.internal.Least.{least}
+use Rattle.types.specs.internal.Owed.{guarded_arm, guard_owed, labelled_arm, labels_of, labels_owed}
+use Rattle.types.specs.internal.Scopes.{scope_of}
 use Rattle.types.proofs.command.+settled_command.Given as goal
 
 -- with the commands that are left, those so far are all

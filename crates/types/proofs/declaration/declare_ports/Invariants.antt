@@ -1,7 +1,7 @@
 use Rattle.std.proofs.Common.{◌≡◌, drop}
 use Rattle.types.specs.Declarations.{all_ports, behind}
-use Rattle.types.specs.walking.Scopes.{entries}
-use Rattle.types.specs.walking.Least.{least}
+use Rattle.types.specs.internal.Scopes.{entries}
+use Rattle.types.specs.internal.Least.{least}
 use Rattle.types.proofs.declaration.declare_ports.Given as goal
 
 -- with the declarations that are left, those so far are all

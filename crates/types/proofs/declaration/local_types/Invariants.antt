@@ -1,8 +1,8 @@
 use Rattle.std.proofs.Common.{◌≡◌, drop, map}
 use Rattle.types.specs.Declarations.{local_type, local_types}
 use Rattle.types.specs.Findings.{and_all}
-use Rattle.types.specs.walking.Scopes.{entries}
-use Rattle.types.specs.walking.Least.{least}
+use Rattle.types.specs.internal.Scopes.{entries}
+use Rattle.types.specs.internal.Least.{least}
 use Rattle.types.proofs.declaration.local_types.Given as goal
 
 -- with the declarations that are left, the outcome is that of all

@@ -1,6 +1,6 @@
 use Rattle.std.proofs.Common.{rules, ◌∙◌, ap, map}
-use Rattle.types.specs.walking.Least.{least}
-use Rattle.types.specs.walking.Scopes.{entries, scope_of}
+use Rattle.types.specs.internal.Least.{least}
+use Rattle.types.specs.internal.Scopes.{entries, scope_of}
 use Rattle.types.specs.Findings.{and}
 use Rattle.types.proofs.DeclarationLemmas.{procedure_is, visible_after}
 use Rattle.types.proofs.declaration.settled_procedure.Goals as goal

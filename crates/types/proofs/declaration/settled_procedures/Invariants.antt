@@ -1,7 +1,7 @@
 use Rattle.std.proofs.Common.{◌≡◌, drop}
-use Rattle.types.specs.walking.Judged.{scope_behind}
-use Rattle.types.specs.walking.Least.{least}
-use Rattle.types.specs.walking.Scopes.{scope_of}
+use Rattle.types.specs.internal.Judged.{scope_behind}
+use Rattle.types.specs.internal.Least.{least}
+use Rattle.types.specs.internal.Scopes.{scope_of}
 use Rattle.types.specs.Declarations.{with_procedures}
 use Rattle.types.proofs.declaration.settled_procedures.Given as goal
 

@@ -2,17 +2,17 @@ use Rattle.std.proofs.Common.{◌≡◌, ◌∙◌, List, Bool, map, sym, ap, ap
 use Rattle.runs.specs.Steps.{State}
 use Rattle.runs.specs.Ready.{ReadyList}
 use Rattle.runs.specs.declared.event.Event.{Event}
-use Rattle.offered_sides.specs.Sides.{OffersExactly}
-use Rattle.offered_sides.specs.View.{state_of}
-use Rattle.offered_sides.specs.declared.side.OfferedSide.{OfferedSide}
+use Rattle.local_actions.specs.Actions.{OffersExactly}
+use Rattle.local_actions.specs.View.{state_of}
+use Rattle.local_actions.specs.declared.action.LocalAction.{LocalAction}
 use Rattle.rings.specs.Partners.{partner_in}
 use Rattle.rings.specs.Rings.{TellsDeadlocked, TellsRing}
 use Rattle.waiting.specs.Input.{helped_in}
 use Rattle.waiting.specs.Waits.{ListsWaiting}
 use Rattle.waiting.specs.Progress.{StandsLike}
 use Rattle.waiting.specs.declared.progress.Progress.{Progress}
-use Rattle.waiting.specs.walking.Among.{left_over, progress_of}
-use Rattle.waiting.specs.walking.Repeats.{each_once}
+use Rattle.waiting.specs.internal.Among.{left_over, progress_of}
+use Rattle.waiting.specs.internal.Repeats.{each_once}
 use Rattle.waiting.proofs.Leftover.{lists-waiting, stands-like}
 use Rattle.waiting.proofs.RingOfState.{names-deadlocked, names-ring}
 use Rattle.waiting.proofs.waiting.who_waits.Goals as goal
@@ -21,42 +21,42 @@ pub returns : goal.returns
 returns c =
     let S : State = state_of c.in_ok-state.state.tree c.in_ok-state.state.store in
     let stands = c.in_ok-state.ensures in
-    let sides : List OfferedSide = c.in_ok-sides.sides in
+    let actions : List LocalAction = c.in_ok-actions.actions in
     let events : List Event = c.in_ok-ready.ready in
-    let exact : OffersExactly S sides = c.in_ok-sides.ensures.exactly stands.tidy in
+    let exact : OffersExactly S actions = c.in_ok-actions.ensures.exactly stands.tidy in
     let ready = c.in_ok-ready.ensures in
     let one = c.is_sound.ensures.one_state in
     let same : ready.0 ≡ S = one.2 ready.0 ready.1 ∙ sym (one.2 S stands.reaches) in
     let list : ReadyList S events = subst (λ (T : State). ReadyList T events) same ready.2 in
-    let left : c.left_over.result ≡ left_over events sides = c.left_over.ensures ∙ ap (λ (es : List Event). left_over es sides) c.as_slice-3.ensures in
-    let told : c.progress_of-progress.result ≡ progress_of sides events =
-    c.progress_of-progress.ensures ∙ ap₂ (λ (xs : List OfferedSide) (es : List Event). progress_of xs es) c.as_slice.ensures c.as_slice-2.ensures in
-    let kept : List OfferedSide = c.in_ok-sides-2.sides in
-    let once : kept ≡ each_once (left_over events sides) = c.in_ok-sides-2.ensures ∙ ap each_once left in
+    let left : c.left_over.result ≡ left_over events actions = c.left_over.ensures ∙ ap (λ (es : List Event). left_over es actions) c.as_slice-3.ensures in
+    let told : c.progress_of-progress.result ≡ progress_of actions events =
+    c.progress_of-progress.ensures ∙ ap₂ (λ (xs : List LocalAction) (es : List Event). progress_of xs es) c.as_slice.ensures c.as_slice-2.ensures in
+    let kept : List LocalAction = c.in_ok-actions-2.actions in
+    let once : kept ≡ each_once (left_over events actions) = c.in_ok-actions-2.ensures ∙ ap each_once left in
     let waits : ListsWaiting S kept =
-    subst (λ (xs : List OfferedSide). ListsWaiting S xs) (sym once) (lists-waiting S sides events exact (c.in_ok-sides.ensures.in_order stands.tidy) list) in
+    subst (λ (xs : List LocalAction). ListsWaiting S xs) (sym once) (lists-waiting S actions events exact (c.in_ok-actions.ensures.in_order stands.tidy) list) in
     let partners : c.in_ok-partners.partners.items ≡ map (partner_in S.residual) kept =
-    c.in_ok-partners.ensures ∙ ap (λ (xs : List OfferedSide). map (partner_in S.residual) xs) c.as_slice-4.ensures in
+    c.in_ok-partners.ensures ∙ ap (λ (xs : List LocalAction). map (partner_in S.residual) xs) c.as_slice-4.ensures in
     let given : c.as_slice-6.result.now ≡ map (partner_in S.residual) c.as_slice-5.result.now =
-    c.as_slice-6.ensures.value ∙ partners ∙ ap (λ (xs : List OfferedSide). map (partner_in S.residual) xs) (sym c.as_slice-5.ensures) in
+    c.as_slice-6.ensures.value ∙ partners ∙ ap (λ (xs : List LocalAction). map (partner_in S.residual) xs) (sym c.as_slice-5.ensures) in
     let marks : List Bool = c.in_ok-deadlocked.deadlocked.items in
     let dead : TellsDeadlocked (helped_in c.args.machine.now S) S.residual kept marks =
-    subst (λ (xs : List OfferedSide). TellsDeadlocked (helped_in c.args.machine.now S) S.residual xs marks) c.as_slice-5.ensures (c.in_ok-deadlocked.ensures S.residual given) in
+    subst (λ (xs : List LocalAction). TellsDeadlocked (helped_in c.args.machine.now S) S.residual xs marks) c.as_slice-5.ensures (c.in_ok-deadlocked.ensures S.residual given) in
     let given-again : c.as_slice-8.result.now ≡ map (partner_in S.residual) c.as_slice-7.result.now =
-    c.as_slice-8.ensures.value ∙ partners ∙ ap (λ (xs : List OfferedSide). map (partner_in S.residual) xs) (sym c.as_slice-7.ensures) in
+    c.as_slice-8.ensures.value ∙ partners ∙ ap (λ (xs : List LocalAction). map (partner_in S.residual) xs) (sym c.as_slice-7.ensures) in
     let dead-again : TellsDeadlocked (helped_in c.args.machine.now S) S.residual c.as_slice-7.result.now c.as_slice-9.result.now =
-    subst (λ (xs : List OfferedSide). TellsDeadlocked (helped_in c.args.machine.now S) S.residual xs c.as_slice-9.result.now) (sym c.as_slice-7.ensures)
+    subst (λ (xs : List LocalAction). TellsDeadlocked (helped_in c.args.machine.now S) S.residual xs c.as_slice-9.result.now) (sym c.as_slice-7.ensures)
     (subst (λ (bs : List Bool). TellsDeadlocked (helped_in c.args.machine.now S) S.residual kept bs) (sym c.as_slice-9.ensures.value) dead) in (
       S,
       stands.reaches,
       record {
-        progress = subst (λ (p : Progress). StandsLike S p) (sym told) (stands-like S sides events exact list);
+        progress = subst (λ (p : Progress). StandsLike S p) (sym told) (stands-like S actions events exact list);
         ready = list;
-        sides = waits;
+        actions = waits;
         partners = partners;
         deadlocked = names-deadlocked c.args.machine.now S kept marks waits dead;
         ring = names-ring c.args.machine.now S kept c.in_ok-ring.ring.items waits
-            (subst (λ (xs : List OfferedSide). TellsRing (helped_in c.args.machine.now S) S.residual xs c.in_ok-ring.ring.items) c.as_slice-7.ensures
+            (subst (λ (xs : List LocalAction). TellsRing (helped_in c.args.machine.now S) S.residual xs c.in_ok-ring.ring.items) c.as_slice-7.ensures
             (c.in_ok-ring.ensures S.residual (helped_in c.args.machine.now S) given-again dead-again));
       },
     )

@@ -1,7 +1,7 @@
 use Rattle.std.proofs.Common.{List, take, subst, sym, arith}
 use Rattle.address.specs.declared.Entry.{Entry}
 use Rattle.runs.specs.declared.event.Event.{Event}
-use Rattle.calculus.specs.walking.Comparing.{Indexes, PutAt}
+use Rattle.calculus.specs.internal.Comparing.{Indexes, PutAt}
 use Rattle.calculus.proofs.IndexLaws.{indexes-more}
 use Rattle.calculus.proofs.ListPlaces.{item-got, taken-more, taken-length}
 use Rattle.calculus.proofs.index.Index.of.Goals as goal

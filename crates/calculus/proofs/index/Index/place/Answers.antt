@@ -1,6 +1,6 @@
 use Rattle.std.proofs.Common.{List, ap, ◌∙◌}
 use Rattle.address.specs.declared.Entry.{Entry}
-use Rattle.calculus.specs.walking.Comparing.{place_at}
+use Rattle.calculus.specs.internal.Comparing.{place_at}
 use Rattle.calculus.proofs.IndexLaws.{looked}
 use Rattle.calculus.proofs.index.Index.place.Goals as goal
 

@@ -1,4 +1,4 @@
-use Rattle.calculus.specs.Left.{state_of}
+use Rattle.calculus.specs.ResidualTree.{state_of}
 use Rattle.calculus.proofs.Replayed.{stepped}
 use Rattle.calculus.proofs.plain.Plain.after.Goals as goal
 

@@ -1,4 +1,4 @@
-use Rattle.calculus.specs.Left.{state_of}
+use Rattle.calculus.specs.ResidualTree.{state_of}
 use Rattle.calculus.proofs.Replayed.{listed}
 use Rattle.calculus.proofs.plain.Plain.allowed.Goals as goal
 

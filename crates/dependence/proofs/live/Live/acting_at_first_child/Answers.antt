@@ -4,8 +4,8 @@ use Rattle.runs.specs.Live.{Live}
 use Rattle.last_events.specs.LastEvents.{first_child}
 use Rattle.dependence.specs.Acting.{ActsAlone, NoneActs}
 use Rattle.dependence.specs.Shown.{Shown}
-use Rattle.dependence.specs.walking.Tables.{IsRising}
-use Rattle.dependence.specs.walking.Tabled.{TablesOf}
+use Rattle.dependence.specs.internal.Tables.{IsRising}
+use Rattle.dependence.specs.internal.Tabled.{TablesOf}
 use Rattle.dependence.proofs.live.Live.acting_at_first_child.Goals as goal
 
 pub acting_at_first_child-requires : goal.acting_at_first_child-requires

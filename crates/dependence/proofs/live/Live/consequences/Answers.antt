@@ -3,7 +3,7 @@ use Rattle.std.specs.Prelude.{IfOk}
 use Rattle.runs.specs.Live.{Live, IsLive, ConsequencesList}
 use Rattle.dependence.specs.Shown.{Shown}
 use Rattle.dependence.specs.declared.links.Links.{Links}
-use Rattle.dependence.specs.walking.Tables.{IsRising, Linked}
+use Rattle.dependence.specs.internal.Tables.{IsRising, Linked}
 use Rattle.dependence.proofs.live.Live.consequences.Goals as goal
 
 pub consequences-requires : goal.consequences-requires

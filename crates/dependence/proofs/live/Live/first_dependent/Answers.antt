@@ -3,7 +3,7 @@ use Rattle.std.specs.Prelude.{MatchOption}
 use Rattle.runs.specs.Live.{Live, NoDependent, FirstDependent, IsLive}
 use Rattle.dependence.specs.Shown.{Shown}
 use Rattle.dependence.specs.declared.links.Links.{Links}
-use Rattle.dependence.specs.walking.Tables.{IsRising, Linked}
+use Rattle.dependence.specs.internal.Tables.{IsRising, Linked}
 use Rattle.dependence.proofs.live.Live.first_dependent.Goals as goal
 
 pub least_dependent-requires : goal.least_dependent-requires

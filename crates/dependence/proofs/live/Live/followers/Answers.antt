@@ -3,7 +3,7 @@ use Rattle.runs.specs.Live.{Live, IsLive}
 use Rattle.dependence.specs.Followers.{ListsFollowers}
 use Rattle.dependence.specs.Shown.{Shown}
 use Rattle.dependence.specs.declared.links.Links.{Links}
-use Rattle.dependence.specs.walking.Tables.{IsRising, Linked}
+use Rattle.dependence.specs.internal.Tables.{IsRising, Linked}
 use Rattle.dependence.proofs.live.Live.followers.Goals as goal
 
 pub followers_of-requires : goal.followers_of-requires

@@ -2,7 +2,7 @@ use Rattle.std.proofs.Common.{sym, subst}
 use Rattle.std.specs.Prelude.{MatchOption}
 use Rattle.runs.specs.Live.{Live, NoneAt}
 use Rattle.dependence.specs.Shown.{Shown}
-use Rattle.dependence.specs.walking.Tables.{IsRising, StandsAt}
+use Rattle.dependence.specs.internal.Tables.{IsRising, StandsAt}
 use Rattle.dependence.proofs.live.Live.index_of.Goals as goal
 
 pub index_of-requires : goal.index_of-requires

@@ -1,6 +1,6 @@
 use Rattle.std.proofs.Common.{subst}
 use Rattle.dependence.specs.Shown.{Shown, IsSound}
-use Rattle.dependence.proofs.Markings.{all-sound}
+use Rattle.dependence.proofs.public.Markings.{all-sound}
 use Rattle.dependence.proofs.live.Live.is_sound.Goals as goal
 
 pub returns : goal.returns

@@ -2,7 +2,7 @@ use Rattle.std.proofs.Common.{◌≡◌, ◌∙◌, ℕ, List, Bool, length, sym
 use Rattle.syntax.specs.Lists.{In}
 use Rattle.dependence.specs.Shown.{Shown, tickets_marked}
 use Rattle.dependence.specs.Taking.{StaysBeside}
-use Rattle.dependence.specs.walking.Unmarked.{unmarked}
+use Rattle.dependence.specs.internal.Unmarked.{unmarked}
 use Rattle.dependence.proofs.Unmarking.{flags-tell, unmarked-stays}
 use Rattle.dependence.proofs.live.Live.keep_unmarked.Goals as goal
 

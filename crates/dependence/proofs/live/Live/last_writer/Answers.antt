@@ -2,8 +2,8 @@ use Rattle.std.proofs.Common.{sym, subst}
 use Rattle.std.specs.Prelude.{MatchOption}
 use Rattle.runs.specs.Live.{Live, LastWriter, NoWriter}
 use Rattle.dependence.specs.Shown.{Shown}
-use Rattle.dependence.specs.walking.Tables.{IsRising}
-use Rattle.dependence.specs.walking.Tabled.{TablesOf}
+use Rattle.dependence.specs.internal.Tables.{IsRising}
+use Rattle.dependence.specs.internal.Tabled.{TablesOf}
 use Rattle.dependence.proofs.live.Live.last_writer.Goals as goal
 
 pub last_writer-requires : goal.last_writer-requires

@@ -3,7 +3,7 @@ use Rattle.runs.specs.Live.{Live, IsLive}
 use Rattle.dependence.specs.Followers.{ListsLeads}
 use Rattle.dependence.specs.Shown.{Shown}
 use Rattle.dependence.specs.declared.links.Links.{Links}
-use Rattle.dependence.specs.walking.Tables.{IsRising, Linked}
+use Rattle.dependence.specs.internal.Tables.{IsRising, Linked}
 use Rattle.dependence.proofs.live.Live.leads.Goals as goal
 
 pub leads_at-requires : goal.leads_at-requires

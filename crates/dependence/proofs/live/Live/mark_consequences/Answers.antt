@@ -1,6 +1,6 @@
 use Rattle.std.proofs.Common.{◌∙◌, List, Bool, length, sym, ap, subst}
 use Rattle.runs.specs.Live.{Live}
-use Rattle.dependence.specs.walking.Marking.{NoneLess}
+use Rattle.dependence.specs.internal.Marking.{NoneLess}
 use Rattle.dependence.proofs.Edges.{take-whole}
 use Rattle.dependence.proofs.live.Live.mark_consequences.Goals as goal
 

@@ -1,7 +1,7 @@
 use Rattle.std.proofs.Common.{◌∙◌, List, Bool, length, sym, ap, subst}
 use Rattle.runs.specs.Live.{Live}
-use Rattle.dependence.specs.walking.Marking.{NoneLess}
-use Rattle.dependence.specs.walking.Tables.{IsRising}
+use Rattle.dependence.specs.internal.Marking.{NoneLess}
+use Rattle.dependence.specs.internal.Tables.{IsRising}
 use Rattle.dependence.proofs.live.Live.marked.Goals as goal
 
 pub copy_marked-requires : goal.copy_marked-requires

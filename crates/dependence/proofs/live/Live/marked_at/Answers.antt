@@ -3,7 +3,7 @@ use Rattle.std.specs.Prelude.{MatchOption}
 use Rattle.runs.specs.Live.{Live}
 use Rattle.dependence.specs.Shown.{Shown, tickets_marked}
 use Rattle.dependence.specs.Taking.{NoneMarkedAt, OneMarkedAt}
-use Rattle.dependence.specs.walking.Tables.{IsRising}
+use Rattle.dependence.specs.internal.Tables.{IsRising}
 use Rattle.dependence.proofs.live.Live.marked_at.Goals as goal
 
 pub marked_at-requires : goal.marked_at-requires

@@ -2,7 +2,7 @@ use Rattle.std.proofs.Common.{◌≡◌, ℕ, sym, subst}
 use Rattle.runs.specs.Dependence.{Without}
 use Rattle.runs.specs.Live.{LiveAt, NoDependent, WithoutTickets, IsLive}
 use Rattle.dependence.specs.Shown.{Shown, tickets_marked}
-use Rattle.dependence.proofs.Markings.{less-marked, without-in}
+use Rattle.dependence.proofs.public.Markings.{less-marked, without-in}
 use Rattle.dependence.proofs.live.Live.take.Goals as goal
 
 pub take_event-requires : goal.take_event-requires

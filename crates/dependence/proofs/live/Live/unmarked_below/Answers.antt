@@ -3,8 +3,8 @@ use Rattle.std.specs.Prelude.{slice_get}
 use Rattle.runs.specs.Live.{Live}
 use Rattle.dependence.specs.Shown.{Shown}
 use Rattle.dependence.specs.Taking.{NoneMarkedAt, IsNearMarked}
-use Rattle.dependence.specs.walking.Marking.{MarkedNear}
-use Rattle.dependence.proofs.Markings.{none-here, near-shown}
+use Rattle.dependence.specs.internal.Marking.{MarkedNear}
+use Rattle.dependence.proofs.public.Markings.{none-here, near-shown}
 use Rattle.dependence.proofs.live.Live.unmarked_below.Goals as goal
 
 pub returns : goal.returns

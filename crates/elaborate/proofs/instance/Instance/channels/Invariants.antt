@@ -1,5 +1,5 @@
 use Rattle.std.proofs.Common.{◌≡◌, ◌++◌, drop}
-use Rattle.elaborate.specs.walking.Instances.{channels_of}
+use Rattle.elaborate.specs.internal.Instances.{channels_of}
 use Rattle.elaborate.proofs.instance.Instance.channels.Given as goal
 
 abbrev pub invariant-loop-argument : goal.invariant-loop-argument

@@ -4,10 +4,10 @@ use Rattle.elaborate.proofs.lookups.NamedEntries.is_named_before.Goals as goal
 
 pub returns-in-Some : goal.returns-in-Some
 returns-in-Some c =
-    before-read c.self.inside.places c.self.inside.entries.now c.args.self.now c.args.place c.args.name.now c.find.result
+    before-read c.self.inside.positions c.self.inside.entries.now c.args.self.now c.args.position c.args.name.now c.find.result
     (Some c.in-Some.first) c.self.invariant c.self.view_is c.find.ensures c.in-Some.is
 
 pub returns-in-None : goal.returns-in-None
 returns-in-None c =
-    before-read c.self.inside.places c.self.inside.entries.now c.args.self.now c.args.place c.args.name.now c.find.result None
+    before-read c.self.inside.positions c.self.inside.entries.now c.args.self.now c.args.position c.args.name.now c.find.result None
     c.self.invariant c.self.view_is c.find.ensures c.in-None.is

@@ -5,10 +5,10 @@ use Rattle.elaborate.proofs.lookups.NamedPorts.kind.Goals as goal
 pub returns-in-Some : goal.returns-in-Some
 returns-in-Some c =
     c.kind_at.ensures
-    ∙ kind-read c.self.inside.places c.self.inside.ports.now c.args.self.now c.args.name.now c.find.result (Some c.in-Some.place)
+    ∙ kind-read c.self.inside.positions c.self.inside.ports.now c.args.self.now c.args.name.now c.find.result (Some c.in-Some.position)
     c.self.invariant c.self.view_is c.find.ensures c.in-Some.is
 
 pub returns-in-None : goal.returns-in-None
 returns-in-None c =
-    kind-read c.self.inside.places c.self.inside.ports.now c.args.self.now c.args.name.now c.find.result None
+    kind-read c.self.inside.positions c.self.inside.ports.now c.args.self.now c.args.name.now c.find.result None
     c.self.invariant c.self.view_is c.find.ensures c.in-None.is

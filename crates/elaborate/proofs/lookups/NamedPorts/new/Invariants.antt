@@ -1,8 +1,8 @@
 use Rattle.std.proofs.Common.{◌≡◌, drop, map}
-use Rattle.elaborate.specs.walking.NamePlaces.{noted_from, places_of}
+use Rattle.elaborate.specs.internal.NamePositions.{noted_from, positions_of}
 use Rattle.elaborate.proofs.lookups.NamedPorts.new.Given as goal
 
--- the names that are left lead to the places of all
-abbrev pub invariant-loop-place : goal.invariant-loop-place
-invariant-loop-place l =
-    noted_from l.places l.place (map (λ x. x.name) (drop l.place l.ports)) ≡ places_of (map (λ x. x.name) l.ports)
+-- the names that are left lead to the positions of all
+abbrev pub invariant-loop-position : goal.invariant-loop-position
+invariant-loop-position l =
+    noted_from l.positions l.position (map (λ x. x.name) (drop l.position l.ports)) ≡ positions_of (map (λ x. x.name) l.ports)

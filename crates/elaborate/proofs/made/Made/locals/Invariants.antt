@@ -1,5 +1,5 @@
 use Rattle.std.proofs.Common.{◌≡◌, [], drop}
-use Rattle.elaborate.specs.walking.Making.{locals_onto}
+use Rattle.elaborate.specs.internal.Making.{locals_onto}
 use Rattle.elaborate.proofs.made.Made.locals.Given as goal
 
 abbrev pub invariant-loop-local : goal.invariant-loop-local

@@ -1,5 +1,5 @@
 use Rattle.std.proofs.Common.{◌≡◌, [], drop}
-use Rattle.elaborate.specs.walking.Making.{ports_onto}
+use Rattle.elaborate.specs.internal.Making.{ports_onto}
 use Rattle.elaborate.proofs.made.Made.ports.Given as goal
 
 abbrev pub invariant-loop-port : goal.invariant-loop-port

@@ -1,4 +1,4 @@
-use Rattle.json_text.proofs.Growing.{closes}
+use Rattle.json_text.proofs.public.Growing.{closes}
 use Rattle.json_text.proofs.writer.Json.close_object.Goals as goal
 
 pub returns : goal.returns

@@ -1,7 +1,7 @@
 use Rattle.std.proofs.Common.{map}
 use Rattle.std.proofs.lemmas.Result.{on_ok_weaker}
 use Rattle.json_text.specs.Values.{item_text}
-use Rattle.json_text.proofs.Growing.{lists}
+use Rattle.json_text.proofs.public.Growing.{lists}
 use Rattle.json_text.proofs.writer.Json.list.Goals as goal
 
 pub returns : goal.returns

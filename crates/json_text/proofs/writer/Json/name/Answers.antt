@@ -1,4 +1,4 @@
-use Rattle.json_text.proofs.Growing.{names}
+use Rattle.json_text.proofs.public.Growing.{names}
 use Rattle.json_text.proofs.writer.Json.name.Goals as goal
 
 pub returns : goal.returns

@@ -1,4 +1,4 @@
-use Rattle.json_text.proofs.Growing.{opens}
+use Rattle.json_text.proofs.public.Growing.{opens}
 use Rattle.json_text.proofs.writer.Json.open_object.Goals as goal
 
 pub returns : goal.returns

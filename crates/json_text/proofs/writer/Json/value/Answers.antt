@@ -1,5 +1,5 @@
 use Rattle.std.proofs.lemmas.Result.{on_ok_weaker}
-use Rattle.json_text.proofs.Growing.{values}
+use Rattle.json_text.proofs.public.Growing.{values}
 use Rattle.json_text.proofs.writer.Json.value.Goals as goal
 
 pub returns : goal.returns

@@ -1,5 +1,5 @@
 use Rattle.std.proofs.Common.{◌≡◌, ◌<◌, length, subst, arith}
-use Rattle.last_events.specs.walking.Seats.{Places}
+use Rattle.last_events.specs.internal.Seats.{Places}
 use Rattle.last_events.proofs.SeatLaws.{some-flat}
 use Rattle.last_events.proofs.branch.BranchEvents.is_empty.Goals as goal
 

@@ -1,7 +1,7 @@
 use Rattle.std.proofs.Common.{List, sym, subst}
 use Rattle.address.specs.declared.Entry.{Entry}
 use Rattle.last_events.specs.LastEvents.{Orderly, LastBefore}
-use Rattle.last_events.specs.walking.Seats.{Places}
+use Rattle.last_events.specs.internal.Seats.{Places}
 use Rattle.last_events.proofs.LastLaws.{none-group, all-before}
 use Rattle.last_events.proofs.ListLaws.{on-ok}
 use Rattle.last_events.proofs.places.PlaceTable.put.Goals as goal

@@ -1,6 +1,6 @@
 use Rattle.std.proofs.Common.{ℕ, List, [], get_or, Vec, ap, ◌∙◌}
 use Rattle.std.specs.Global.{Global}
-use Rattle.last_events.specs.walking.Tickets.{rows_of}
+use Rattle.last_events.specs.internal.Tickets.{rows_of}
 use Rattle.last_events.proofs.TicketLaws.{first-of}
 use Rattle.last_events.proofs.uses.UseTable.first.Goals as goal
 

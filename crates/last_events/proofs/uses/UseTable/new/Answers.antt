@@ -2,7 +2,7 @@ use Rattle.std.proofs.Common.{List, [], Vec, get_or, ℕ, subst}
 use Rattle.std.specs.Global.{Global}
 use Rattle.syntax.specs.Lists.{In}
 use Rattle.last_events.specs.LastEvents.{Uses}
-use Rattle.last_events.specs.walking.Tickets.{rows_of}
+use Rattle.last_events.specs.internal.Tickets.{rows_of}
 use Rattle.last_events.proofs.uses.UseTable.new.Goals as goal
 
 pub returns : goal.returns

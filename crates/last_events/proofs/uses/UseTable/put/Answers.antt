@@ -1,6 +1,6 @@
 use Rattle.std.proofs.Common.{◌≡◌, ℕ, List, [], get_or, ap, ◌∙◌}
 use Rattle.std.proofs.lemmas.Result.{on_ok_weaker, on_err_weaker}
-use Rattle.last_events.specs.walking.Tickets.{rows_of}
+use Rattle.last_events.specs.internal.Tickets.{rows_of}
 use Rattle.last_events.proofs.ListLaws.{on-err}
 use Rattle.last_events.proofs.TicketLaws.{put-alike, refused-alike, uses-alike}
 use Rattle.last_events.proofs.uses.UseTable.put.Goals as goal

@@ -1,6 +1,6 @@
 use Rattle.std.proofs.Common.{◌≡◌, ◌↔◌, ℕ, List, subst}
 use Rattle.last_events.specs.LastEvents.{Uses}
-use Rattle.last_events.specs.walking.Tickets.{rows_of}
+use Rattle.last_events.specs.internal.Tickets.{rows_of}
 use Rattle.last_events.proofs.uses.UseTable.remove.Goals as goal
 
 pub returns : goal.returns

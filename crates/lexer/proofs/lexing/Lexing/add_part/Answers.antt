@@ -1,12 +1,12 @@
 use Rattle.std.proofs.Common.{◌≡◌, ℕ, List, refl, ◌++◌, [], ◌∷◌, Err, Some, None, inr, length, sym, ◌∙◌, ap, length-append, arith, rules}
 use Rattle.std.proofs.lemmas.Bool.{false≢true}
 use Rattle.lexer.specs.Tokens.{IsReadable, token_at, token_of}
-use Rattle.lexer.specs.walking.Parts.{IsAtProcedure, IsCutOff, IsKept}
+use Rattle.lexer.specs.internal.Parts.{IsAtProcedure, IsCutOff, IsKept}
 use Rattle.lexer.specs.declared.lexing.Lexing.{Lexing}
 use Rattle.lexer.specs.declared.token.Token.{Token}
 use Rattle.refusals.specs.declared.lexer.Fault.TheVariants.{Memory}
 use Rattle.lexer.specs.declared.token.Kind.TheVariants.{End, ProcedureWord}
-use Rattle.lexer.proofs.PartLemmas.{IsPartSoFar, at_procedure, bad_piece, end_begins, goes_to_fault, less_left, part_at_end, part_at_procedure, part_on_blank, part_on_token, part_skips, skips_no_more}
+use Rattle.lexer.proofs.public.PartLemmas.{IsPartSoFar, at_procedure, bad_piece, end_begins, goes_to_fault, less_left, part_at_end, part_at_procedure, part_on_blank, part_on_token, part_skips, skips_no_more}
 use Rattle.lexer.proofs.lexing.Lexing.add_part.Goals as goal
 use Rattle.lexer.proofs.lexing.Lexing.add_part.Goals.{In-Some, In-Some-2, in-ProcedureWord, in_default-matches}
 

@@ -1,5 +1,5 @@
 use Rattle.std.proofs.Common.{◌≡◌, ◌≤◌, true, length}
-use Rattle.lexer.proofs.PartLemmas.{IsPartSoFar}
+use Rattle.lexer.proofs.public.PartLemmas.{IsPartSoFar}
 use Rattle.lexer.proofs.lexing.Lexing.add_part.Given as goal
 
 abbrev pub invariant-loop-left : goal.invariant-loop-left

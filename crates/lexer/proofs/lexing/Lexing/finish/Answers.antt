@@ -1,9 +1,9 @@
 use Rattle.std.proofs.Common.{◌≡◌, ◌++◌, [], ◌∷◌, Err, rules}
 use Rattle.std.specs.Option.{option_to_list}
 use Rattle.lexer.specs.Tokens.{token_at, token_of}
-use Rattle.lexer.specs.walking.Parts.{IsCutOff}
+use Rattle.lexer.specs.internal.Parts.{IsCutOff}
 use Rattle.lexer.specs.declared.token.Kind.TheVariants.{End}
-use Rattle.lexer.proofs.PartLemmas.{at_end, bad_piece, goes_on, goes_to_end, goes_to_fault, less_left, over_piece}
+use Rattle.lexer.proofs.public.PartLemmas.{at_end, bad_piece, goes_on, goes_to_end, goes_to_fault, less_left, over_piece}
 use Rattle.lexer.proofs.lexing.Lexing.finish.Goals as goal
 use Rattle.lexer.proofs.lexing.Lexing.finish.Goals.{In-Some}
 

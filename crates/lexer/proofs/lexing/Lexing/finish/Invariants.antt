@@ -1,5 +1,5 @@
 use Rattle.std.proofs.Common.{List, length}
-use Rattle.lexer.specs.walking.Parts.{Goes}
+use Rattle.lexer.specs.internal.Parts.{Goes}
 use Rattle.lexer.specs.declared.token.Token.{Token}
 use Rattle.lexer.proofs.lexing.Lexing.finish.Given as goal
 

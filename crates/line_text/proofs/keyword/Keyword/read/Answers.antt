@@ -1,4 +1,4 @@
-use Rattle.line_text.proofs.KeywordLemmas.{keyword-read}
+use Rattle.line_text.proofs.public.KeywordLemmas.{keyword-read}
 use Rattle.line_text.proofs.keyword.Keyword.read.Goals as goal
 
 pub returns : goal.returns

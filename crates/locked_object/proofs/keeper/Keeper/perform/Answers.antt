@@ -13,7 +13,7 @@ pub returns-in-Ok-clause-keeper : goal.returns-in-Ok-clause-keeper
 returns-in-Ok-clause-keeper g c =
     let done = subst (λ (n : ℕ). g.D.Object.performs c.args.self.now.object n c.args.command.now c.in-Ok.reply c.perform.new.self) c.args.pass.now.numbered c.in-Ok.ensures.done in
     record {
-      notes = c.record.ensures.scribe.0;
+      notes = c.record.ensures.recorder.0;
       replays = subst (λ (log : List (Entry g.row.C.Denot g.row.R.Denot)). Replays g.D.Object.performs c.args.board.now.table.shared.key log c.perform.new.self) (sym c.record.ensures.noted) (replays_more g.D.Object.performs _ _ _ _ _ _ _ c.requires.keeper.replays done);
       counted = one_more g.D.Object.performs _ _ _ _ c.requires.keeper.counted c.record.ensures.noted;
     }

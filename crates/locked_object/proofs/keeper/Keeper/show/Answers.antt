@@ -3,4 +3,4 @@ use Rattle.locked_object.proofs.Histories.{keeper_same}
 use Rattle.locked_object.proofs.keeper.Keeper.show.Goals as goal
 
 pub returns-clause-keeper : goal.returns-clause-keeper
-returns-clause-keeper g c = keeper_same g.D.Object.performs _ _ c.args.self.now _ c.show.ensures.scribe.0 refl refl c.show.ensures.scribe.1 c.requires.keeper
+returns-clause-keeper g c = keeper_same g.D.Object.performs _ _ c.args.self.now _ c.show.ensures.recorder.0 refl refl c.show.ensures.recorder.1 c.requires.keeper

@@ -1,6 +1,6 @@
 use Rattle.event_inverse.specs.View.{both_view}
-use Rattle.machine.specs.walking.Histories.{tree_of}
-use Rattle.machine.proofs.Standing.{allowed-applies, below-next, allowed-behind, stands-more}
+use Rattle.machine.specs.internal.Histories.{tree_of}
+use Rattle.machine.proofs.public.Standing.{allowed-applies, below-next, allowed-behind, stands-more}
 use Rattle.machine.proofs.history.History.add.Goals as goal
 
 pub apply-requires : goal.apply-requires

@@ -4,14 +4,14 @@ use Rattle.std.proofs.lemmas.Result.{IfOk-weaker}
 use Rattle.syntax.specs.Lists.{Every}
 use Rattle.runs.specs.declared.event.Event.{Event}
 use Rattle.event_inverse.specs.Grown.{state_of_tree}
-use Rattle.machine.specs.walking.Choosing.{FirstAt, Takes, moves, line_of_first}
-use Rattle.machine.specs.walking.Histories.{tree_of}
+use Rattle.machine.specs.internal.Choosing.{FirstAt, Takes, moves, line_of_first}
+use Rattle.machine.specs.internal.Histories.{tree_of}
 use Rattle.machine.specs.AtMachine.{at_machine}
 use Rattle.machine.specs.Branching.{acts_in, in_branch, StepsBranch}
-use Rattle.machine.specs.declared.branching.BranchReply.{BranchReply}
-use Rattle.machine.proofs.Branches.{moving-with, taken-with, back-with}
+use Rattle.machine.specs.declared.branch.BranchReply.{BranchReply}
+use Rattle.machine.proofs.public.Branches.{moving-with, taken-with, back-with}
 use Rattle.machine.proofs.Sites.{filter-same}
-use Rattle.machine.proofs.Standing.{stands-ready}
+use Rattle.machine.proofs.public.Standing.{stands-ready}
 use Rattle.machine.proofs.history.History.branch_step.Goals as goal
 
 pub take_ready-requires : goal.take_ready-requires

@@ -1,7 +1,7 @@
 use Rattle.std.proofs.Common.{◌≡◌, drop}
 use Rattle.machine.specs.AtMachine.{at_machine}
 use Rattle.machine.specs.Branching.{in_branch}
-use Rattle.machine.specs.walking.Choosing.{line_of_first}
+use Rattle.machine.specs.internal.Choosing.{line_of_first}
 use Rattle.machine.proofs.history.History.first_line.Given as goal
 
 abbrev pub invariant-loop-event : goal.invariant-loop-event

@@ -1,6 +1,6 @@
 use Rattle.machine.specs.AtMachine.{at_machine}
-use Rattle.machine.specs.walking.Choosing.{moves}
-use Rattle.machine.proofs.Branches.{fails-more}
+use Rattle.machine.specs.internal.Choosing.{moves}
+use Rattle.machine.proofs.public.Branches.{fails-more}
 use Rattle.machine.proofs.history.History.first_moving.Goals as goal
 
 pub loop-i-preserved : goal.loop-i-preserved

@@ -1,7 +1,7 @@
 use Rattle.std.proofs.Common.{◌≡◌, false, take}
 use Rattle.syntax.specs.Lists.{Every}
 use Rattle.machine.specs.AtMachine.{at_machine}
-use Rattle.machine.specs.walking.Choosing.{moves}
+use Rattle.machine.specs.internal.Choosing.{moves}
 use Rattle.machine.proofs.history.History.first_moving.Given as goal
 
 abbrev pub invariant-loop-i : goal.invariant-loop-i

@@ -5,7 +5,7 @@ use Rattle.system.specs.Translation.{opening_store}
 use Rattle.process_tree.specs.Proc.{started}
 use Rattle.process_tree.specs.Translation.{system_code}
 use Rattle.dependence.specs.Shown.{Shown}
-use Rattle.machine.proofs.Standing.{stands-new}
+use Rattle.machine.proofs.public.Standing.{stands-new}
 use Rattle.machine.proofs.history.History.new.Goals as goal
 
 pub returns-clause-holds : goal.returns-clause-holds

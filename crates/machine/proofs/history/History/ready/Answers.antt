@@ -2,8 +2,8 @@ use Rattle.std.proofs.lemmas.Result.{IfOk-weaker}
 use Rattle.runs.specs.Object.{Reaches}
 use Rattle.runs.specs.Ready.{ReadyList}
 use Rattle.event_inverse.specs.Grown.{state_of_tree}
-use Rattle.machine.specs.walking.Histories.{execution, tree_of}
-use Rattle.machine.proofs.Standing.{stands-searched}
+use Rattle.machine.specs.internal.Histories.{execution, tree_of}
+use Rattle.machine.proofs.public.Standing.{stands-searched}
 use Rattle.machine.proofs.history.History.ready.Goals as goal
 
 pub returns : goal.returns

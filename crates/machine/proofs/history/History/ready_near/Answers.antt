@@ -1,4 +1,4 @@
-use Rattle.machine.proofs.Standing.{stands-searched}
+use Rattle.machine.proofs.public.Standing.{stands-searched}
 use Rattle.machine.proofs.history.History.ready_near.Goals as goal
 
 pub ready_under-requires : goal.ready_under-requires

@@ -2,11 +2,11 @@ use Rattle.std.proofs.Common.{◌≡◌, ℕ, suc, ◌-◌, ◌<◌, ◌≤◌, 
 use Rattle.sharing_check.specs.declared.checked.Checked.{Checked}
 use Rattle.dependence.specs.Shown.{Shown}
 use Rattle.dependence.specs.Taking.{MarksAllDependents, NoneMarkedAt}
-use Rattle.dependence.proofs.ListPlaces.{at-within}
+use Rattle.dependence.proofs.public.ListPlaces.{at-within}
 use Rattle.event_inverse.specs.View.{both_view}
 use Rattle.event_inverse.specs.declared.record.Inverse.{Inverse}
-use Rattle.machine.specs.walking.Histories.{tree_of}
-use Rattle.machine.specs.walking.Marking.{StandsFrom}
+use Rattle.machine.specs.internal.Histories.{tree_of}
+use Rattle.machine.specs.internal.Marking.{StandsFrom}
 use Rattle.machine.proofs.Marked.{from-end, from-unmarked, from-below, can-go, from-marked, inverse-within}
 use Rattle.machine.proofs.history.History.revert_marked.Goals as goal
 

@@ -1,7 +1,7 @@
 use Rattle.std.proofs.Common.{◌≡◌, ◌≤◌, length}
 use Rattle.sharing_check.specs.declared.checked.Checked.{Checked}
-use Rattle.machine.specs.walking.Histories.{Holds}
-use Rattle.machine.specs.walking.Marking.{HoldsFrom}
+use Rattle.machine.specs.internal.Histories.{Holds}
+use Rattle.machine.specs.internal.Marking.{HoldsFrom}
 use Rattle.machine.proofs.history.History.revert_marked.Given as goal
 
 abbrev pub invariant-loop-index : goal.invariant-loop-index

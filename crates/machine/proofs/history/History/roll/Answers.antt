@@ -1,4 +1,4 @@
-use Rattle.machine.proofs.Standing.{live-at}
+use Rattle.machine.proofs.public.Standing.{live-at}
 use Rattle.machine.proofs.history.History.roll.Goals as goal
 
 pub roll_live-requires : goal.roll_live-requires

@@ -1,9 +1,9 @@
 use Rattle.std.proofs.Common.{◌≡◌, ◌∙◌, ℕ, length, refl, sym, ap, arith}
 use Rattle.runs.specs.Live.{Live, DependsOn}
 use Rattle.runs.specs.declared.event.Event.{Event}
-use Rattle.machine.specs.walking.Histories.{execution, tree_of}
+use Rattle.machine.specs.internal.Histories.{execution, tree_of}
 use Rattle.machine.proofs.Marked.{marks-listed, takes-out}
-use Rattle.machine.proofs.Standing.{stands-same}
+use Rattle.machine.proofs.public.Standing.{stands-same}
 use Rattle.machine.proofs.Withouts.{not-longer}
 use Rattle.machine.proofs.history.History.roll_live.Goals as goal
 

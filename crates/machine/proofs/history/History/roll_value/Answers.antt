@@ -1,5 +1,5 @@
 use Rattle.std.proofs.Common.{refl}
-use Rattle.machine.specs.walking.Histories.{execution}
+use Rattle.machine.specs.internal.Histories.{execution}
 use Rattle.machine.proofs.TakenOut.{value-rolled}
 use Rattle.machine.proofs.history.History.roll_value.Goals as goal
 

@@ -8,9 +8,9 @@ use Rattle.runs.specs.declared.command.Command.{Command}
 use Rattle.runs.specs.declared.command.Refusal.{Refusal}
 use Rattle.event_inverse.specs.Grown.{state_of_tree}
 use Rattle.machine.specs.Results.{step_reply}
-use Rattle.machine.specs.walking.Choosing.{TakesFound}
-use Rattle.machine.specs.walking.Histories.{execution, tree_of}
-use Rattle.machine.proofs.Standing.{stands-stems, stands-tidy}
+use Rattle.machine.specs.internal.Choosing.{TakesFound}
+use Rattle.machine.specs.internal.Histories.{execution, tree_of}
+use Rattle.machine.proofs.public.Standing.{stands-stems, stands-tidy}
 use Rattle.machine.proofs.Stepped.{chosen-of, found-done}
 use Rattle.machine.proofs.history.History.step.Goals as goal
 

@@ -1,8 +1,8 @@
 use Rattle.std.proofs.Common.{sym}
 use Rattle.std.proofs.lemmas.Option.{get_or_from_slice_get}
 use Rattle.event_inverse.specs.View.{both_view}
-use Rattle.machine.specs.walking.Histories.{tree_of}
-use Rattle.machine.proofs.Standing.{live-at, place-within, can-revert, stands-less}
+use Rattle.machine.specs.internal.Histories.{tree_of}
+use Rattle.machine.proofs.public.Standing.{live-at, place-within, can-revert, stands-less}
 use Rattle.machine.proofs.history.History.take_back.Goals as goal
 
 pub take-event-requires-clause-live : goal.take-event-requires-clause-live

@@ -3,7 +3,7 @@ use Rattle.syntax.specs.Lists.{In}
 use Rattle.runs.specs.Live.{WithoutTickets}
 use Rattle.dependence.specs.Shown.{Shown}
 use Rattle.dependence.specs.Taking.{MarksAllDependents}
-use Rattle.machine.specs.walking.Histories.{tree_of}
+use Rattle.machine.specs.internal.Histories.{tree_of}
 use Rattle.machine.proofs.Marked.{marks-all, all-taken, dependents-out}
 use Rattle.machine.proofs.history.History.take_marked.Goals as goal
 

@@ -3,12 +3,12 @@ use Rattle.std.specs.Prelude.{slice_get}
 use Rattle.runs.specs.Choices.{choice_of}
 use Rattle.runs.specs.Ready.{Chosen}
 use Rattle.runs.specs.declared.event.Event.{Event}
-use Rattle.runs.proofs.Options.{some-injective}
+use Rattle.runs.proofs.public.Options.{some-injective}
 use Rattle.event_inverse.specs.Grown.{state_of_tree}
 use Rattle.machine.specs.AtMachine.{at_machine}
-use Rattle.machine.specs.walking.Histories.{tree_of}
-use Rattle.machine.proofs.Entries.{got-at}
-use Rattle.machine.proofs.Branches.{at_machine-same, chosen-there, take-done}
+use Rattle.machine.specs.internal.Histories.{tree_of}
+use Rattle.machine.proofs.public.Entries.{got-at}
+use Rattle.machine.proofs.public.Branches.{at_machine-same, chosen-there, take-done}
 use Rattle.machine.proofs.Stepped.{on-error}
 use Rattle.machine.proofs.history.History.take_ready.Goals as goal
 

@@ -1,6 +1,6 @@
 use Rattle.std.proofs.Common.{ℕ, List, refl, sym, subst}
 use Rattle.runs.specs.Live.{ConsequencesList}
-use Rattle.machine.proofs.Standing.{live-at}
+use Rattle.machine.proofs.public.Standing.{live-at}
 use Rattle.machine.proofs.Stepped.{on-error}
 use Rattle.machine.proofs.history.History.tell_consequences.Goals as goal
 

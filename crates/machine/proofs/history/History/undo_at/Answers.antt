@@ -1,5 +1,5 @@
 use Rattle.std.proofs.Common.{refl}
-use Rattle.machine.proofs.Standing.{live-at}
+use Rattle.machine.proofs.public.Standing.{live-at}
 use Rattle.machine.proofs.history.History.undo_at.Goals as goal
 
 pub first_dependent-requires : goal.first_dependent-requires

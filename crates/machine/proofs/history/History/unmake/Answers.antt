@@ -1,6 +1,6 @@
 use Rattle.std.proofs.Common.{refl}
-use Rattle.machine.specs.walking.Histories.{tree_of}
-use Rattle.machine.proofs.Standing.{last-reverts}
+use Rattle.machine.specs.internal.Histories.{tree_of}
+use Rattle.machine.proofs.public.Standing.{last-reverts}
 use Rattle.machine.proofs.history.History.unmake.Goals as goal
 
 pub invert-requires : goal.invert-requires

@@ -3,7 +3,7 @@ use Rattle.runs.specs.Does.{Answers}
 use Rattle.runs.specs.declared.command.Command.{Command}
 use Rattle.machine.specs.AtMachine.{AtMachine, object}
 use Rattle.machine.specs.Results.{blame_reply}
-use Rattle.machine.specs.walking.Histories.{execution}
+use Rattle.machine.specs.internal.Histories.{execution}
 use Rattle.machine.proofs.NeverMemory.{blame-wants-none}
 use Rattle.machine.proofs.machine.Machine.blame.Goals as goal
 

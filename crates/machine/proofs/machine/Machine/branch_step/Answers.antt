@@ -1,7 +1,7 @@
 use Rattle.std.proofs.Common.{List, ℕ, subst}
 use Rattle.machine.specs.AtMachine.{AtMachine, at_machine}
 use Rattle.machine.specs.Branching.{AnswersBranch}
-use Rattle.machine.proofs.Branches.{branch-answers}
+use Rattle.machine.proofs.public.Branches.{branch-answers}
 use Rattle.machine.proofs.machine.Machine.branch_step.Goals as goal
 
 pub returns-clause-answers : goal.returns-clause-answers

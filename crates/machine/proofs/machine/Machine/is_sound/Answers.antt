@@ -1,7 +1,7 @@
 use Rattle.std.proofs.Common.{subst}
 use Rattle.runs.specs.Sound.{Sound}
 use Rattle.machine.specs.AtMachine.{AtMachine, object}
-use Rattle.machine.proofs.HeadlineLaws.{headline}
+use Rattle.machine.proofs.public.HeadlineLaws.{headline}
 use Rattle.machine.proofs.machine.Machine.is_sound.Goals as goal
 
 pub returns : goal.returns

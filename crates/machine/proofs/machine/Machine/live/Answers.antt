@@ -3,7 +3,7 @@ use Rattle.runs.specs.Does.{Answers}
 use Rattle.runs.specs.declared.command.Command.{Command}
 use Rattle.machine.specs.AtMachine.{AtMachine, object}
 use Rattle.machine.specs.Results.{live_reply}
-use Rattle.machine.specs.walking.Histories.{execution}
+use Rattle.machine.specs.internal.Histories.{execution}
 use Rattle.machine.proofs.Stepped.{told-of}
 use Rattle.machine.proofs.machine.Machine.live.Goals as goal
 

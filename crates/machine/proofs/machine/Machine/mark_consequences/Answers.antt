@@ -1,8 +1,8 @@
 use Rattle.std.proofs.Common.{◌≡◌, ◌∙◌, refl, sym, subst}
 use Rattle.runs.specs.Live.{IsLive, ConsequencesList}
 use Rattle.machine.specs.AtMachine.{AtMachine, at_machine}
-use Rattle.machine.specs.walking.Histories.{tree_of}
-use Rattle.machine.proofs.Standing.{stands-same}
+use Rattle.machine.specs.internal.Histories.{tree_of}
+use Rattle.machine.proofs.public.Standing.{stands-same}
 use Rattle.machine.proofs.machine.Machine.mark_consequences.Goals as goal
 
 pub mark_consequences-requires : goal.mark_consequences-requires

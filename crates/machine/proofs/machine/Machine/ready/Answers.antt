@@ -11,7 +11,7 @@ use Rattle.runs.specs.declared.command.Reply.{Reply}
 use Rattle.event_inverse.specs.Grown.{state_of_tree}
 use Rattle.machine.specs.AtMachine.{AtMachine, object}
 use Rattle.machine.specs.Results.{ready_reply}
-use Rattle.machine.specs.walking.Histories.{execution, tree_of}
+use Rattle.machine.specs.internal.Histories.{execution, tree_of}
 use Rattle.machine.proofs.Stepped.{told-of, ok-told}
 use Rattle.machine.proofs.machine.Machine.ready.Goals as goal
 

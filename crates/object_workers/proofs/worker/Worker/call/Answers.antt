@@ -1,4 +1,4 @@
-use Rattle.object_workers.proofs.Turns.{call_ran, call_asked}
+use Rattle.object_workers.proofs.public.Turns.{call_ran, call_asked}
 use Rattle.object_workers.proofs.worker.Worker.call.Goals as goal
 
 pub returns-clause-ran : goal.returns-clause-ran

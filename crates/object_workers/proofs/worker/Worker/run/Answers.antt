@@ -1,5 +1,5 @@
 use Rattle.std.proofs.Common.{arith}
-use Rattle.object_workers.proofs.Turns.{none_ran, turn_more, counts_few}
+use Rattle.object_workers.proofs.public.Turns.{none_ran, turn_more, counts_few}
 use Rattle.object_workers.proofs.worker.Worker.run.Goals as goal
 
 pub loop-turn-init : goal.loop-turn-init

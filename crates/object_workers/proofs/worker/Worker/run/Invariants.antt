@@ -1,4 +1,4 @@
-use Rattle.object_workers.specs.walking.Workers.{WorkerFits, WorkerRan}
+use Rattle.object_workers.specs.internal.Workers.{WorkerFits, WorkerRan}
 use Rattle.object_workers.proofs.worker.Worker.run.Given as goal
 
 -- so many turns are taken

@@ -1,5 +1,5 @@
 use Rattle.object_workers.proofs.Numbers.{takes_one}
-use Rattle.object_workers.proofs.Turns.{first_branch}
+use Rattle.object_workers.proofs.public.Turns.{first_branch}
 use Rattle.object_workers.proofs.worker.Worker.turn.Goals as goal
 
 pub pop_as-requires-clause-rule : goal.pop_as-requires-clause-rule

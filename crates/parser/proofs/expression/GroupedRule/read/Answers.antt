@@ -1,9 +1,9 @@
 use Rattle.std.proofs.Common.{rules, ◌≡◌, true, false, length, ap, refl}
 use Rattle.parser.specs.Input.{next, is_one_of}
-use Rattle.parser.specs.walking.Reads.{Halts}
-use Rattle.parser.specs.walking.Readers.{bind}
-use Rattle.parser.specs.walking.Reading.{grouped, operation}
-use Rattle.parser.specs.walking.Reads.{place}
+use Rattle.parser.specs.internal.Reads.{Halts}
+use Rattle.parser.specs.internal.Readers.{bind}
+use Rattle.parser.specs.internal.Reading.{grouped, operation}
+use Rattle.parser.specs.internal.Reads.{place}
 use Rattle.parser.proofs.Turns.{behind_first, after_turn, without_turn, after_turns, halted_turn}
 use Rattle.parser.proofs.expression.GroupedRule.read.Goals as goal
 

@@ -1,7 +1,7 @@
 use Rattle.std.proofs.Common.{◌≡◌, ◌-◌}
-use Rattle.parser.specs.walking.Readers.{repeat_from}
-use Rattle.parser.specs.walking.Reading.{grouped, operation}
-use Rattle.parser.specs.walking.Reads.{place}
+use Rattle.parser.specs.internal.Readers.{repeat_from}
+use Rattle.parser.specs.internal.Reading.{grouped, operation}
+use Rattle.parser.specs.internal.Reads.{place}
 use Rattle.parser.proofs.expression.GroupedRule.read.Given as goal
 
 abbrev pub invariant-loop-turn : goal.invariant-loop-turn

@@ -1,5 +1,5 @@
 use Rattle.std.proofs.Common.{◌≡◌, Bool, Decides, sym, subst}
-use Rattle.runs.specs.walking.EventLaws.{same_event-decides}
+use Rattle.runs.specs.internal.EventLaws.{same_event-decides}
 use Rattle.runs.proofs.event.EventPartialEq.eq.Goals as goal
 
 pub returns-clause-equal : goal.returns-clause-equal

@@ -1,5 +1,5 @@
 use Rattle.std.proofs.Common.{◌≡◌, drop}
-use Rattle.sharing_check.specs.walking.Crossing.{noted_all, least_with}
+use Rattle.sharing_check.specs.internal.Crossing.{noted_all, least_with}
 use Rattle.sharing_check.proofs.touches.Touches.add_branch.Given as goal
 
 -- with the entries that are left, the table and the least offset are those with all

@@ -1,6 +1,6 @@
 use Rattle.std.proofs.Common.{Some, cond, nat_eq, ap, ◌∙◌}
 use Rattle.std.specs.Map.{lookup}
-use Rattle.sharing_check.specs.walking.Counting.{join_widths}
+use Rattle.sharing_check.specs.internal.Counting.{join_widths}
 use Rattle.sharing_check.proofs.CountTables.{listed_more}
 use Rattle.sharing_check.proofs.widths.Widths.add.Goals as goal
 

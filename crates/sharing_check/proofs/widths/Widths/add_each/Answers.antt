@@ -3,7 +3,7 @@ use Rattle.std.proofs.lemmas.Map.Keys.{IsDistinct-tail}
 use Rattle.std.specs.List.{IsDistinct}
 use Rattle.std.specs.Map.{keys_of}
 use Rattle.sharing_check.specs.declared.widths.Width.{Width}
-use Rattle.sharing_check.specs.walking.Counting.{join, noted, listed}
+use Rattle.sharing_check.specs.internal.Counting.{join, table_of_widths, listed}
 use Rattle.sharing_check.proofs.CountTables.{join_none, join_entry}
 use Rattle.sharing_check.proofs.widths.Widths.add_each.Goals as goal
 
@@ -18,7 +18,7 @@ loop-channel-preserved c =
     record {
       both = ap (λ t. join how t (listed rest)) c.in_ok-add.ensures
           ∙ (join_entry how l.self.by_channel.entries e rest apart
-          ∙ (ap (λ es. join how (noted l.self) (listed es)) (sym c.in-Some.ensures.steps) ∙ l.invariant.both));
+          ∙ (ap (λ es. join how (table_of_widths l.self) (listed es)) (sym c.in-Some.ensures.steps) ∙ l.invariant.both));
       apart = IsDistinct-tail nat_eq e.0 (keys_of rest) apart;
     }
 
@@ -27,4 +27,4 @@ pub returns : goal.returns
 returns c =
     let l = c.loop-channel in
     sym (join_none c.args.how l.self.by_channel.entries)
-    ∙ (ap (λ es. join c.args.how (noted l.self) (listed es)) (sym c.in-None.ensures.steps.0) ∙ l.invariant.both)
+    ∙ (ap (λ es. join c.args.how (table_of_widths l.self) (listed es)) (sym c.in-None.ensures.steps.0) ∙ l.invariant.both)

@@ -1,5 +1,5 @@
 use Rattle.std.proofs.Common.{ap, ◌∙◌}
-use Rattle.sharing_check.specs.walking.Counting.{listed}
+use Rattle.sharing_check.specs.internal.Counting.{listed}
 use Rattle.sharing_check.proofs.CountTables.{listed_none}
 use Rattle.sharing_check.proofs.widths.Widths.new.Goals as goal
 

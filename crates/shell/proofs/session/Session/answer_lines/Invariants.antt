@@ -2,7 +2,7 @@ use Rattle.std.proofs.Common.{Option, List, ℕ, Result}
 use Rattle.std.specs.Io.Buffered.{reader_remaining}
 use Rattle.debug_session.specs.declared.fault.Fault.{Fault}
 use Rattle.shell_desk.specs.AtBench.{AtBench}
-use Rattle.shell.specs.walking.Next.{Ended}
+use Rattle.shell.specs.internal.Next.{Ended}
 use Rattle.shell.proofs.session.Session.answer_lines.Given as goal
 
 -- however the lines from here on end, so do those from the beginning

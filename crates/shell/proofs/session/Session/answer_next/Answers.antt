@@ -1,6 +1,6 @@
 use Rattle.std.proofs.Common.{inl, inr, ℕ, List, subst}
 use Rattle.std.specs.Io.Buffered.{reader_remaining}
-use Rattle.shell.specs.walking.Next.{TakenEnds}
+use Rattle.shell.specs.internal.Next.{TakenEnds}
 use Rattle.shell.proofs.TakenLemmas.{next-ends, stopped-first, stopped-part, stops-reading}
 use Rattle.shell.proofs.session.Session.answer_next.Goals as goal
 

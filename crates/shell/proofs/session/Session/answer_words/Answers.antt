@@ -1,5 +1,5 @@
 use Rattle.shell.specs.Asking.{IsWordWith}
-use Rattle.shell.specs.walking.Parts.{Begun, WordMeans, WordsAsk}
+use Rattle.shell.specs.internal.Parts.{Begun, WordMeans, WordsAsk}
 use Rattle.shell.proofs.LeavesLemmas.{leaves-by, no-word-asks, rest-leaves, word-asks, word-begins}
 use Rattle.shell.proofs.session.Session.answer_words.Goals as goal
 

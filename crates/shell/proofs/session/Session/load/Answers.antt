@@ -1,6 +1,6 @@
 use Rattle.std.proofs.Common.{ℕ, List, sym, refl, subst}
 use Rattle.shell_desk.specs.declared.word.Word.{Word}
-use Rattle.shell.specs.walking.Parts.{AsksNoDeedAtAll, Begun}
+use Rattle.shell.specs.internal.Parts.{AsksNoDeedAtAll, Begun}
 use Rattle.shell.proofs.LeavesLemmas.{loads-leave}
 use Rattle.shell.proofs.session.Session.load.Goals as goal
 

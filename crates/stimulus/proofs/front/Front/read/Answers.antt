@@ -2,7 +2,7 @@ use Rattle.std.proofs.Common.{length, subst, inl, inr, sym, ◌∙◌, eqb-true}
 use Rattle.std.proofs.lemmas.List.{nil_from_length}
 use Rattle.std.proofs.lemmas.Result.{err_from_is_err_and}
 use Rattle.stimulus.specs.StimulusText.{HasForm}
-use Rattle.stimulus.specs.walking.LineParts.{IsPassed}
+use Rattle.stimulus.specs.internal.LineParts.{IsPassed}
 use Rattle.stimulus.proofs.Numbers.{not_empty}
 use Rattle.stimulus.proofs.Lines.{progress_other}
 use Rattle.stimulus.proofs.Fronts.{kept_more, kept_end, few_more, full_more}

@@ -1,6 +1,6 @@
 use Rattle.std.proofs.Common.{◌≡◌, ℕ, List, [], ◌∷◌, ◌++◌, ◌<◌, length, sym, arith, length-append, rules}
 use Rattle.std.specs.Fmt.{decimal}
-use Rattle.system.specs.walking.Hashing.{hash_of}
+use Rattle.system.specs.internal.Hashing.{hash_of}
 use Rattle.system.proofs.HashLemmas.{hash_onto-append}
 use Rattle.system.proofs.prefix.Prefix.of_call.Goals as goal
 

@@ -7,11 +7,11 @@ use Rattle.system.proofs.variable_table.VariableTable.number.Goals as goal
 pub returns-in-Some : goal.returns-in-Some
 returns-in-Some c =
     c.number_from.ensures
-    ∙ (ap (λ (vs : List Variable). variable_from c.in-Some.place (drop c.in-Some.place vs) c.args.name.now) c.as_slice.ensures
-    ∙ number-read c.self.inside.places c.self.inside.variables c.args.self.now c.args.name.now c.hash_onto.result c.find.result
-    (Some c.in-Some.place) c.self.invariant c.self.view_is c.hash_onto.ensures c.find.ensures c.in-Some.is)
+    ∙ (ap (λ (vs : List Variable). variable_from c.in-Some.position (drop c.in-Some.position vs) c.args.name.now) c.as_slice.ensures
+    ∙ number-read c.self.inside.positions c.self.inside.variables c.args.self.now c.args.name.now c.hash_onto.result c.find.result
+    (Some c.in-Some.position) c.self.invariant c.self.view_is c.hash_onto.ensures c.find.ensures c.in-Some.is)
 
 pub returns-in-None : goal.returns-in-None
 returns-in-None c =
-    number-read c.self.inside.places c.self.inside.variables c.args.self.now c.args.name.now c.hash_onto.result c.find.result None
+    number-read c.self.inside.positions c.self.inside.variables c.args.self.now c.args.name.now c.hash_onto.result c.find.result None
     c.self.invariant c.self.view_is c.hash_onto.ensures c.find.ensures c.in-None.is

@@ -1,6 +1,6 @@
 use Rattle.std.proofs.Common.{◌≡◌, ◌∙◌, sym, false, is_some}
 use Rattle.types.specs.Names.{look_up}
-use Rattle.types.specs.walking.Scopes.{entries}
+use Rattle.types.specs.internal.Scopes.{entries}
 use Rattle.types.proofs.NameLemmas.{shown-insert, absent_by}
 use Rattle.types.proofs.scope.Names.declare.Goals as goal
 

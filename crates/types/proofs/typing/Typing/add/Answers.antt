@@ -1,9 +1,9 @@
 use Rattle.std.proofs.Common.{ap, sym, subst, ◌∙◌}
 use Rattle.types.specs.Declarations.{with_procedures}
-use Rattle.types.specs.walking.Judged.{Judgement, Judges}
-use Rattle.types.specs.walking.Least.{least}
-use Rattle.types.specs.walking.Scopes.{scope_of}
-use Rattle.types.proofs.JudgedLemmas.{judges-more, spent-more}
+use Rattle.types.specs.internal.Judged.{Judgement, Judges}
+use Rattle.types.specs.internal.Least.{least}
+use Rattle.types.specs.internal.Scopes.{scope_of}
+use Rattle.types.proofs.public.JudgedLemmas.{judges-more, spent-more}
 use Rattle.types.proofs.typing.Typing.add.Goals as goal
 
 pub returns-clause-judged : goal.returns-clause-judged

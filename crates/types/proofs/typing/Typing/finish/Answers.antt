@@ -1,5 +1,5 @@
 use Rattle.std.proofs.Common.{ap, ◌∙◌}
-use Rattle.types.specs.walking.Judged.{Judgement}
+use Rattle.types.specs.internal.Judged.{Judgement}
 use Rattle.types.proofs.LeastDescriptions.{typed_from, refused_with}
 use Rattle.types.proofs.typing.Typing.finish.Goals as goal
 

@@ -1,5 +1,5 @@
-use Rattle.types.specs.walking.Scopes.{entries, scope_of}
-use Rattle.types.proofs.JudgedLemmas.{judges-types}
+use Rattle.types.specs.internal.Scopes.{entries, scope_of}
+use Rattle.types.proofs.public.JudgedLemmas.{judges-types}
 use Rattle.types.proofs.typing.Typing.new.Goals as goal
 
 pub returns : goal.returns

@@ -1,0 +1,5 @@
+pub mod Entries
+pub mod Finds
+pub mod Numbers
+pub mod Places
+pub mod Total

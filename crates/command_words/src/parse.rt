@@ -1,0 +1,68 @@
+//! From words to a request.
+
+ghost use Rattle.std.specs.Prelude.{map, MatchResult};
+ghost use Rattle.command_words.specs.Words as spec;
+ghost use Rattle.command_words.specs.internal.Building.{Finds, IsCommand, Refuses};
+
+use crate::asked::chosen;
+use crate::commands::balsadbg;
+use crate::hint::ask_explain;
+use crate::unasked::why_unasked;
+use crate::{Request, Unasked, help};
+use clap::error::ErrorKind;
+use clap::{Command, Error};
+use std::alloc::Global;
+use std::convert::AsStr;
+
+/// The request that the program finds in the words, if it finds one.
+fn found<'a, S: AsStr>(
+    program: &mut Command<'a>,
+    words: &'a [S],
+) -> Result<Option<Request<'a>>, Error>
+    requires { IsCommand spec.program program.now }
+    ensures { MatchResult result (Finds (map S.text words.entry.now)) (Refuses (map S.text words.entry.now)) }
+{
+    let matches = program.try_get_matches_from_mut(words)?;
+    Ok(chosen(&matches))
+}
+
+/// Why words of a command in good form ask for no request.
+fn why_none<S: AsStr>(words: &[S]) -> &'static str {
+    match words.get(1) {
+        Some(name) if name.as_str() == "picture" => help::NO_PICTURE,
+        _ => help::NO_REFUSAL,
+    }
+}
+
+/// The request for which the words ask, as this program reads them.
+fn asked<'a, S: AsStr>(program: &mut Command<'a>, words: &'a [S]) -> Result<Request<'a>, Error>
+    requires { IsCommand spec.program program.now }
+    ensures { MatchResult result (spec.AskFor (map S.text words.entry.now)) (Refuses (map S.text words.entry.now)) }
+{
+    let found = found(program, words)?;
+    match found {
+        Some(request) => Ok(request),
+        // As of `explain 18`: the command, its files and its numbers are required.
+        None => Err(program.error(ErrorKind::MissingSubcommand, why_none(words))?),
+    }
+}
+
+/// The request for which the words ask, as the program reads them.
+fn read<'a, S: AsStr>(alloc: Global, words: &'a [S]) -> Result<Request<'a>, Error>
+    ensures { MatchResult result (spec.AskFor (map S.text words.entry.now)) (Refuses (map S.text words.entry.now)) }
+{
+    let mut program = balsadbg(alloc)?;
+    asked(&mut program, words)
+}
+
+/// What `words` ask for, of which the first is the program's name; or the text to show instead. Where words ask for a
+/// request it is an error only if there is no memory.
+pub fn requested<'a, S: AsStr>(alloc: Global, words: &'a [S]) -> Result<Request<'a>, Unasked>
+    ensures { MatchResult result (spec.AskFor (map S.text words.entry.now))
+        (spec.AskNothing (map S.text words.entry.now)) }
+{
+    match read(alloc, words) {
+        Ok(request) => Ok(request),
+        Err(error) => Err(why_unasked(alloc, &error, ask_explain(words))),
+    }
+}

@@ -1,9 +1,0 @@
-use Rattle.std.proofs.lemmas.Result.{on_ok_weaker}
-use Rattle.dap.proofs.Lawful.{served}
-use Rattle.dap.proofs.serving.serve.Goals as goal
-
-pub returns : goal.returns
-returns g c =
-    on_ok_weaker c.serve.result
-    (served c.new-face.result c.serve.new.adapter (g.W.Write.contents c.args.writer.now) (g.W.Write.contents c.serve.new.writer)
-    c.new-face.ensures) c.serve.ensures

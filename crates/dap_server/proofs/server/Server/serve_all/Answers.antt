@@ -1,0 +1,28 @@
+use Rattle.std.proofs.Common.{Bool}
+use Rattle.std.proofs.lemmas.Result.{IfOk-at_ok}
+use Rattle.dap_server.specs.Session.{Serves}
+use Rattle.dap_server.proofs.Sessions.{serves_nothing, serves_then}
+use Rattle.dap_server.proofs.server.Server.serve_all.Goals as goal
+
+pub loop-turn-init : goal.loop-turn-init
+loop-turn-init g c = serves_nothing g.A.Adapter.answers c.args.adapter.now c.args.self.now.next (g.W.Write.contents c.args.writer.now)
+
+pub loop-turn-preserved : goal.loop-turn-preserved
+loop-turn-preserved g c =
+    let at = c.loop-turn in
+    serves_then g.A.Adapter.answers c.args.adapter.now at.adapter c.serve_next.new.adapter c.args.self.now.next at.self.next
+    c.serve_next.new.self.next (g.W.Write.contents c.args.writer.now) (g.W.Write.contents at.writer) (g.W.Write.contents c.serve_next.new.writer)
+    at.invariant
+    (IfOk-at_ok
+    (λ (more : Bool). Serves g.A.Adapter.answers at.adapter at.self.next c.serve_next.new.adapter c.serve_next.new.self.next
+    (g.W.Write.contents at.writer) (g.W.Write.contents c.serve_next.new.writer)) c.in-Ok-true.is c.serve_next.ensures)
+
+pub returns-in-Ok-false : goal.returns-in-Ok-false
+returns-in-Ok-false g c =
+    let at = c.loop-turn in
+    serves_then g.A.Adapter.answers c.args.adapter.now at.adapter c.serve_next.new.adapter c.args.self.now.next at.self.next
+    c.serve_next.new.self.next (g.W.Write.contents c.args.writer.now) (g.W.Write.contents at.writer) (g.W.Write.contents c.serve_next.new.writer)
+    at.invariant
+    (IfOk-at_ok
+    (λ (more : Bool). Serves g.A.Adapter.answers at.adapter at.self.next c.serve_next.new.adapter c.serve_next.new.self.next
+    (g.W.Write.contents at.writer) (g.W.Write.contents c.serve_next.new.writer)) c.in-Ok-false.is c.serve_next.ensures)

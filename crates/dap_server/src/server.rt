@@ -1,0 +1,232 @@
+// A session over a reader and a writer.
+ghost use Rattle.std.specs.Prelude.{ℕ, ◌≡◌, List, [], ◌∷◌, IfOk, OnOk};
+ghost use Rattle.dap_server.specs.Sent.{Sends};
+ghost use Rattle.dap_server.specs.Session.{Exchange, Serves};
+ghost use Rattle.dap_server.specs.Short.{short_bodies, short_line};
+
+use crate::adapter::Adapter;
+use crate::batch::batch_of;
+use crate::fault::Fault;
+use crate::gist::{Gist, gist_of};
+use crate::input::{Input, Next};
+use crate::output::send;
+use crate::room::Room;
+use dap_messages::{Request, Unread, read_request};
+use std::alloc::{AllocError, Global};
+use std::io::{Read, Write};
+
+/// Lets the adapter answer the requests of the reader, and writes the messages, until it is over or the reader is at
+/// its end.
+///
+/// Each message is out and flushed before the reader is asked for more. A message that is no request is passed over,
+/// which is told by an `output`. Where there is no memory for an answer, a short one says so, and the session goes on.
+///
+/// # Errors
+///
+/// - `NoHeader` where what is read is no header of a message;
+/// - `ReadFailed` where the reader fails, or ends inside a message;
+/// - `WriteFailed` where the writer fails;
+/// - `Memory` where there is no memory to read a message.
+pub fn serve<R: Read, W: Write, C, A: Adapter<C>>(
+    alloc: Global,
+    reader: &mut R,
+    writer: &mut W,
+    context: &C,
+    adapter: &mut A,
+) -> Result<(), Fault>
+    ensures { OnOk result ((after : ℕ)
+        × Serves A.answers adapter.old 1 adapter.new after (W.contents writer.old) (W.contents writer.new)) }
+{
+    match Server::new(alloc) {
+        Ok(mut server) => server.serve_all(reader, writer, context, adapter),
+        Err(AllocError) => Err(Fault::Memory),
+    }
+}
+
+/// What is read, and the number of the message that is sent next.
+#[derive(Drop)]
+struct Server {
+    alloc: Global,
+    input: Input,
+    room: Room,
+    next: u64,
+}
+
+impl Server {
+    /// Nothing has been read. It is an error if there is no memory.
+    fn new(alloc: Global) -> Result<Server, AllocError>
+        ensures { IfOk result (λ server. server.next ≡ 1) }
+    {
+        let input = Input::new(alloc)?;
+        let room = Room::new(alloc)?;
+        Ok(Server {
+            alloc,
+            input,
+            room,
+            next: 1,
+        })
+    }
+
+    /// Answers the messages of the reader, one after another.
+    fn serve_all<R: Read, W: Write, C, A: Adapter<C>>(
+        &mut self,
+        reader: &mut R,
+        writer: &mut W,
+        context: &C,
+        adapter: &mut A,
+    ) -> Result<(), Fault>
+        ensures { OnOk result (Serves A.answers adapter.old self.old.next adapter.new self.new.next
+            (W.contents writer.old) (W.contents writer.new)) }
+    {
+        for turn in 0..u64::MAX {
+            match self.serve_next(reader, writer, context, adapter) {
+                Ok(true) => {}
+                Ok(false) => return Ok(()),
+                Err(fault) => return Err(fault),
+            }
+        }
+        // No session has so many messages.
+        Err(Fault::Memory)
+    }
+
+    /// Answers the next message, and tells whether others may follow.
+    fn serve_next<R: Read, W: Write, C, A: Adapter<C>>(
+        &mut self,
+        reader: &mut R,
+        writer: &mut W,
+        context: &C,
+        adapter: &mut A,
+    ) -> Result<bool, Fault>
+        ensures { IfOk result (λ more. Serves A.answers adapter.old self.old.next adapter.new self.new.next
+            (W.contents writer.old) (W.contents writer.new)) }
+    {
+        match self.input.next(reader) {
+            Ok(next) => self.serve_message(writer, context, adapter, next),
+            Err(fault) => Err(fault),
+        }
+    }
+
+    /// Answers a message, and tells whether others may follow.
+    fn serve_message<W: Write, C, A: Adapter<C>>(
+        &mut self,
+        writer: &mut W,
+        context: &C,
+        adapter: &mut A,
+        next: Next,
+    ) -> Result<bool, Fault>
+        ensures { IfOk result (λ more. Serves A.answers adapter.old self.old.next adapter.new self.new.next
+            (W.contents writer.old) (W.contents writer.new)) }
+    {
+        match next {
+            Next::Body(from, to) => self.hear(writer, context, adapter, from, to),
+            Next::Large => self.pass_over(writer),
+            Next::End => Ok(false),
+        }
+    }
+
+    /// Tells that a message was passed over, and that others may follow.
+    fn pass_over<W: Write>(&mut self, writer: &mut W) -> Result<bool, Fault>
+        ensures { IfOk result (λ more. (line : List ℕ)
+            × Sends (short_line line self.old.next ∷ []) (W.contents writer.old) (W.contents writer.new) self.old.next
+            self.new.next) }
+    {
+        match self.tell(writer, "a message of more than 4 MB is passed over") {
+            Ok(()) => Ok(true),
+            Err(fault) => Err(fault),
+        }
+    }
+
+    /// Answers the message that was read between these indexes, and tells whether others may follow.
+    fn hear<W: Write, C, A: Adapter<C>>(
+        &mut self,
+        writer: &mut W,
+        context: &C,
+        adapter: &mut A,
+        from: usize,
+        to: usize,
+    ) -> Result<bool, Fault>
+        ensures { IfOk result (λ more. Serves A.answers adapter.old self.old.next adapter.new self.new.next
+            (W.contents writer.old) (W.contents writer.new)) }
+    {
+        match self.take(writer, context, adapter, from, to) {
+            Ok(()) => Ok(!adapter.is_over()),
+            Err(fault) => Err(fault),
+        }
+    }
+
+    /// Answers the message that was read between these indexes.
+    fn take<W: Write, C, A: Adapter<C>>(
+        &mut self,
+        writer: &mut W,
+        context: &C,
+        adapter: &mut A,
+        from: usize,
+        to: usize,
+    ) -> Result<(), Fault>
+        ensures { OnOk result (Serves A.answers adapter.old self.old.next adapter.new self.new.next
+            (W.contents writer.old) (W.contents writer.new)) }
+    {
+        match read_request(self.alloc, self.input.body(from, to)) {
+            Ok(request) => self.answer(writer, context, adapter, &request),
+            Err(unread) => self.tell(writer, words_of(unread)),
+        }
+    }
+
+    /// Answers a request.
+    fn answer<W: Write, C, A: Adapter<C>>(
+        &mut self,
+        writer: &mut W,
+        context: &C,
+        adapter: &mut A,
+        request: &Request,
+    ) -> Result<(), Fault>
+        ensures { OnOk result ((sent : List (List ℕ))
+            × Exchange A.answers adapter.old request.now self.old.next sent adapter.new
+            × Sends sent (W.contents writer.old) (W.contents writer.new) self.old.next self.new.next) }
+    {
+        let answer = adapter.answer(context, request);
+        let gist = gist_of(&answer);
+        match batch_of(self.alloc, request, answer, self.next) {
+            Ok(batch) => send(writer, &batch, &mut self.next),
+            Err(AllocError) => self.answer_short(writer, request, gist),
+        }
+    }
+
+    /// Answers a request for whose answer there is no memory.
+    fn answer_short<W: Write>(
+        &mut self,
+        writer: &mut W,
+        request: &Request,
+        gist: Gist,
+    ) -> Result<(), Fault>
+        ensures { OnOk result
+            (Sends (short_bodies request.now gist self.old.next) (W.contents writer.old) (W.contents writer.new)
+            self.old.next self.new.next) }
+    {
+        match self.room.answer(request, gist, self.next) {
+            Ok(()) => send(writer, &self.room.batch, &mut self.next),
+            Err(AllocError) => Err(Fault::Memory),
+        }
+    }
+
+    /// Tells a line.
+    fn tell<W: Write>(&mut self, writer: &mut W, line: &str) -> Result<(), Fault>
+        ensures { OnOk result
+            (Sends (short_line line.now self.old.next ∷ []) (W.contents writer.old) (W.contents writer.new)
+            self.old.next self.new.next) }
+    {
+        match self.room.tell(line, self.next) {
+            Ok(()) => send(writer, &self.room.batch, &mut self.next),
+            Err(AllocError) => Err(Fault::Memory),
+        }
+    }
+}
+
+/// Why a message is passed over.
+fn words_of(unread: Unread) -> &'static str {
+    match unread {
+        Unread::Memory => "there is no memory to read a message, which is passed over",
+        Unread::NoJson => "a message that is no JSON of 64 levels at most is passed over",
+        Unread::NoRequest => "a message that is no request is passed over",
+    }
+}

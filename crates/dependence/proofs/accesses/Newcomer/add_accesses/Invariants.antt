@@ -1,7 +1,0 @@
-use Rattle.std.proofs.Common.{ℕ, take}
-use Rattle.syntax.specs.Lists.{In}
-use Rattle.dependence.specs.walking.Found.{AccessesFound}
-use Rattle.dependence.proofs.accesses.Newcomer.add_accesses.Given as goal
-
-abbrev pub invariant-loop-ticket : goal.invariant-loop-ticket
-invariant-loop-ticket l = AccessesFound l.self.live.now l.self.event.now (λ (t : ℕ). In t (take l.ticket-index l.tickets)) l.fn.found.items l.found.items

@@ -1,7 +1,0 @@
-use Rattle.std.proofs.Common.{take}
-use Rattle.dependence.specs.walking.Found.{AccessesFound, WritesOneRead}
-use Rattle.dependence.proofs.accesses.Newcomer.add_by_reads.Given as goal
-
-abbrev pub invariant-loop-variable : goal.invariant-loop-variable
-invariant-loop-variable l =
-    AccessesFound l.self.live.now l.self.event.now (WritesOneRead l.self.live.now (take l.variable-index l.variable-items)) l.fn.found.items l.found.items

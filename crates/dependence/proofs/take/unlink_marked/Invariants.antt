@@ -1,0 +1,12 @@
+use Rattle.std.proofs.Common.{◌≡◌, ℕ, ◌<◌, true, Some}
+use Rattle.std.specs.Prelude.{slice_get}
+use Rattle.syntax.specs.Lists.{In}
+use Rattle.dependence.specs.Shown.{tickets_marked}
+use Rattle.dependence.specs.internal.Unmarked.{AllThinned, IsLoose}
+use Rattle.dependence.proofs.take.unlink_marked.Given as goal
+
+abbrev pub invariant-loop-index : goal.invariant-loop-index
+invariant-loop-index l = record {
+  thinned : AllThinned (λ (t : ℕ). In t (tickets_marked l.live l.marks)) l.initial.links l.links;
+  loose : (j : ℕ) → j < l.index → slice_get l.marks j ≡ Some true → IsLoose l.live l.initial.links l.links j;
+}

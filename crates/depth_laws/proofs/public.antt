@@ -1,0 +1,4 @@
+pub mod Chains
+pub mod EqualRaces
+pub mod EqualRuns
+pub mod OneState

@@ -1,9 +1,0 @@
-pub mod BodyParts
-pub mod Counting
-pub mod Instances
-pub mod Limited
-pub mod Makers
-pub mod Making
-pub mod NamePlaces
-pub mod SizeParts
-pub mod Walked

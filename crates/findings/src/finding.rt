@@ -1,0 +1,194 @@
+// What was found about a fault, and its text.
+ghost use Rattle.std.specs.Prelude.{◌≡◌, ◌++◌, ℕ, List, IfOk, string_bytes};
+ghost use Rattle.findings.specs.Heads.{IsHead, TellsPlace, head};
+
+use crate::wrap::add_help;
+use marked_lines::{Mark, add_marked};
+use source_places::place_of;
+use std::alloc::{AllocError, Global};
+use std::str;
+use syntax::Span;
+
+/// A text that was read, and how people call it: the name of its file, or what it is.
+#[derive(Clone, Copy)]
+pub struct Input<'a> {
+    pub name: &'a str,
+    pub bytes: &'a [u8],
+}
+
+/// Another place that has to do with the fault.
+#[derive(Drop)]
+pub struct Beside {
+    pub start: u64,
+    pub stop: u64,
+    pub note: String,
+}
+
+/// What was found about a fault at a place.
+#[derive(Drop)]
+pub struct Finding {
+    pub alloc: Global,
+    pub start: u64,
+    pub stop: u64,
+    /// What is wrong.
+    pub what: String,
+    /// What helps; nothing where it is empty.
+    pub help: String,
+    pub beside: Vec<Beside>,
+}
+
+/// The bytes from one offset up to another, as text.
+pub fn text_between(source: &[u8], start: u64, stop: u64) -> &str {
+    let bytes = source.get(start as usize..stop as usize).unwrap_or(b"");
+    str::from_utf8(bytes).unwrap_or("?")
+}
+
+/// The bytes of a span, as text.
+pub fn text_of(source: &[u8], span: Span) -> &str {
+    text_between(source, span.start, span.stop)
+}
+
+/// So many bytes of a name or an expression are told at most.
+const LONGEST: usize = 60;
+
+/// The text of a name or an expression as it is told: `..` where it is long or goes over lines.
+pub fn short(text: &str) -> &str {
+    if text.len() > LONGEST || text.as_bytes().contains(&b'\n') {
+        return "..";
+    }
+    text
+}
+
+/// A part of what is told: `..` where it is a name that is very long.
+fn part_told(part: &str) -> &str {
+    if part.len() > 400 { ".." } else { part }
+}
+
+/// The name of a text, a line of it and a column in that, and what is said of it.
+fn head_of(
+    alloc: Global,
+    name: &str,
+    line: usize,
+    column: usize,
+    what: &str,
+) -> Result<String, AllocError>
+    ensures { IfOk result (λ told. string_bytes told ≡ head name.now line column what.now) }
+{
+    let mut text = String::from_str(alloc, name)?;
+    write!(text, ":{line}:{column}: ")?;
+    text.push_str(what)?;
+    text.push('\n')?;
+    Ok(text)
+}
+
+impl Finding {
+    /// Nothing is said yet of the bytes from `start` up to `stop`.
+    pub fn new(alloc: Global, start: u64, stop: u64) -> Finding {
+        Finding {
+            alloc,
+            start,
+            stop,
+            what: String::new(alloc),
+            help: String::new(alloc),
+            beside: Vec::new(alloc),
+        }
+    }
+
+    /// Adds another place.
+    pub fn add_beside(&mut self, span: Span, note: &str) -> Result<(), AllocError> {
+        let note = String::from_str(self.alloc, note)?;
+        self.beside.push(Beside {
+            start: span.start,
+            stop: span.stop,
+            note,
+        })?;
+        Ok(())
+    }
+
+    /// Adds another place, where none that is added begins there.
+    pub fn add_once(&mut self, span: Span, note: &str) -> Result<(), AllocError> {
+        if self.beside.iter().any(|one| one.start == span.start) {
+            return Ok(());
+        }
+        self.add_beside(span, note)
+    }
+
+    /// Says what is wrong.
+    pub fn say(&mut self, parts: &[&str]) -> Result<(), AllocError> {
+        for part in parts {
+            self.what.push_str(part_told(part))?;
+        }
+        Ok(())
+    }
+
+    /// Says what helps.
+    pub fn advise(&mut self, parts: &[&str]) -> Result<(), AllocError> {
+        for part in parts {
+            self.help.push_str(part_told(part))?;
+        }
+        Ok(())
+    }
+
+    /// All its marks, in the order of their places.
+    fn marks(&self) -> Result<Vec<Mark<'_>>, AllocError> {
+        let mut marks = Vec::new(self.alloc);
+        marks.push(Mark {
+            start: self.start as usize,
+            stop: self.stop as usize,
+            sign: '^',
+            note: "",
+        })?;
+        for one in &self.beside {
+            marks.push(Mark {
+                start: one.start as usize,
+                stop: one.stop as usize,
+                sign: '-',
+                note: one.note.as_str(),
+            })?;
+        }
+        marks.sort_by_key(|mark| mark.start)?;
+        Ok(marks)
+    }
+
+    /// The text: the place and what is wrong, the lines with their marks, and what helps.
+    pub fn text(&self, input: Input<'_>, keeps_return: bool) -> Result<String, AllocError>
+        ensures { IfOk result (λ told. TellsPlace input.entry.name.now input.entry.bytes.now self.now.start
+            (string_bytes self.now.what) (string_bytes told)) }
+    {
+        let mut text = self.head(input)?;
+        let lines = self.lines(input, keeps_return)?;
+        text.push_str(lines.as_str())?;
+        Ok(text)
+    }
+
+    /// The first line: the place and what is wrong.
+    fn head(&self, input: Input<'_>) -> Result<String, AllocError>
+        ensures { IfOk result (λ told. IsHead input.entry.name.now input.entry.bytes.now self.now.start
+            (string_bytes self.now.what) (string_bytes told)) }
+    {
+        let place = place_of(input.bytes, self.start as usize);
+        let text = head_of(
+            self.alloc,
+            input.name,
+            place.line,
+            place.column,
+            self.what.as_str(),
+        )?;
+        Ok(text)
+    }
+
+    /// The lines with their marks, and what helps.
+    fn lines(&self, input: Input<'_>, keeps_return: bool) -> Result<String, AllocError> {
+        let marks = self.marks()?;
+        let mut text = String::new(self.alloc);
+        add_marked(
+            self.alloc,
+            &mut text,
+            input.bytes,
+            marks.as_slice(),
+            keeps_return,
+        )?;
+        add_help(self.alloc, &mut text, self.help.as_str())?;
+        Ok(text)
+    }
+}

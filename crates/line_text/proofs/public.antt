@@ -1,0 +1,4 @@
+pub mod CutLemmas
+pub mod KeywordLemmas
+pub mod NumberLemmas
+pub mod OneOperand

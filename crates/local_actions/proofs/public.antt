@@ -1,0 +1,9 @@
+pub mod Begun
+pub mod Endings
+pub mod Exactly
+pub mod GoingDown
+pub mod OneByOne
+pub mod Passing
+pub mod PlacedActions
+pub mod Walked
+pub mod Walks

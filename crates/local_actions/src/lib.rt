@@ -1,0 +1,25 @@
+//! The actions of events that a tree offers: what each place of it could do now, with its values.
+#![tactic(auto)]
+
+mod action;
+mod actions;
+mod at_place;
+mod cursor;
+mod fresh;
+mod leaves;
+mod list;
+mod moved;
+mod over;
+mod place;
+
+pub use action::{ActionKind, LocalAction};
+pub use actions::actions_of;
+pub use at_place::{actions_at, actions_below};
+pub use cursor::{Arrived, Cursor};
+pub use fresh::list_fresh;
+pub use leaves::{
+    list_again, list_arms, list_close, list_drain, list_held, list_once, list_sender, list_test,
+};
+pub use list::body_of_turn;
+pub use moved::first_at_work;
+pub use over::{is_over, starts_over};

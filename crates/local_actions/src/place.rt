@@ -1,0 +1,77 @@
+// The first step of a place, and what is below one.
+ghost use Rattle.std.specs.Prelude.{◌≡◌, ℕ, ◌∷◌, MatchOption};
+ghost use Rattle.address.specs.declared.Entry.TheVariants.{Ordered as IsOrdered, Branch as IsBranch};
+ghost use Rattle.runs.specs.Moves.{Place};
+ghost use Rattle.runs.specs.Tests.{same_entry};
+ghost use Rattle.local_actions.specs.internal.At.{is_under};
+
+use address::Entry;
+
+/// The number of the child or act of a sequence, and the place below it.
+pub(crate) fn ordered_step(place: &[Entry]) -> Option<(u32, &[Entry])>
+    ensures { MatchOption result ((n : ℕ) (a : Place) → place.now ≡ IsOrdered n ∷ a →
+        ⊥) (λ step. place.now ≡ IsOrdered step.0 ∷ step.1.now) }
+{
+    let (first, below) = place.split_first()?;
+    match first {
+        Entry::Ordered(number) => Some((*number, below)),
+        Entry::Branch(_) => None,
+    }
+}
+
+/// The number of the branch of a parallel, and the place below it.
+pub(crate) fn branch_step(place: &[Entry]) -> Option<(u32, &[Entry])>
+    ensures { MatchOption result ((n : ℕ) (a : Place) → place.now ≡ IsBranch n ∷ a →
+        ⊥) (λ step. place.now ≡ IsBranch step.0 ∷ step.1.now) }
+{
+    let (first, below) = place.split_first()?;
+    match first {
+        Entry::Ordered(_) => None,
+        Entry::Branch(number) => Some((*number, below)),
+    }
+}
+
+/// The place below the child of this number.
+pub(crate) fn below_child(place: &[Entry], number: u64) -> Option<&[Entry]>
+    ensures { MatchOption result ((a : Place) → place.now ≡ IsOrdered number ∷ a →
+        ⊥) (λ below. place.now ≡ IsOrdered number ∷ below.now) }
+{
+    let (first, below) = ordered_step(place)?;
+    if u64::from(first) == number {
+        return Some(below);
+    }
+    None
+}
+
+/// Whether the second place is the first or below it.
+pub(crate) fn is_under(place: &[Entry], other: &[Entry]) -> bool
+    ensures { result ≡ is_under place.now other.now }
+{
+    let Some((first, rest)) = place.split_first() else {
+        return true;
+    };
+    let Some((second, other_rest)) = other.split_first() else {
+        return false;
+    };
+    if is_same(*first, *second) {
+        is_under(rest, other_rest)
+    } else {
+        false
+    }
+}
+
+/// Whether the entries are the same.
+fn is_same(one: Entry, other: Entry) -> bool
+    ensures { result ≡ same_entry one other }
+{
+    match one {
+        Entry::Ordered(i) => match other {
+            Entry::Ordered(j) => i == j,
+            Entry::Branch(_) => false,
+        },
+        Entry::Branch(i) => match other {
+            Entry::Ordered(_) => false,
+            Entry::Branch(j) => i == j,
+        },
+    }
+}

@@ -1,0 +1,4 @@
+pub mod AskedLists
+pub mod BackLaws
+pub mod BridgeLaws
+pub mod Unchanged

@@ -1,0 +1,92 @@
+-- The commands of sessions as commands of the execution.
+use Rattle.std.proofs.Common.{◌≡◌, ◌⊎◌, inl, inr, ℕ, List, [], ◌∷◌, Option, Some, None, map, refl, sym, ap, subst}
+use Rattle.std.specs.Prelude.{MatchOption, option_map}
+use Rattle.runs.specs.Answered as calculus
+use Rattle.runs.specs.Does.{Answers, MayWantMemory}
+use Rattle.runs.specs.declared.command.Command as runs_command
+use Rattle.runs.specs.declared.command.Reply as runs_reply
+use Rattle.runs.specs.declared.command.Refusal.TheVariants.{Memory}
+use Rattle.machine.specs.AtMachine.{AtMachine, object}
+use Rattle.machine.specs.Branching.{StepsBranch}
+use Rattle.machine.specs.declared.branch.BranchReply.{BranchReply}
+use Rattle.locked_execution.specs.AtDesk.{AtDesk, execution, breaks_of}
+use Rattle.locked_execution.specs.Performs.{session_reply, branch_reply, OnExecution, SetsBreak, ClearsBreak}
+use Rattle.locked_execution.specs.Bridge.{on_execution, onto, commands_of, replies_of, IsOnExecution, AreOnExecution}
+use Rattle.locked_execution.specs.declared.command.Command.{Command}
+use Rattle.locked_execution.specs.declared.command.Reply.{Reply}
+
+-- the execution answers c with what the session is told
+IsAnswered : AtDesk → AtDesk → Reply → runs_command.Command → Type 0
+IsAnswered d d' reply c = (answer : runs_reply.Reply) × (session_reply answer ≡ reply) × Answers (execution d) c answer (execution d')
+
+-- what the command of the session, if it is one of the execution, is there
+Carries : AtDesk → AtDesk → Command → Reply → Type 0
+Carries d d' command reply = MatchOption (on_execution command reply) (d'.machine ≡ d.machine) (λ c. IsAnswered d d' reply c)
+
+one : (d d' : AtDesk) (c : runs_command.Command) (reply : Reply) →
+    OnExecution d c reply d' ⊎ (MayWantMemory (execution d) c × (reply ≡ Reply.Refused Memory) × (d' ≡ d)) → IsAnswered d d' reply c
+unfolding IsAnswered
+one d d' c reply (inl h) = (h.0, sym h.1, inl h.2)
+one d d' c reply (inr h) = (runs_reply.Reply.Refused Memory, sym h.1, inr (h.0, refl, ap execution h.2))
+
+branch : (d d' : AtDesk) (session k : ℕ) (answer : BranchReply) → StepsBranch d.machine k (breaks_of d session) answer d'.machine →
+    Carries d d' (Command.Branch k) (branch_reply answer)
+unfolding Carries IsAnswered
+branch d d' session k (BranchReply.Stepped t e) h = (runs_reply.Reply.Stepped t e, refl, inl h.4.1)
+branch d d' session k (BranchReply.Stopped line) h = h.4.1
+branch d d' session k BranchReply.Idle h = h.4.1
+branch d d' session k (BranchReply.Refused why) h = h.4.1
+
+set : (d d' : AtDesk) (session line : ℕ) (reply : Reply) → SetsBreak d session line reply d' → d'.machine ≡ d.machine
+set d d' session line Reply.Done h = ap (λ (a : AtDesk). a.machine) h.2
+set d d' session line (Reply.Refused why) h = ap (λ (a : AtDesk). a.machine) h.1
+set d d' session line _ h = absurd h
+
+cleared : (d d' : AtDesk) (session line : ℕ) (reply : Reply) → ClearsBreak d session line reply d' → d'.machine ≡ d.machine
+cleared d d' session line Reply.Done h = ap (λ (a : AtDesk). a.machine) h
+cleared d d' session line _ h = absurd h
+
+pub is-on-execution : IsOnExecution
+unfolding Carries IsAnswered
+is-on-execution d d' session (Command.Step c) reply h = one d d' (runs_command.Command.Step c) reply h
+is-on-execution d d' session (Command.Undo t) reply h = one d d' (runs_command.Command.Undo t) reply h
+is-on-execution d d' session (Command.Roll t) reply h = one d d' (runs_command.Command.Roll t) reply h
+is-on-execution d d' session (Command.RollValue x) reply h = one d d' (runs_command.Command.RollValue x) reply h
+is-on-execution d d' session (Command.Blame x) reply h = one d d' (runs_command.Command.Blame x) reply h
+is-on-execution d d' session Command.Ready reply h = one d d' runs_command.Command.Ready reply h
+is-on-execution d d' session (Command.Consequences t) reply h = one d d' (runs_command.Command.Consequences t) reply h
+is-on-execution d d' session Command.Live reply h = one d d' runs_command.Command.Live reply h
+is-on-execution d d' session (Command.Value x) reply h = one d d' (runs_command.Command.Value x) reply h
+is-on-execution d d' session (Command.Branch k) reply (inl h) =
+    subst (λ (r : Reply). Carries d d' (Command.Branch k) r) (sym h.1) (branch d d' session k h.0 h.2)
+is-on-execution d d' session (Command.Branch k) reply (inr h) =
+    let held : d'.machine ≡ d.machine = ap (λ (a : AtDesk). a.machine) h.2 in
+    subst (λ (r : Reply). Carries d d' (Command.Branch k) r) (sym h.1) held
+is-on-execution d d' session (Command.Break line) reply (inl h) = set d d' session line reply h
+is-on-execution d d' session (Command.Break line) reply (inr h) = absurd h.0
+is-on-execution d d' session (Command.Clear line) reply (inl h) = cleared d d' session line reply h
+is-on-execution d d' session (Command.Clear line) reply (inr h) = absurd h.0
+
+-- these commands of the execution, of which the sessions are told these replies, lead from what is held to d'
+Leads : AtMachine → AtDesk → List runs_command.Command → List Reply → Type 0
+Leads h d' commands replies =
+    (answers : List runs_reply.Reply) × (map session_reply answers ≡ replies) × calculus.Answered (object h) commands answers (execution d')
+
+-- one more in front
+in-front : (d m d' : AtDesk) (o : Option runs_command.Command) (reply : Reply) (commands : List runs_command.Command) (replies : List Reply) →
+    MatchOption o (m.machine ≡ d.machine) (λ c. IsAnswered d m reply c) → Leads m.machine d' commands replies →
+    Leads d.machine d' (onto o commands) (onto (option_map (λ _. reply) o) replies)
+unfolding Leads IsAnswered
+in-front d m d' None reply commands replies held rest = subst (λ (h : AtMachine). Leads h d' commands replies) held rest
+in-front d m d' (Some c) reply commands replies now rest =
+    let first : session_reply now.0 ≡ reply = now.1 in
+    let others : map session_reply rest.0 ≡ replies = rest.1 in
+    (now.0 ∷ rest.0, (λ i. first i ∷ others i), (now.0, rest.0, execution m, refl, now.2, rest.2))
+
+pub are-on-execution : AreOnExecution
+unfolding Leads IsAnswered
+are-on-execution d d' [] replies h = ([], refl, (refl, ap execution h.1))
+are-on-execution d d' (x ∷ xs) replies h =
+    subst (λ (rs : List Reply). Leads d.machine d' (commands_of (x ∷ xs) rs) (replies_of (x ∷ xs) rs)) (sym h.3)
+    (in-front d h.2 d' (on_execution x.1 h.0) h.0 (commands_of xs h.1) (replies_of xs h.1)
+    (is-on-execution d h.2 x.0 x.1 h.0 h.4) (are-on-execution h.2 d' xs h.1 h.5))

@@ -1,0 +1,23 @@
+use Rattle.std.proofs.Common.{subst}
+use Rattle.std.specs.Prelude.{IfOk}
+use Rattle.std.proofs.lemmas.Result.{IfOk-weaker}
+use Rattle.runs.specs.Steps.{State}
+use Rattle.runs.specs.Object.{Reaches}
+use Rattle.runs.specs.declared.command.Refusal.TheVariants.{Memory}
+use Rattle.event_inverse.specs.Grown.{state_of_tree}
+use Rattle.local_actions.specs.Actions.{OffersExactly}
+use Rattle.machine.specs.AtMachine.{AtMachine, object}
+use Rattle.machine.specs.internal.Histories.{execution, tree_of}
+use Rattle.machine.proofs.Stepped.{ok-told}
+use Rattle.machine.proofs.machine.Machine.actions.Goals as goal
+
+pub returns : goal.returns
+returns c =
+    let o = execution c.self.inside.system c.self.inside.history in
+    let T = state_of_tree (tree_of c.self.inside.history) in
+    let told =
+    ok-told (λ actions. Reaches o T × OffersExactly T actions) Memory c.actions.result c.or_no_memory.result
+    (c.actions.ensures c.self.inside.system c.self.invariant.0) c.or_no_memory.ensures in
+    subst (λ (h : AtMachine). IfOk c.or_no_memory.result (λ actions. (S : State) × Reaches (object h) S × OffersExactly S actions)) c.self.view_is
+    (IfOk-weaker c.or_no_memory.result (λ actions. Reaches o T × OffersExactly T actions) (λ actions. (S : State) × Reaches o S × OffersExactly S actions)
+    (λ actions both. (T, both.0, both.1)) told)

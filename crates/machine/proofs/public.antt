@@ -1,0 +1,5 @@
+pub mod Branches
+pub mod Entries
+pub mod Gathering
+pub mod HeadlineLaws
+pub mod Standing

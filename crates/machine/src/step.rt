@@ -1,0 +1,192 @@
+// Taking one event.
+ghost use Rattle.std.specs.Prelude.{◌≡◌, ◌≤◌, ◌<◌, ◌∷◌, ◌++◌, [], ℕ, List, Some, suc, length, IfOk, IfErr, OnOk, OnErr};
+ghost use Rattle.sharing_check.specs.declared.checked.Checked.{Checked};
+ghost use Rattle.runs.specs.Steps.{Allowed};
+ghost use Rattle.runs.specs.Live.{LiveAt};
+ghost use Rattle.runs.specs.Object.{Reaches, most_live, last_ticket, with_event};
+ghost use Rattle.runs.specs.Ready.{ReadyList};
+ghost use Rattle.runs.specs.Does.{Does};
+ghost use Rattle.machine.specs.Results.{step_reply};
+ghost use Rattle.local_actions.specs.Actions.{OffersExactly};
+ghost use Rattle.dependence.specs.Behind.{ComesBehind};
+ghost use Rattle.event_inverse.specs.Grown.{TreeAndStore, state_of_tree, applied};
+ghost use Rattle.event_inverse.specs.View.{inverse_view};
+ghost use Rattle.event_inverse.specs.declared.record.Inverse.{Inverse};
+ghost use Rattle.machine.specs.internal.Choosing.{NotTaken, IsAdmitted, TakesFound};
+ghost use Rattle.machine.specs.internal.Histories.{execution, tree_of, Holds, KnowsUses};
+ghost use Rattle.machine.specs.internal.Entering.{Entered, NotEntered};
+
+use crate::history::History;
+use allowed_events::{event_with, ready_events};
+use channel_uses::ChannelUses;
+use event_inverse::{Inverse, Record, apply, invert};
+use local_actions::{LocalAction, actions_of};
+use rows::Rows;
+use runs::{Choice, Command, Event, LAST_TICKET, MOST_LIVE_EVENTS, Refusal};
+use sharing_check::Checked;
+use std::alloc::{AllocError, Global};
+use syntax::{Boxed, Items};
+
+impl History {
+    /// Takes the event that the choice means.
+    pub(crate) fn step(
+        &mut self,
+        alloc: Global,
+        system: &Checked,
+        uses: &ChannelUses,
+        choice: &Choice,
+    ) -> Result<Result<(u64, Event), Refusal>, AllocError>
+        requires holds { Holds system.now self.old }
+        requires uses { KnowsUses system.now uses.now }
+        ensures done { IfOk result (λ told.
+            Does (execution system.now self.old) (Command.Step choice.now) (step_reply told)
+            (execution system.now self.new)) }
+        ensures unchanged { OnErr result (execution system.now self.new ≡ execution system.now self.old) }
+        ensures holds { Holds system.now self.new }
+    {
+        let found = event_with(alloc, uses, &self.tree, &self.store, choice)?;
+        self.take_found(alloc, system, found)
+    }
+
+    /// Takes the event that was found, where the limits leave room for it. There may be no memory for an event that is
+    /// taken, and for no other.
+    fn take_found(
+        &mut self,
+        alloc: Global,
+        system: &Checked,
+        found: Option<Event>,
+    ) -> Result<Result<(u64, Event), Refusal>, AllocError>
+        requires holds { Holds system.now self.old }
+        requires allowed { (e : Event) → found ≡ Some e → Allowed (state_of_tree (tree_of self.old)) e }
+        ensures taken { IfOk result (λ told.
+            TakesFound (execution system.now self.old) found told (execution system.now self.new)) }
+        ensures unchanged { OnErr result (execution system.now self.new ≡ execution system.now self.old) }
+        ensures wanted { OnErr result (IsAdmitted found (length self.old.live.live) self.old.next) }
+        ensures holds { Holds system.now self.new }
+    {
+        match self.admitted(found) {
+            Ok(event) => {
+                let entry = self.add(alloc, system, event)?;
+                Ok(Ok(entry))
+            }
+            Err(why) => Ok(Err(why)),
+        }
+    }
+
+    /// The event, where there is one and the limits leave room for it; else why none is taken.
+    pub(crate) fn admitted(&self, found: Option<Event>) -> Result<Event, Refusal>
+        ensures taken { IfOk result (λ event. (found ≡ Some event) × (length self.now.live.live < most_live)
+            × (self.now.next ≤ last_ticket)) }
+        ensures refused { IfErr result (λ why. NotTaken found (length self.now.live.live) self.now.next why) }
+    {
+        let Some(event) = found else {
+            return Err(Refusal::NotReady);
+        };
+        if self.live.len() as u64 >= MOST_LIVE_EVENTS {
+            return Err(Refusal::HistoryFull);
+        }
+        if self.next > LAST_TICKET {
+            return Err(Refusal::Spent);
+        }
+        Ok(event)
+    }
+
+    /// Makes the event, and enters it under the next ticket. The copy that stays is made first.
+    pub(crate) fn add(
+        &mut self,
+        alloc: Global,
+        system: &Checked,
+        event: Event,
+    ) -> Result<(u64, Event), AllocError>
+        requires holds { Holds system.now self.old }
+        requires allowed { Allowed (state_of_tree (tree_of self.old)) event }
+        requires few { length self.old.live.live < most_live }
+        requires unspent { self.old.next ≤ last_ticket }
+        ensures done { IfOk result (λ entry. entry ≡ (self.old.next, event)) }
+        ensures added { OnOk result (execution system.now self.new ≡ with_event (execution system.now self.old) event) }
+        ensures unchanged { OnErr result (execution system.now self.new ≡ execution system.now self.old) }
+        ensures holds { Holds system.now self.new }
+    {
+        let ticket = self.next;
+        let kept = Boxed::new(alloc, event.copy(alloc)?)?;
+        system.shares_well();
+        let record = apply(alloc, &mut self.tree, &mut self.store, event)?;
+        let event = self.enter(record, kept)?;
+        Ok((ticket, event))
+    }
+
+    /// Enters the event that was made last under the next ticket; `kept` is the copy that stays among the live events.
+    /// Without memory it is taken back.
+    fn enter(&mut self, made: Record, kept: Boxed<Event>) -> Result<Event, AllocError>
+        requires same { kept ≡ made.event }
+        requires last { (T : TreeAndStore)
+            × (applied T made.event ≡ Some (tree_of self.old, inverse_view made.inverse)) }
+        requires above { (t : ℕ) (e : Event) → LiveAt self.old.live.live t e → t < self.old.next }
+        requires behind { ComesBehind self.old.live.live made.event }
+        requires unspent { self.old.next ≤ last_ticket }
+        ensures entered { OnOk result (Entered self.old made self.new) }
+        ensures event { IfOk result (λ event. event ≡ made.event) }
+        ensures refused { OnErr result (NotEntered self.old made self.new) }
+    {
+        let Record { event, inverse } = made;
+        if let Err(inverse) = self.inverses.push(inverse) {
+            self.unmake(event, inverse);
+            return Err(AllocError);
+        }
+        match self.live.add(self.next, kept) {
+            Ok(()) => {
+                self.next += 1;
+                Ok(event)
+            }
+            Err(_) => {
+                let inverse = take_newest(&mut self.inverses);
+                self.unmake(event, inverse);
+                Err(AllocError)
+            }
+        }
+    }
+
+    /// Takes the event that was made last back on the tree and in the store.
+    fn unmake(&mut self, event: Event, inverse: Inverse)
+        requires { (T : TreeAndStore) × (applied T event ≡ Some (tree_of self.old, inverse_view inverse)) }
+        ensures tree { (T : TreeAndStore) → applied T event ≡ Some (tree_of self.old, inverse_view inverse) →
+            tree_of self.new ≡ T }
+        ensures live { self.new.live ≡ self.old.live }
+        ensures inverses { self.new.inverses ≡ self.old.inverses }
+        ensures next { self.new.next ≡ self.old.next }
+    {
+        invert(&mut self.tree, &mut self.store, Record { event, inverse });
+    }
+
+    /// The events that are allowed now, in order.
+    pub(crate) fn ready(
+        &self,
+        alloc: Global,
+        uses: &ChannelUses,
+    ) -> Result<Items<Event>, AllocError>
+        ensures { (system : Checked) → Holds system self.now → KnowsUses system uses.now → IfOk result (λ events.
+            Reaches (execution system self.now) (state_of_tree (tree_of self.now))
+            × ReadyList (state_of_tree (tree_of self.now)) events) }
+    {
+        ready_events(alloc, uses, &self.tree, &self.store)
+    }
+
+    /// The actions that are offered now, in order of place.
+    pub(crate) fn actions(&self, alloc: Global) -> Result<Items<LocalAction>, AllocError>
+        ensures { (system : Checked) → Holds system self.now → IfOk result (λ actions.
+            Reaches (execution system self.now) (state_of_tree (tree_of self.now))
+            × OffersExactly (state_of_tree (tree_of self.now)) actions) }
+    {
+        actions_of(alloc, &self.tree, &self.store)
+    }
+}
+
+/// Takes the last of the inverses out.
+fn take_newest(inverses: &mut Rows<Inverse>) -> Inverse
+    requires { 0 < length inverses.old }
+    ensures { (older : List Inverse) (newest : Inverse) → inverses.old ≡ older ++ newest ∷ [] →
+        (inverses.new ≡ older) × (result ≡ newest) }
+{
+    let last = inverses.len() - 1;
+    inverses.remove(last)
+}

@@ -1,0 +1,57 @@
+// Taking one event back.
+ghost use Rattle.std.specs.Prelude.{◌≡◌, Some, slice_get};
+ghost use Rattle.sharing_check.specs.declared.checked.Checked.{Checked};
+ghost use Rattle.runs.specs.Dependence.{Without};
+ghost use Rattle.runs.specs.Live.{LiveAt, IsLive, NoDependent, WithoutTickets};
+ghost use Rattle.runs.specs.Does.{Undoes};
+ghost use Rattle.machine.specs.Results.{undo_reply};
+ghost use Rattle.machine.specs.internal.Histories.{execution, Holds};
+
+use crate::history::History;
+use event_inverse::{Record, invert};
+use runs::{Event, Refusal};
+
+impl History {
+    /// Takes the event of this ticket back where no other live event depends on it.
+    pub(crate) fn undo(&mut self, ticket: u64) -> Result<Event, Refusal>
+        requires { (system : Checked) × Holds system self.old }
+        ensures answers { (system : Checked) →
+            Undoes (execution system self.old) ticket (undo_reply ticket result) (execution system self.new) }
+        ensures holds { (system : Checked) → Holds system self.old → Holds system self.new }
+    {
+        match self.live.index_of(ticket) {
+            Some(index) => self.undo_at(ticket, index),
+            None => Err(Refusal::NoSuchEvent),
+        }
+    }
+
+    /// Takes the event of this ticket, which stands at this index, back where no other live event depends on it.
+    fn undo_at(&mut self, ticket: u64, index: usize) -> Result<Event, Refusal>
+        requires holds { (system : Checked) × Holds system self.old }
+        requires at { (e : Event) × (slice_get self.old.live.live index ≡ Some (ticket, e)) }
+        ensures answers { (system : Checked) →
+            Undoes (execution system self.old) ticket (undo_reply ticket result) (execution system self.new) }
+        ensures holds { (system : Checked) → Holds system self.old → Holds system self.new }
+    {
+        match self.live.first_dependent(ticket) {
+            Some(dependent) => Err(Refusal::NeededBy(dependent)),
+            None => Ok(self.take_back(ticket, index)),
+        }
+    }
+
+    /// Takes the event of this ticket, which stands at this index, back. No other live event depends on it.
+    pub(crate) fn take_back(&mut self, ticket: u64, index: usize) -> Event
+        requires holds { (system : Checked) × Holds system self.old }
+        requires at { (e : Event) × (slice_get self.old.live.live index ≡ Some (ticket, e)) }
+        requires alone { NoDependent self.old.live.live ticket }
+        ensures event { LiveAt self.old.live.live ticket result }
+        ensures live { WithoutTickets (λ t. t ≡ ticket) self.old.live.live self.new.live.live }
+        ensures marked { Without (λ t. t ≡ ticket) self.old.live.marked self.new.live.marked }
+        ensures next { self.new.next ≡ self.old.next }
+        ensures holds { (system : Checked) → Holds system self.old → Holds system self.new }
+    {
+        let event = self.live.take(ticket);
+        let inverse = self.inverses.remove(index);
+        invert(&mut self.tree, &mut self.store, Record { event, inverse })
+    }
+}

@@ -1,7 +1,0 @@
-use Rattle.std.proofs.Common.{◌≡◌, drop}
-use Rattle.system.specs.Translation.{expression_of}
-use Rattle.offered_sides.specs.walking.Walk.{put_each}
-use Rattle.offered_sides.proofs.around.put_in.Given as goal
-
-abbrev pub invariant-loop-one : goal.invariant-loop-one
-invariant-loop-one l = put_each (drop l.one-index l.arrived) (expression_of l.made) ≡ put_each l.arrived (expression_of l.expression)

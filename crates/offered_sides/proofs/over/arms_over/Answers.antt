@@ -1,5 +1,0 @@
-use Rattle.offered_sides.proofs.Endings.{arms-are-over}
-use Rattle.offered_sides.proofs.over.arms_over.Goals as goal
-
-pub returns-in-Opened : goal.returns-in-Opened
-returns-in-Opened c s env ds cs = arms-are-over s env ds cs c.args.gate.now _ _ c.in-Opened.over _ c.in-Opened.is

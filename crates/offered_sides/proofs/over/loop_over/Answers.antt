@@ -1,5 +1,0 @@
-use Rattle.offered_sides.proofs.Endings.{loop-is-over}
-use Rattle.offered_sides.proofs.over.loop_over.Goals as goal
-
-pub returns-in-Turn : goal.returns-in-Turn
-returns-in-Turn c s env g d = loop-is-over s env g d c.args.turns.now _ c.in-Turn.over _ c.in-Turn.is

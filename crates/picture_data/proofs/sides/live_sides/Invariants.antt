@@ -1,8 +1,0 @@
-use Rattle.std.proofs.Common.{take}
-use Rattle.runs.specs.Live.{events}
-use Rattle.picture_data.specs.Shown.{EachStandsIn}
-use Rattle.picture_data.proofs.sides.live_sides.Given as goal
-
--- the events passed stand there
-abbrev pub invariant-loop-entry : goal.invariant-loop-entry
-invariant-loop-entry l = EachStandsIn l.machine l.table.lanes.items (events (take l.entry-index l.live)) l.sides.items

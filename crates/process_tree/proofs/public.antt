@@ -1,0 +1,10 @@
+pub mod Asking
+pub mod Back
+pub mod Formed
+pub mod Puts
+pub mod Simulation
+pub mod Steps
+pub mod Swap
+pub mod Tidy
+pub mod Translated
+pub mod Views

@@ -1,0 +1,59 @@
+-- What the parts of a line ask, as the code reads them.
+-- No reader has to believe it: `proofs/LeavesLemmas.antt` ties it to `Asking.antt`.
+use Rattle.std.specs.Prelude.{ℕ, ◌≡◌, ◌≢◌, ◌⊎◌, List, [], Bool, true, false, Some}
+use Rattle.machine.specs.AtMachine.{AtMachine}
+use Rattle.line_text.specs.Fields.{CutAtSpace}
+use Rattle.debug_session.specs.declared.fault.Fault.{Fault}
+use Rattle.shell_desk.specs.Words.{AsksDeed}
+use Rattle.shell_desk.specs.internal.Spelled.{AsksNoDeed}
+use Rattle.shell_desk.specs.declared.deed.Deed.{Deed}
+use Rattle.shell_desk.specs.declared.word.Word.{Word}
+use Rattle.shell_desk.specs.AtBench.{AtBench}
+use Rattle.shell_desk.specs.Does.{TurnsTo}
+use Rattle.shell.specs.Asking.{GoesOnWith, WordAsks}
+use Rattle.shell.specs.Beginning.{BeginsAt}
+use Rattle.shell.specs.Lines.{Holding, IsSaved, line_count}
+use Rattle.shell.specs.declared.answer.Outcome.{Outcome}
+
+-- a fault is want of memory
+abbrev pub is_want : Fault → Bool
+is_want Fault.Memory = true
+is_want _ = false
+
+-- no deed is asked
+abbrev pub AsksNoDeedAtAll : Deed → Type 0
+AsksNoDeedAtAll deed = ⊥
+
+-- the line is this word with this rest behind it
+abbrev pub Begun : Word → List ℕ → Word → List ℕ → Type 0
+Begun word rest w r = (w ≡ word) × (r ≡ rest)
+
+-- the trace was loaded, or was not
+abbrev pub LoadsTrace : List ℕ → List ℕ → List ℕ → AtBench → Outcome → AtBench → Type 0
+LoadsTrace source stimulus trace b Outcome.Loaded b' =
+    (m : AtMachine) × BeginsAt source stimulus (Some trace) m × TurnsTo b (line_count source) m b'
+LoadsTrace source stimulus trace b Outcome.NotLoaded b' = b' ≡ b
+LoadsTrace source stimulus trace b _ b' = ⊥
+
+-- the trace was saved to the file that the rest names, or that was told in words alone
+abbrev pub SavesTrace : Holding → AtBench → List ℕ → Outcome → Type 0
+SavesTrace holds b rest outcome =
+    (outcome ≡ Outcome.Done) ⊎ ((outcome ≡ Outcome.Saved) × IsSaved holds b rest)
+
+-- `quit` with nothing behind it ends the session
+abbrev pub Quits : List ℕ → Outcome → Type 0
+Quits rest outcome = ((rest ≡ []) × (outcome ≡ Outcome.Over)) ⊎ ((rest ≢ []) × (outcome ≡ Outcome.Done))
+
+-- the session goes on, and nothing is asked
+abbrev pub RestsWith : Word → List ℕ → Deed → Type 0
+RestsWith word rest deed = GoesOnWith word rest × (deed ≡ Deed.Rest)
+
+-- a word asks this with the rest behind it, or nothing
+abbrev pub WordMeans : Word → List ℕ → Deed → Type 0
+WordMeans word rest deed =
+    AsksDeed word rest deed ⊎ (AsksNoDeed word rest × RestsWith word rest deed)
+
+-- a text asks what its first word asks
+abbrev pub WordsAsk : List ℕ → Deed → Type 0
+WordsAsk text deed =
+    (spelled : List ℕ) × (rest : List ℕ) × CutAtSpace text spelled rest × WordAsks spelled rest deed

@@ -1,0 +1,127 @@
+// The source around a line, with its marks.
+use crate::Scene;
+use crate::names::add_plain;
+use crate::steps::add_numbers;
+use plain_words::Text;
+use source_view::view;
+use waiting::{Waiting, who_waits};
+
+/// So many lines are shown before and behind the line that is asked for.
+const AROUND: u64 = 5;
+
+/// A source of so many lines at most is shown whole where no line is asked for.
+const SHORT: u64 = 30;
+
+/// Adds the lines around this one, or where none is asked for those around the newest step or what can be done first,
+/// of a short source all.
+pub(crate) fn add_lines(text: &mut Text, scene: &Scene<'_>, line: Option<u64>) {
+    let breaks = scene.bench.desk().breaks(scene.bench.session());
+    let Ok(shown) = view(scene.alloc, scene.machine(), breaks, scene.source) else {
+        text.add(b"  there was no memory to show the source\n");
+        return;
+    };
+    let count = count_lines(shown.as_slice());
+    match line {
+        Some(line) if line > count || line == 0 => {
+            text.add_counted(b"  the source has the lines 1 to ", count, b"\n");
+        }
+        Some(line) => add_around(text, shown.as_slice(), line),
+        None if count <= SHORT => add_rows(text, shown.as_slice(), 1, count),
+        None => add_around(text, shown.as_slice(), newest_line(scene)),
+    }
+    add_waiting_lines(text, scene);
+}
+
+/// Adds on which lines something waits, where nothing can go on.
+fn add_waiting_lines(text: &mut Text, scene: &Scene<'_>) {
+    let Ok(waiting) = who_waits(scene.alloc, scene.machine()) else {
+        return;
+    };
+    if !waiting.ready.is_empty() {
+        return;
+    }
+    let lines = waiting_lines(scene, &waiting);
+    if !lines.is_empty() {
+        text.add(if lines.len() == 1 {
+            b"  nothing can go on: line "
+        } else {
+            b"  nothing can go on: lines "
+        });
+        add_numbers(text, lines.as_slice());
+        text.add(if lines.len() == 1 {
+            b" waits\n"
+        } else {
+            b" wait\n"
+        });
+    }
+}
+
+/// The lines on which something waits, each once; fewer without memory.
+fn waiting_lines(scene: &Scene<'_>, waiting: &Waiting) -> Vec<u64> {
+    let mut lines = Vec::new(scene.alloc);
+    for offered in waiting.actions.as_slice() {
+        if let Some(line) = scene.machine().line(&offered.place) {
+            if !lines.contains(&line) {
+                let _ = lines.push(line);
+            }
+        }
+    }
+    lines
+}
+
+/// How many lines these are.
+fn count_lines(shown: &[u8]) -> u64 {
+    let mut count: u64 = 0;
+    for byte in shown {
+        if *byte == b'\n' {
+            count = count.saturating_add(1);
+        }
+    }
+    count
+}
+
+/// The line of the newest step; where it has none the first on which a step can be taken, else the first.
+fn newest_line(scene: &Scene<'_>) -> u64 {
+    let machine = scene.machine();
+    let last = (machine.live_events().len() as u64).saturating_sub(1);
+    let line = match machine.live_at(last) {
+        Some((_, event)) => machine.line(event.acting_place()),
+        None => None,
+    };
+    match line {
+        Some(line) => line,
+        None => ready_line(scene).unwrap_or(1),
+    }
+}
+
+/// The first line on which a step can be taken.
+fn ready_line(scene: &Scene<'_>) -> Option<u64> {
+    let events = scene.machine().ready().ok()?;
+    for event in events.as_slice() {
+        if let Some(line) = scene.machine().line(event.acting_place()) {
+            return Some(line);
+        }
+    }
+    None
+}
+
+/// Adds the lines around this one.
+fn add_around(text: &mut Text, shown: &[u8], line: u64) {
+    add_rows(
+        text,
+        shown,
+        line.saturating_sub(AROUND),
+        line.saturating_add(AROUND),
+    );
+}
+
+/// Adds the lines from one to another.
+fn add_rows(text: &mut Text, shown: &[u8], first: u64, last: u64) {
+    for (index, row) in shown.split(|byte| *byte == b'\n').enumerate() {
+        let number = (index as u64).saturating_add(1);
+        if first <= number && number <= last && !row.is_empty() {
+            add_plain(text, row);
+            text.add(b"\n");
+        }
+    }
+}

@@ -1,0 +1,148 @@
+ghost use Rattle.std.specs.Prelude.{Err, ℕ, List, ◌≡◌, ◌++◌, ◌<◌, ◌^◌, length, Some, slice_get, OnOk, IfOk};
+ghost use Rattle.std.specs.Fmt.{decimal};
+ghost use Rattle.std.specs.Io.KnownBytes.{Appends};
+ghost use Rattle.syntax.specs.Lists.{Every};
+ghost use Rattle.address.specs.Text.{entry_text, text_of};
+ghost use Rattle.address.specs.Reading.{EntryFits, NumbersFit};
+ghost use Rattle.runs.specs.Choices.{choice_of};
+ghost use Rattle.runs.specs.Dependence.{Respecting};
+ghost use Rattle.runs.specs.Live.{events};
+ghost use Rattle.system.specs.declared.system.System.{System};
+ghost use Rattle.runs.specs.Steps.{State, Run, opening};
+ghost use Rattle.runs.specs.declared.event.Event.{Event};
+ghost use Rattle.devices.specs.Counting.{device, failures};
+ghost use Rattle.trace_file.specs.TraceText.{event_line, IsTrace, IsWritable};
+ghost use Rattle.trace_file.specs.Loading.{Saves, after_writing};
+
+use crate::Fault;
+use crate::version::SECOND;
+use address::{Address, Entry};
+use canonical_order::canonical_order;
+use dependence::{Live, LiveEvent};
+use devices::{Counted, write_out};
+use itoa::Buffer;
+use machine::Machine;
+use runs::Event;
+use std::alloc::{AllocError, Global};
+use std::io::Write;
+
+/// Writes the trace of the live events: a header, and a line for the choice of each, in canonical order. So two
+/// machines whose live events are the same but for the order of independent ones write equal bytes. At `Memory` the
+/// writer was not asked for anything, and at `WriteFailed`, which comes exactly where the writer counts a failure, a
+/// beginning is out.
+pub fn save<W: Write>(
+    alloc: Global,
+    machine: &Machine,
+    writer: &mut Counted<W>,
+) -> Result<(), Fault>
+    ensures equal { (k : List Event) (other : List ℕ) → Respecting (events machine.now.live) k →
+        Respecting k (events machine.now.live) → IsTrace k other
+        → OnOk result (Appends (W.contents (device writer.old)) (W.contents (device writer.new)) other) }
+    ensures saves { Saves (events machine.now.live) (W.contents (device writer.old)) (W.contents (device writer.new))
+        result }
+    ensures lines { OnOk result (Every (λ e. IsWritable (choice_of e)) (events machine.now.live)) }
+    ensures failures { failures writer.new ≡ after_writing result (failures writer.old) }
+    ensures untouched { result ≡ Err Fault.Memory → writer.new ≡ writer.old }
+{
+    let text = write_trace(alloc, machine)?;
+    match write_out(writer, text.as_slice()) {
+        Ok(()) => Ok(()),
+        Err(_) => Err(Fault::WriteFailed),
+    }
+}
+
+/// The trace of the live events, as `save` writes it: the same for all orders in which they may have been taken. It is
+/// an error if there is no memory.
+pub fn write_trace(alloc: Global, machine: &Machine) -> Result<Vec<u8>, AllocError>
+    ensures text { IfOk result (λ text. IsTrace (events machine.now.live) text.items) }
+    ensures equal { IfOk result (λ text. (k : List Event) (other : List ℕ) → Respecting (events machine.now.live) k →
+        Respecting k (events machine.now.live) → IsTrace k other
+        → other ≡ text.items) }
+    ensures lines { OnOk result (Every (λ e. IsWritable (choice_of e)) (events machine.now.live)) }
+{
+    machine.is_sound();
+    write_events(alloc, machine.live_events())
+}
+
+/// The trace of these live events.
+fn write_events(alloc: Global, live: &Live) -> Result<Vec<u8>, AllocError>
+    requires { (system : System) × (T : State) × Run (opening system) (events live.now.live) T }
+    ensures text { IfOk result (λ text. IsTrace (events live.now.live) text.items) }
+    ensures lines { OnOk result (Every (λ e. IsWritable (choice_of e)) (events live.now.live)) }
+{
+    let order = canonical_order(alloc, live)?;
+    let entries = live.as_slice();
+    let mut out = Vec::new(alloc);
+    add_bytes(&mut out, SECOND)?;
+    add_bytes(&mut out, b"\n")?;
+    for index in order.as_slice() {
+        add_line(&mut out, event_at(entries, *index))?;
+    }
+    Ok(out)
+}
+
+/// The event at an index.
+fn event_at(live: &[LiveEvent], index: usize) -> &Event
+    requires { index < length live.now }
+    ensures { (t : ℕ) × (slice_get live.now index ≡ Some (t, result.now)) }
+{
+    live[index].1.get()
+}
+
+/// Adds the line of the event behind what is there.
+fn add_line(out: &mut Vec<u8>, event: &Event) -> Result<(), AllocError>
+    ensures text { OnOk result (out.new.items ≡ out.old.items ++ event_line event.now) }
+    ensures place { OnOk result (NumbersFit (choice_of event.now).place) }
+    ensures arm { (choice_of event.now).arm < 2 ^ 32 }
+{
+    let arm = event.arm_to_open();
+    add_bytes(out, b"step ")?;
+    add_place(out, event.acting_place())?;
+    add_bytes(out, b" ")?;
+    add_number(out, arm)?;
+    add_bytes(out, b"\n")
+}
+
+/// Adds a place.
+fn add_place(out: &mut Vec<u8>, place: &Address) -> Result<(), AllocError>
+    ensures text { OnOk result (out.new.items ≡ out.old.items ++ text_of place.now) }
+    ensures fits { OnOk result (NumbersFit place.now) }
+{
+    for entry in place.entries() {
+        add_entry(out, *entry)?;
+    }
+    Ok(())
+}
+
+/// Adds an entry of a place.
+fn add_entry(out: &mut Vec<u8>, entry: Entry) -> Result<(), AllocError>
+    ensures text { OnOk result (out.new.items ≡ out.old.items ++ entry_text entry) }
+    ensures fits { EntryFits entry }
+{
+    match entry {
+        Entry::Ordered(number) => {
+            add_bytes(out, b".")?;
+            add_number(out, number)
+        }
+        Entry::Branch(number) => {
+            add_bytes(out, b"/")?;
+            add_number(out, number)
+        }
+    }
+}
+
+/// Adds a number in decimal.
+fn add_number(out: &mut Vec<u8>, number: u32) -> Result<(), AllocError>
+    ensures { OnOk result (out.new.items ≡ out.old.items ++ decimal number) }
+{
+    let mut buffer = Buffer::new();
+    let digits = buffer.format(number);
+    out.extend_from_slice(digits.as_bytes())
+}
+
+/// Adds bytes.
+fn add_bytes(out: &mut Vec<u8>, bytes: &[u8]) -> Result<(), AllocError>
+    ensures { OnOk result (out.new.items ≡ out.old.items ++ bytes.now) }
+{
+    out.extend_from_slice(bytes)
+}

@@ -1,5 +1,0 @@
-use Rattle.offered_sides.proofs.PlacedSides.{told-same}
-use Rattle.waiting.proofs.sides.is_same.Goals as goal
-
-pub returns : goal.returns
-returns c = told-same c.args.place.now c.args.other.now c.equals.result c.equals.ensures
