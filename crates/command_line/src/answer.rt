@@ -13,6 +13,7 @@ use debug_session::{Fault, accept, replay};
 use locked_execution::{Crew, Tally};
 use sharing_check::Checked;
 use std::alloc::Global;
+use std::mem;
 use std::sync::Wait;
 use std::thread::Threads;
 
@@ -104,7 +105,9 @@ pub fn check<F: Files>(
         (CheckRefuses (F.holds files.now) file.now) }
 {
     read_source(alloc, files, file, texts)?;
-    accept(alloc, texts.source.as_slice(), b"")?;
+    let checked = accept(alloc, texts.source.as_slice(), b"")?;
+    // The process ends behind this answer: to free the system node by node would only take time.
+    mem::forget(checked);
     Ok(Answer::Accepted)
 }
 

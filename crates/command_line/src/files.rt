@@ -7,7 +7,7 @@ use debug_session::Fault;
 use diagnosis::Unread;
 use std::alloc::Global;
 use std::fs;
-use std::io::ErrorKind;
+use std::io::{self, ErrorKind};
 
 /// What reads a whole file by its name.
 pub trait Files {
@@ -47,12 +47,20 @@ fn why_unread(kind: ErrorKind) -> Unread {
     }
 }
 
+/// The bytes of the file `name`.
+fn read_whole<R: fs::Files>(rt: &R, alloc: Global, name: &str) -> io::Result<Vec<u8>> {
+    let mut file = fs::File::open(rt, name)?;
+    let mut bytes = Vec::new(alloc);
+    io::copy(&mut file, &mut bytes)?;
+    Ok(bytes)
+}
+
 impl<R: fs::Files + AllocGlobal> Files for Disk<'_, R> {
     // No contract says what the system's files hold.
     ghost holds = { λ _ _ _. ⊤ };
 
-    fn read(&self, _alloc: Global, name: &str, why: &mut Unread) -> Result<Vec<u8>, Fault> {
-        match fs::read(self.rt, name) {
+    fn read(&self, alloc: Global, name: &str, why: &mut Unread) -> Result<Vec<u8>, Fault> {
+        match read_whole(self.rt, alloc, name) {
             Ok(bytes) => Ok(bytes),
             Err(error) if error.kind() == ErrorKind::OutOfMemory => Err(Fault::Memory),
             Err(error) => {

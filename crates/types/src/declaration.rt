@@ -347,6 +347,7 @@ fn declare_locals(
     let mut right = Ok(());
     for declaration in declarations {
         let kind = local_kind(names, &declaration.kind);
+        names.reserve(declaration.names.len())?;
         right = declare_local(
             alloc,
             names,

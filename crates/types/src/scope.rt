@@ -7,7 +7,7 @@ ghost use Rattle.types.specs.internal.Scopes.{entries};
 use crate::Fault;
 use crate::verdict::Settled;
 use indexmap::IndexMap;
-use std::alloc::Global;
+use std::alloc::{AllocError, Global};
 use syntax::{Identifier, Items, Name};
 use typed::{Binding, LocalKind, PortKind};
 use value::{Value, Width};
@@ -68,6 +68,9 @@ pub(crate) enum Found {
     Means(Meaning),
 }
 
+/// The most names for which room is made before they are declared.
+const MOST_ROOM: usize = 8_192;
+
 /// The visible names, in order of declaration, each with what it means.
 #[derive(Drop)]
 pub(crate) struct Names {
@@ -93,6 +96,13 @@ impl Names {
         ensures { option_copied result ≡ names.look_up (entries self.now) name.now }
     {
         self.index.get(name.text())
+    }
+
+    /// Makes room for so many names more, or for as many as are worth it: they may all be one.
+    pub(crate) fn reserve(&mut self, count: usize) -> Result<(), AllocError>
+        ensures { entries self.new ≡ entries self.old }
+    {
+        self.index.reserve(count.min(MOST_ROOM))
     }
 
     /// Makes the name visible, unless it is visible already: the first declaration stands.
