@@ -17,7 +17,7 @@ use std::io::{BufReader, Read, Write};
 
 /// Answers each line of the reader. It ends where the reader is at its end, or at the first fault: then the answers of
 /// the lines before are out, and where writing failed a beginning of the answers. Before the reader asks its device for
-/// more, all answers are out: they are pending back only while its buffer has another line. Each line is taken into
+/// more, all answers are out: they are held back only while its buffer has another line. Each line is taken into
 /// `line`.
 pub(crate) fn answer_lines<R: Read, W: Write>(
     alloc: Global,

@@ -1,4 +1,4 @@
-//! Answers that are pending back while further lines are at hand, so that many of them take one write.
+//! Answers that are held back while further lines are at hand, so that many of them take one write.
 ghost use Rattle.std.specs.Prelude.{◌≡◌, ◌≢◌, ◌≤◌, ◌⊎◌, ◌++◌, [], List, ℕ, length, MatchBool, MatchResult, IfOk, IfErr};
 ghost use Rattle.std.specs.Io.KnownBytes.{Appends};
 ghost use Rattle.devices.specs.Counting.{device, failures};
@@ -8,7 +8,7 @@ use crate::output::write_out;
 use crate::{Counted, Fault};
 use std::io::Write;
 
-/// How many bytes of an answer are pending back at most, and behind how many.
+/// How many bytes of an answer are held back at most, and behind how many.
 const ROOM: usize = 8_192;
 
 /// Writes out what is pending, and flushes.

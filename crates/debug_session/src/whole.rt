@@ -28,7 +28,7 @@ pub fn accept(alloc: Global, source: &[u8], stimulus: &[u8]) -> Result<Checked, 
 /// Answers the lines of `reader` on `writer`, over the system of source and stimulus.
 ///
 /// Source and stimulus are accepted before anything is read. Before the reader asks its device for more, the answers to
-/// all lines before are out and flushed; while its buffer has another line, answers may be pending back, up to 16 KB.
+/// all lines before are out and flushed; while its buffer has another line, answers may be held back, up to 16 KB.
 /// The buffer has to have room for a byte at least, or the script looks empty. At a fault the answers of the lines
 /// before are out, and where writing failed a beginning of the answers. `ReadFailed` and `WriteFailed` come exactly
 /// where reader and writer count a failure.
