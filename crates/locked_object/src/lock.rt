@@ -19,6 +19,7 @@ impl PerchRule<Hold> for OneHolder {
     ghost first = { Held };
 }
 
+/// A caller takes the lock.
 pub(crate) struct Locks;
 
 impl PerchPlay<Hold> for Locks {
@@ -27,12 +28,14 @@ impl PerchPlay<Hold> for Locks {
     ghost then = { λ _ _ _. Locked };
 }
 
+/// A caller looks whether the lock is free.
 pub(crate) struct Looks;
 
 impl PerchPlay<Hold> for Looks {
     ghost then = { λ _ _ _ _ _. Unit {0} };
 }
 
+/// The caller that has the lock lets it go.
 pub(crate) struct Unlocks;
 
 impl PerchPlay<Hold> for Unlocks {

@@ -33,6 +33,7 @@ impl<O, C, R, P: Sequential<O, C, R>> TableRule<u8, View<O, C, R>, O> for Record
     ghost first = { λ opening. keeper_at opening 0 [] };
 }
 
+/// The keeper's seat makes a further pass.
 pub(crate) struct Makes;
 
 impl<O, C, R> Split<View<O, C, R>> for Makes {
@@ -43,6 +44,7 @@ impl<O, C, R> Split<View<O, C, R>> for Makes {
     ghost right = { new_pass_of };
 }
 
+/// A seat writes a letter with the history that it knows, and a pass reads it.
 pub(crate) struct Tells;
 
 impl<O, C, R> Split<View<O, C, R>> for Tells {
@@ -62,6 +64,7 @@ impl<O, C, R> Join<View<O, C, R>> for Tells {
     ghost spent = { Nobody };
 }
 
+/// A pass claims its entry, and the keeper's seat hears the claim.
 pub(crate) struct Claims;
 
 impl<O, C, R> Split<View<O, C, R>> for Claims {
@@ -81,6 +84,7 @@ impl<O, C, R> Join<View<O, C, R>> for Claims {
     ghost spent = { Nobody };
 }
 
+/// A pass names the entry that it is about to make.
 pub(crate) struct Announce<J> {
     name: PhantomData<J>,
 }
@@ -91,6 +95,7 @@ impl<O, C, R, J: Naming<C, R>> Play<u8, View<O, C, R>> for Announce<J> {
     ghost then = { Announces J.entries };
 }
 
+/// The keeper's seat notes the entry that was claimed.
 pub(crate) struct Record;
 
 impl<O, C, R> Play<u8, View<O, C, R>> for Record {
@@ -99,6 +104,7 @@ impl<O, C, R> Play<u8, View<O, C, R>> for Record {
     ghost then = { Records };
 }
 
+/// The keeper's seat puts the claim away: the pass that made it had seen no more than is noted.
 pub(crate) struct Confirm;
 
 impl<O, C, R> Play<u8, View<O, C, R>> for Confirm {
@@ -107,6 +113,7 @@ impl<O, C, R> Play<u8, View<O, C, R>> for Confirm {
     ghost then = { Confirms };
 }
 
+/// A pass has seen what it was told, and its entry is its own.
 pub(crate) struct Adopt;
 
 impl<O, C, R> Play<u8, View<O, C, R>> for Adopt {
@@ -115,6 +122,7 @@ impl<O, C, R> Play<u8, View<O, C, R>> for Adopt {
     ghost then = { Adopts };
 }
 
+/// A pass sees the whole history, whose length the word has.
 pub(crate) struct Look<P> {
     object: PhantomData<P>,
 }
@@ -125,6 +133,7 @@ impl<O, C, R, P: Sequential<O, C, R>> Play<u8, View<O, C, R>> for Look<P> {
     ghost then = { Looks P.performs };
 }
 
+/// A pass takes the history that it was told for what it has seen.
 pub(crate) struct Take;
 
 impl<O, C, R> Play<u8, View<O, C, R>> for Take {
