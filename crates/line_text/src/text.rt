@@ -92,7 +92,7 @@ fn add_shown(out: &mut Vec<u8>, field: Field<'_>) -> Result<(), AllocError>
 pub(crate) fn add_field(out: &mut Vec<u8>, field: Field<'_>) -> Result<(), AllocError>
     ensures { OnOk result (out.new.items ≡ out.old.items ++ spaced field.entry) }
 {
-    add_bytes(out, b" ")?;
+    out.push(b' ')?;
     add_shown(out, field)
 }
 
