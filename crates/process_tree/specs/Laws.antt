@@ -46,6 +46,11 @@ MadeAreOffered =
     (p : Proc) (env : Received) (a : Place) (k : Ask) (x : Moved) → advanced p a k ≡ Some x →
     (m : Move) × Local (remaining env p) a m (remaining env x.0) × (ask_of m ≡ k)
 
+-- p becomes q by a local move that what is left of p offers at the place, whatever was received around it; it answers to
+-- what was asked
+abbrev pub ByLocalMove : Proc → Place → Ask → Proc → Type 0
+ByLocalMove p a k q = (env : Received) → (m : Move) × Local (remaining env p) a m (remaining env q) × (ask_of m ≡ k)
+
 -- a move taken back, with what it took out, gives the same process, finished processes included
 abbrev pub MovesGoBack : Type 0
 MovesGoBack = (p : Proc) (a : Place) (k : Ask) (x : Moved) → advanced p a k ≡ Some x → retreated x.0 a x.1 ≡ Some p
