@@ -1,5 +1,5 @@
 -- A finder: one down, what is listed there, and up again.
-use Rattle.std.proofs.Common.{◌≡◌, List, [], ◌∷◌, ◌++◌, refl, sym, ap, ap₂, ◌∙◌}
+use Rattle.std.proofs.Common.{◌≡◌, List, [], ◌∷◌, ◌++◌, Option, Some, None, MatchOption, refl, sym, ap, ap₂, ◌∙◌}
 use Rattle.std.proofs.lemmas.List.{append-nil, append_assoc}
 use Rattle.address.specs.declared.Entry.{Entry}
 use Rattle.runs.specs.Moves.{Place}
@@ -40,13 +40,10 @@ added-both xs ys w =
     finder-is w.entries w.entries _ _ refl
     (append_assoc w.found (below w.entries xs) (below w.entries ys) ∙ ap (λ l. w.found ++ l) (sym (below-both w.entries xs ys)))
 
--- one offer at the own place
-pub added-here : (r : Offer) (w : Finder) → added (offer_at [] r.kind ∷ []) w ≡ record { entries = w.entries; found = w.found ++ offer_at w.entries r.kind ∷ [] }
-added-here r w = finder-is w.entries w.entries _ _ refl (ap (λ (a : Place). w.found ++ offer_at a r.kind ∷ []) (append-nil w.entries))
-
 -- what is left behind the last
-pub gone : {X : Type 0} (xs ys : List X) (x : X) → xs ≡ ys ++ x ∷ [] → ys ≡ without_last xs
-gone xs ys x h = sym (ap without_last h ∙ last-gone ys x)
+pub gone : {X : Type 0} (xs ys : List X) (o : Option X) → MatchOption o ((xs ≡ []) × (ys ≡ [])) (λ last. xs ≡ ys ++ last ∷ []) → ys ≡ without_last xs
+gone xs ys None h = h.1 ∙ sym (ap without_last h.0)
+gone xs ys (Some x) h = sym (ap without_last h ∙ last-gone ys x)
 
 -- below the root offers stand where they are
 pub below-root : (rs : List Offer) → below [] rs ≡ rs

@@ -113,11 +113,11 @@ below p (r ∷ rs) = offer_at (p ++ r.place) r.kind ∷ below p rs
 
 -- more offers are found, at places below that of the finder
 abbrev pub added : List Offer → Finder → Finder
-added rs w = record w { found = w.found ++ below w.entries rs }
+added rs w = record { entries = w.entries; found = w.found ++ below w.entries rs }
 
 -- one entry further down
 abbrev pub down : Entry → Finder → Finder
-down x w = record w { entries = w.entries ++ x ∷ [] }
+down x w = record { entries = w.entries ++ x ∷ []; found = w.found }
 
 -- without the last
 abbrev pub without_last : {X : Type 0} → List X → List X
@@ -127,7 +127,7 @@ without_last (x ∷ y ∷ ys) = x ∷ without_last (y ∷ ys)
 
 -- one entry up
 abbrev pub up : Finder → Finder
-up w = record w { entries = without_last w.entries }
+up w = record { entries = without_last w.entries; found = w.found }
 
 -- what is listed of a process
 abbrev pub lists : Proc → Finder → Finder
