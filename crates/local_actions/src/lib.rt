@@ -16,7 +16,6 @@ pub use action::{ActionKind, LocalAction};
 pub use actions::actions_of;
 pub use at_place::{actions_at, actions_below};
 pub use cursor::{Arrived, Cursor};
-pub use fresh::list_fresh;
 pub use leaves::{
     list_again, list_arms, list_close, list_drain, list_held, list_once, list_sender, list_test,
 };
