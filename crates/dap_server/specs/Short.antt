@@ -9,6 +9,7 @@ use Rattle.dap_messages.specs.declared.answer.Effect.{Effect}
 use Rattle.dap_messages.specs.declared.answer.Outcome.{Outcome}
 use Rattle.dap_messages.specs.declared.kind.Kind.{Kind}
 use Rattle.dap_messages.specs.declared.request.Request.{Request}
+use Rattle.dap_messages.specs.declared.told.Stop.{Stop}
 use Rattle.dap_messages.specs.declared.told.Told.{Told}
 use Rattle.dap_server.specs.declared.gist.Gist.{Gist}
 
@@ -93,15 +94,27 @@ short_response request gist seq =
 abbrev pub thread_named : Request → ℕ
 thread_named request = unwrap_or (number_named (codes "threadId") (view request.arguments)) 1
 
--- that nothing moves, since memory is lacking
-abbrev pub stopped_text : ℕ → List ℕ
-stopped_text thread =
-    codes "\",\"body\":{\"reason\":\"exception\",\"threadId\":" ++ decimal thread
-    ++ codes ",\"allThreadsStopped\":true,\"text\":\"refused 1: there is no memory left\"}}"
+-- why nothing moves, as far as that is known without memory
+abbrev pub stop_reason : Stop → List ℕ
+stop_reason Stop.Stands = codes "pause"
+stop_reason Stop.AtLine = codes "breakpoint"
+stop_reason (Stop.Refused why) = codes "exception"
+
+-- the same in words
+abbrev pub stop_words : Stop → List ℕ
+stop_words Stop.Stands = codes "stopped; there is no memory left to tell more"
+stop_words Stop.AtLine = codes "stopped at a breakpoint; there is no memory left to tell more"
+stop_words (Stop.Refused why) = codes "refused " ++ decimal why ++ codes "; there is no memory left to tell more"
+
+-- that nothing moves
+abbrev pub stopped_text : Stop → ℕ → List ℕ
+stopped_text stop thread =
+    (codes "\",\"body\":{\"reason\":\"" ++ stop_reason stop ++ codes "\",\"threadId\":" ++ decimal thread)
+    ++ (codes ",\"allThreadsStopped\":true,\"text\":\"" ++ stop_words stop ++ codes "\"}}")
 
 -- what stands behind the name of an event
 abbrev pub event_rest : Request → Told → List ℕ
-event_rest request Told.Stopped = stopped_text (thread_named request)
+event_rest request (Told.Stopped stop) = stopped_text stop (thread_named request)
 event_rest request _ = codes "\"}"
 
 -- the event that has to come behind the response to a request
