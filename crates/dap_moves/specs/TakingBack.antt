@@ -1,5 +1,6 @@
 -- What runs back ask for.
-use Rattle.std.specs.Prelude.{◌≡◌, ℕ, ◌+◌, List, [], ◌∷◌, true, Option, None, Some, length, slice_get}
+use Rattle.std.specs.Prelude.{◌≡◌, ◌⊎◌, ℕ, ◌+◌, List, [], ◌∷◌, true, Option, None, Some, length, slice_get}
+use Rattle.runs.specs.declared.event.Choice.{Choice}
 use Rattle.runs.specs.declared.event.Event.{Event}
 use Rattle.locked_execution.specs.AtDesk.{AtDesk}
 use Rattle.locked_execution.specs.Performs.{Answers}
@@ -7,6 +8,7 @@ use Rattle.locked_execution.specs.declared.command.Command.{Command}
 use Rattle.locked_execution.specs.declared.command.Reply.{Reply}
 use Rattle.dap_moves.specs.Moves.{quiet}
 use Rattle.dap_moves.specs.Parts.{takes_part}
+use Rattle.dap_moves.specs.declared.taken_back.Rewound.{Rewound}
 
 -- the live step of the greatest ticket has this one
 abbrev pub IsLast : AtDesk → ℕ → Type 0
@@ -41,3 +43,8 @@ TakesBack d only (t ∷ ts) d' =
 pub record GoesBack (only : Option ℕ) (d d' : AtDesk) : Type 0 where
   pub taken : List Taken
   pub back : TakesBack d only taken d'
+
+-- where a run back stops at a line, it keeps the choice of one step, if there is memory; else it keeps none
+abbrev pub KeepsBack : Rewound → List Choice → Type 0
+KeepsBack (Rewound.AtLine branch line) kept = (kept ≡ []) ⊎ ((c : Choice) × (kept ≡ c ∷ []))
+KeepsBack _ kept = kept ≡ []

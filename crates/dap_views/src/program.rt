@@ -1,6 +1,9 @@
 // What is launched.
+ghost use Rattle.std.specs.Prelude.{◌≡◌, []};
+
 use crate::index::Index;
 use crate::lines::Lines;
+use crate::paths::{base_of, is_same_file};
 use crate::sight::Sight;
 use dap_messages::Members;
 use dap_moves::Watched;
@@ -45,6 +48,27 @@ pub struct Refused {
     pub words: String,
 }
 
+/// What is kept in mind of moves.
+#[derive(Drop)]
+pub struct Memo {
+    /// the step before which a run has stopped at a line, if it is not taken yet
+    pub seen: Vec<Choice>,
+    /// the last refusal of a step
+    pub refused: Option<Refused>,
+}
+
+impl Memo {
+    /// Nothing has moved.
+    pub fn new(alloc: Global) -> Memo
+        ensures { result.seen.items ≡ [] }
+    {
+        Memo {
+            seen: Vec::new(alloc),
+            refused: None,
+        }
+    }
+}
+
 /// A description that was accepted, and what a client has set on it.
 #[derive(Drop)]
 pub struct Program {
@@ -60,10 +84,6 @@ pub struct Program {
     /// the lines that stop
     pub stops: Vec<u64>,
     pub watched: Vec<Watched>,
-    /// the step before which a run has stopped, if it is not taken yet
-    pub seen: Vec<Choice>,
-    /// the last refusal of a step
-    pub refused: Option<Refused>,
     /// whether a refusal stops as an exception
     pub excepts: bool,
     pub last_id: u64,
@@ -76,17 +96,10 @@ pub struct Program {
 }
 
 impl Program {
-    /// Whether a client means this program by the path. Where it was launched by a name that does not begin with `/`,
-    /// it does so by each path that ends in that.
+    /// Whether a client means this program by the path. Where it was launched by a name that counts from a folder, it
+    /// does so by each path that ends in that.
     pub fn is_at(&self, path: &str) -> bool {
-        let program = self.launch.program.as_str();
-        if program.starts_with('/') {
-            return path == program;
-        }
-        match path.strip_suffix(own_name(program)) {
-            Some(folder) => folder.is_empty() || folder.ends_with('/'),
-            None => false,
-        }
+        is_same_file(self.launch.program.as_str(), path)
     }
 
     /// Adds the file.
@@ -114,18 +127,5 @@ impl Program {
     /// The line that the client means, from 1.
     pub fn meant_line(&self, line: u64) -> u64 {
         line.saturating_add(self.counting.lines)
-    }
-}
-
-/// The name of a file that counts from a folder, without the sign for that folder.
-pub fn own_name(name: &str) -> &str {
-    name.strip_prefix("./").unwrap_or(name)
-}
-
-/// The name of a file without the folders before it.
-pub fn base_of(path: &str) -> &str {
-    match path.rsplit_once('/') {
-        Some((_, base)) => base,
-        None => path,
     }
 }

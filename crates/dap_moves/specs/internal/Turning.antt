@@ -1,5 +1,5 @@
 -- What comes of one turn of a run. No reader has to believe it: the contract of `go_on` speaks of whole runs.
-use Rattle.std.specs.Prelude.{◌≡◌, ℕ, List, [], true, if◌then◌else◌, Option, None, Some}
+use Rattle.std.specs.Prelude.{◌≡◌, ◌||◌, ℕ, List, [], ◌∷◌, Bool, true, false, cond, is_some, Option, None, Some}
 use Rattle.system_places.specs.SystemBranches.{branch_at}
 use Rattle.system.specs.declared.system.System.{System}
 use Rattle.runs.specs.Events.{acting}
@@ -18,7 +18,7 @@ use Rattle.dap_moves.specs.declared.seen.Watched.{Watched}
 -- what a step of the branch comes to that was answered so
 abbrev pub turn_of : List Watched → ℕ → Reply → Turn
 turn_of watched branch (Reply.Stepped t e) =
-    if is_watched watched e then Turn.Ended (Ended.Watched branch t) else Turn.Went branch
+    cond (is_watched watched e) (Turn.Ended (Ended.Watched branch t)) (Turn.Went branch)
 turn_of watched branch (Reply.Refused why) = Turn.Ended (Ended.Refused branch why)
 turn_of watched branch (Reply.Stopped line) = Turn.Ended (Ended.AtLine branch line)
 turn_of watched branch _ = Turn.Ended Ended.Nothing
@@ -45,4 +45,13 @@ TurnKeeps lines d (Turn.Ended ended) kept = KeepsChoice lines d ended kept
 -- the branch in which an event acts, where that may step
 abbrev pub branch_for : System → Option ℕ → Event → Option ℕ
 branch_for system None e = branch_at system (acting e)
-branch_for system (Some only) e = if acts system only e then branch_at system (acting e) else None
+branch_for system (Some only) e = cond (acts system only e) (branch_at system (acting e)) None
+
+-- whether it acts in one that may
+abbrev pub goes : System → Option ℕ → Event → Bool
+goes system only e = is_some (branch_for system only e)
+
+-- whether one of these does
+abbrev pub any_goes : System → Option ℕ → List Event → Bool
+any_goes system only [] = false
+any_goes system only (e ∷ es) = goes system only e || any_goes system only es
