@@ -28,7 +28,7 @@ use Rattle.locked_execution.specs.declared.command.Command.{Command}
 use Rattle.locked_execution.specs.declared.command.Reply.{Reply}
 use Rattle.locked_execution.proofs.public.Unchanged.{all-same}
 use Rattle.dap_moves.specs.Moves.{StepsAt, acts, quiet}
-use Rattle.dap_moves.specs.Passing.{IsReady, MayAsk, StopsAt, TakesTurn, Turned, Turns}
+use Rattle.dap_moves.specs.Passing.{IsReady, MayAsk, PassesBy, StopsAt, TakesTurn, Turned, Turns}
 use Rattle.dap_moves.specs.Running.{EndsTruly, IsHeld, IsIdle, KeepsChoice, MayStep, NothingGoes, RunsFrom, StandsBefore, is_watched}
 use Rattle.dap_moves.specs.declared.run.Ended.{Ended}
 use Rattle.dap_moves.specs.declared.run.Plan.{Plan}
@@ -39,7 +39,8 @@ use Rattle.dap_moves.proofs.Passing.{acting_side}
 
 -- what is asked where it stood nowhere may be asked wherever it stood
 may-widen : (d : AtDesk) (lines : List ℕ) (seen : List Choice) (command : Command) → MayAsk d lines [] command → MayAsk d lines seen command
-may-widen d lines seen (Command.Step c) h = (h.0, h.1, h.2, elim h.3 [ inl passes ↦ inl passes | inr none ↦ absurd none ])
+may-widen d lines seen (Command.Step c) h =
+    (h.0, h.1, h.2, elim h.3 as (λ _. PassesBy d.machine lines h.0 ⊎ In c seen) [ inl passes ↦ inl passes | inr none ↦ absurd none ])
 may-widen d lines seen (Command.Branch k) h = h
 may-widen d lines seen (Command.Undo t) h = absurd h
 may-widen d lines seen (Command.Roll t) h = absurd h
@@ -54,6 +55,19 @@ may-widen d lines seen (Command.Clear line) h = absurd h
 
 takes-widen : (d : AtDesk) (lines : List ℕ) (seen : List Choice) (t : Turned) → TakesTurn d lines [] t → TakesTurn d lines seen t
 takes-widen d lines seen t h = (h.0, may-widen d lines seen h.0 h.1, h.2)
+
+-- a turn that began nowhere
+pub takes-one-widen : (plan : Plan) (seen : List Choice) (d d' : AtDesk) (turn : Turn) → TakesOne plan [] d d' turn → TakesOne plan seen d d' turn
+takes-one-widen plan seen d d' (Turn.Went branch) h = (h.0, takes-widen d plan.lines.now seen h.0 h.1, h.2)
+takes-one-widen plan seen d d' (Turn.Ended Ended.Nothing) h = h
+takes-one-widen plan seen d d' (Turn.Ended (Ended.AtLine branch line)) h = h
+takes-one-widen plan seen d d' (Turn.Ended (Ended.Watched branch ticket)) h = (h.0, (takes-widen d plan.lines.now seen h.0 h.1.0, h.1.1), h.2, h.3)
+takes-one-widen plan seen d d' (Turn.Ended (Ended.Most branch)) h = h
+takes-one-widen plan seen d d' (Turn.Ended (Ended.Refused branch why)) h = h
+
+-- or from a desk that stayed
+pub takes-one-from : (plan : Plan) (d m d' : AtDesk) (turn : Turn) → m ≡ d → TakesOne plan [] m d' turn → TakesOne plan [] d d' turn
+takes-one-from plan d m d' turn same h = subst (λ (x : AtDesk). TakesOne plan [] x d' turn) same h
 
 -- one step more
 turns-more : (d m : AtDesk) (lines : List ℕ) (seen : List Choice) (ts : List Turned) (t : Turned) → Turns d lines seen ts m → TakesTurn m lines [] t →

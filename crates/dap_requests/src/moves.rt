@@ -18,7 +18,7 @@ use crate::still::{nothing_words, why_none};
 use dap_messages::{Answer, Kind, Members, Request};
 use dap_moves::{
     Back, Desk, Ended, Machine, Marks, Plan, Reply, Rewound, go_on, rewind, rewind_branch, step_at,
-    step_back, target_at,
+    step_back, step_back_laws, target_at,
 };
 use dap_threads::thread_in;
 use dap_views::{Memo, Program, Words, event_words};
@@ -457,6 +457,8 @@ pub fn back_in(
     ensures goes { (stop : Stands) × TellsStop answer.old stop answer.new × Backs desk.old branch stop desk.new }
     ensures keeps { Remembers desk.old desk.new answer.new memo.old.seen.items memo.new.seen.items }
 {
+    // What one that is refused leaves.
+    step_back_laws();
     let moved = step_back(desk, branch);
     tell_moved_back(alloc, desk.machine(), program, memo, branch, &moved, answer);
 }

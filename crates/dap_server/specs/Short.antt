@@ -94,23 +94,24 @@ short_response request gist seq =
 abbrev pub thread_named : Request → ℕ
 thread_named request = unwrap_or (number_named (codes "threadId") (view request.arguments)) 1
 
--- why nothing moves, as far as that is known without memory
-abbrev pub stop_reason : Stop → List ℕ
-stop_reason Stop.Stands = codes "pause"
-stop_reason Stop.AtLine = codes "breakpoint"
-stop_reason (Stop.Refused why) = codes "exception"
+-- why nothing moves, as far as that is known without memory, up to the number of the thread
+abbrev pub stop_head : Stop → List ℕ
+stop_head Stop.Stands = codes "\",\"body\":{\"reason\":\"pause\",\"threadId\":"
+stop_head Stop.AtLine = codes "\",\"body\":{\"reason\":\"breakpoint\",\"threadId\":"
+stop_head (Stop.Refused why) = codes "\",\"body\":{\"reason\":\"exception\",\"threadId\":"
 
--- the same in words
-abbrev pub stop_words : Stop → List ℕ
-stop_words Stop.Stands = codes "stopped; there is no memory left to tell more"
-stop_words Stop.AtLine = codes "stopped at a breakpoint; there is no memory left to tell more"
-stop_words (Stop.Refused why) = codes "refused " ++ decimal why ++ codes "; there is no memory left to tell more"
+-- the same in words, and all that is left
+abbrev pub stop_rest : Stop → List ℕ
+stop_rest Stop.Stands = codes ",\"allThreadsStopped\":true,\"text\":\"stopped; there is no memory left to tell more\"}}"
+stop_rest Stop.AtLine =
+    codes ",\"allThreadsStopped\":true,\"text\":\"stopped at a breakpoint; there is no memory left to tell more\"}}"
+stop_rest (Stop.Refused why) =
+    codes ",\"allThreadsStopped\":true,\"text\":\"refused " ++ decimal why
+    ++ codes "; there is no memory left to tell more\"}}"
 
 -- that nothing moves
 abbrev pub stopped_text : Stop → ℕ → List ℕ
-stopped_text stop thread =
-    (codes "\",\"body\":{\"reason\":\"" ++ stop_reason stop ++ codes "\",\"threadId\":" ++ decimal thread)
-    ++ (codes ",\"allThreadsStopped\":true,\"text\":\"" ++ stop_words stop ++ codes "\"}}")
+stopped_text stop thread = (stop_head stop ++ decimal thread) ++ stop_rest stop
 
 -- what stands behind the name of an event
 abbrev pub event_rest : Request → Told → List ℕ

@@ -212,63 +212,57 @@ fn thread_named(request: &Request) -> u64
 fn add_stopped(body: &mut Vec<u8>, stop: Stop, thread: u64) -> Result<(), AllocError>
     ensures { OnOk result (body.new.items ≡ body.old.items ++ model.stopped_text stop thread) }
 {
-    add_stop_head(body, stop, thread)?;
-    add_stop_text(body, stop)
+    add_stop_thread(body, stop, thread)?;
+    add_stop_rest(body, stop)
 }
 
 /// Adds why nothing moves, and the thread that stopped.
-fn add_stop_head(body: &mut Vec<u8>, stop: Stop, thread: u64) -> Result<(), AllocError>
-    ensures { OnOk result (body.new.items ≡ body.old.items
-        ++ (codes "\",\"body\":{\"reason\":\"" ++ model.stop_reason stop ++ codes "\",\"threadId\":" ++ decimal thread)) }
+fn add_stop_thread(body: &mut Vec<u8>, stop: Stop, thread: u64) -> Result<(), AllocError>
+    ensures { OnOk result (body.new.items ≡ body.old.items ++ (model.stop_head stop ++ decimal thread)) }
 {
-    body.extend_from_slice(b"\",\"body\":{\"reason\":\"")?;
-    body.extend_from_slice(stop_reason(stop))?;
-    body.extend_from_slice(b"\",\"threadId\":")?;
+    add_stop_head(body, stop)?;
     add_number(body, thread)
 }
 
-/// Adds the words for why nothing moves, and all that is left.
-fn add_stop_text(body: &mut Vec<u8>, stop: Stop) -> Result<(), AllocError>
-    ensures { OnOk result (body.new.items ≡ body.old.items
-        ++ (codes ",\"allThreadsStopped\":true,\"text\":\"" ++ model.stop_words stop ++ codes "\"}}")) }
-{
-    body.extend_from_slice(b",\"allThreadsStopped\":true,\"text\":\"")?;
-    add_stop_words(body, stop)?;
-    body.extend_from_slice(b"\"}}")
-}
-
-/// Adds the words for why nothing moves.
-fn add_stop_words(body: &mut Vec<u8>, stop: Stop) -> Result<(), AllocError>
-    ensures { OnOk result (body.new.items ≡ body.old.items ++ model.stop_words stop) }
+/// Adds why nothing moves, up to the number of the thread.
+fn add_stop_head(body: &mut Vec<u8>, stop: Stop) -> Result<(), AllocError>
+    ensures { OnOk result (body.new.items ≡ body.old.items ++ model.stop_head stop) }
 {
     match stop {
-        Stop::Stands => body.extend_from_slice(b"stopped; there is no memory left to tell more"),
+        Stop::Stands => body.extend_from_slice(b"\",\"body\":{\"reason\":\"pause\",\"threadId\":"),
         Stop::AtLine => body.extend_from_slice(
-            b"stopped at a breakpoint; there is no memory left to tell more",
+            b"\",\"body\":{\"reason\":\"breakpoint\",\"threadId\":",
+        ),
+        Stop::Refused(_) => body.extend_from_slice(
+            b"\",\"body\":{\"reason\":\"exception\",\"threadId\":",
+        ),
+    }
+}
+
+/// Adds the words for why nothing moves, and all that is left.
+fn add_stop_rest(body: &mut Vec<u8>, stop: Stop) -> Result<(), AllocError>
+    ensures { OnOk result (body.new.items ≡ body.old.items ++ model.stop_rest stop) }
+{
+    match stop {
+        Stop::Stands => body.extend_from_slice(
+            b",\"allThreadsStopped\":true,\"text\":\"stopped; there is no memory left to tell more\"}}",
+        ),
+        Stop::AtLine => body.extend_from_slice(
+            b",\"allThreadsStopped\":true,\"text\":\"stopped at a breakpoint; there is no memory left to tell more\"}}",
         ),
         Stop::Refused(why) => add_refused(body, why),
     }
 }
 
-/// Adds that a step was refused, for the reason of this number.
+/// Adds that a step was refused, for the reason of this number, and all that is left.
 fn add_refused(body: &mut Vec<u8>, why: u64) -> Result<(), AllocError>
     ensures { OnOk result (body.new.items ≡ body.old.items
-        ++ (codes "refused " ++ decimal why ++ codes "; there is no memory left to tell more")) }
+        ++ (codes ",\"allThreadsStopped\":true,\"text\":\"refused " ++ decimal why
+        ++ codes "; there is no memory left to tell more\"}}")) }
 {
-    body.extend_from_slice(b"refused ")?;
+    body.extend_from_slice(b",\"allThreadsStopped\":true,\"text\":\"refused ")?;
     add_number(body, why)?;
-    body.extend_from_slice(b"; there is no memory left to tell more")
-}
-
-/// Why nothing moves, in the word of the protocol.
-fn stop_reason(stop: Stop) -> &'static [u8]
-    ensures { result.now ≡ model.stop_reason stop }
-{
-    match stop {
-        Stop::Stands => b"pause",
-        Stop::AtLine => b"breakpoint",
-        Stop::Refused(_) => b"exception",
-    }
+    body.extend_from_slice(b"; there is no memory left to tell more\"}}")
 }
 
 /// Adds a number in decimal.
