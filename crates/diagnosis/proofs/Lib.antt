@@ -1,1 +1,2 @@
 mod Greater
+mod Clashed

@@ -4,6 +4,7 @@
 //! lines and columns are those of `source_places`.
 #![tactic(auto)]
 
+mod clash;
 mod described;
 mod fields;
 mod grammar;
