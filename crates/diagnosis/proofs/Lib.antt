@@ -1,2 +1,3 @@
-mod Greater
 mod Clashed
+mod Greater
+mod InLine
