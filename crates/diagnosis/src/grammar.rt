@@ -27,13 +27,24 @@ pub fn find(source: &[u8], number: u32, finding: &mut Finding) -> Result<(), All
             "keep a part in a variable, or put a part of the text into a procedure of its own",
         ]);
     }
+    find_unexpected(source, &mut tokens, place, found, finding)
+}
+
+/// What was found about a token of a kind that cannot stand at a place.
+fn find_unexpected(
+    source: &[u8],
+    tokens: &mut Vec<Token<'_>>,
+    place: usize,
+    found: Kind,
+    finding: &mut Finding,
+) -> Result<(), AllocError> {
     let open = innermost(finding.alloc, tokens.as_slice(), place)?;
     let seen = seen_at(source, tokens.as_slice(), place, found, open);
     let before = place
         .checked_sub(1)
         .and_then(|last| tokens.as_slice().get(last))
         .map(|token| token.span);
-    let viable = viable_kinds(finding.alloc, &mut tokens, place)?;
+    let viable = viable_kinds(finding.alloc, tokens, place)?;
     say_expected(source, found, viable.as_slice(), finding)?;
     if found == Kind::End
         && let Some(span) = before
@@ -41,18 +52,28 @@ pub fn find(source: &[u8], number: u32, finding: &mut Finding) -> Result<(), All
         finding.add_beside(span, "the last word")?;
     }
     add_open(seen, open, viable.as_slice(), finding)?;
-    if let Some(span) = before
-        && let Some(word) = word_meant(
-            finding.alloc,
-            source,
-            tokens.as_slice(),
-            viable.as_slice(),
-        )?
-    {
-        finding.add_once(span, "misspelled?")?;
-        return finding.advise(&["did you mean `", word, "`?"]);
+    if advise_misspelled(source, tokens.as_slice(), viable.as_slice(), finding)? {
+        return Ok(());
     }
     advise(source, seen, before, viable.as_slice(), finding)
+}
+
+/// What helps where the last of the tokens before the fault is a misspelled word. Whether it is one.
+fn advise_misspelled(
+    source: &[u8],
+    tokens: &[Token],
+    viable: &[Kind],
+    finding: &mut Finding,
+) -> Result<bool, AllocError> {
+    let Some(last) = tokens.last() else {
+        return Ok(false);
+    };
+    let Some(word) = word_meant(finding.alloc, source, tokens, viable)? else {
+        return Ok(false);
+    };
+    finding.add_once(last.span, "misspelled?")?;
+    finding.advise(&["did you mean `", word, "`?"])?;
+    Ok(true)
 }
 
 /// What stands at a place and around it.
