@@ -17,7 +17,7 @@ mod misspelled;
 mod opened;
 mod script;
 mod sharing;
-mod stimulus;
+mod stimulus_line;
 mod told;
 mod trace;
 mod variables;
