@@ -44,39 +44,46 @@ first_alike kinds token rest levels (token' ∷ rest') is like =
 
 take_blind : (kinds : List Kind) → Blind (take kinds)
 unfolding take
-take_blind kinds = record { mirror = λ i i' token j s like.
-    let here : Alike (input j.levels (token ∷ j.tokens)) i' = subst (λ k. Alike k i') s.1 like in
-    let found = first_alike kinds token j.tokens i'.levels i'.tokens s.0 here.1 in
-    (found.0, input i'.levels found.1, (found.2, found.3), (here.0, found.4)) }
+take_blind kinds = record {
+  mirror = λ i i' token j s like.
+      let here : Alike (input j.levels (token ∷ j.tokens)) i' = subst (λ k. Alike k i') s.1 like in
+      let found = first_alike kinds token j.tokens i'.levels i'.tokens s.0 here.1 in
+      (found.0, input i'.levels found.1, (found.2, found.3), (here.0, found.4));
+}
 
 take_open_blind : (depth : ℕ) (kinds : List Kind) → Blind (take_open depth kinds)
 unfolding take_open
 take_open_blind zero kinds = record { mirror = λ i i' token j s like. absurd s }
-take_open_blind (suc depth) kinds = record { mirror = λ i i' token j s like.
-    let here : Alike (input (suc j.levels) (token ∷ j.tokens)) i' = subst (λ k. Alike k i') s.1 like in
-    let found = first_alike kinds token j.tokens i'.levels i'.tokens s.0 here.1 in
-    (
-      found.0,
-      input j.levels found.1,
-      (found.2, found.3 ∙ ap (λ levels. input levels (found.0 ∷ found.1)) (sym here.0)),
-      (refl, found.4),
-    ) }
+take_open_blind (suc depth) kinds = record {
+  mirror = λ i i' token j s like.
+      let here : Alike (input (suc j.levels) (token ∷ j.tokens)) i' = subst (λ k. Alike k i') s.1 like in
+      let found = first_alike kinds token j.tokens i'.levels i'.tokens s.0 here.1 in (
+        found.0,
+        input j.levels found.1,
+        (found.2, found.3 ∙ ap (λ levels. input levels (found.0 ∷ found.1)) (sym here.0)),
+        (refl, found.4),
+      );
+}
 
 bind_mirrors : {A B : Type 0} {first first' : Rule A} {following following' : A → Rule B} → Mirrors first first'
     → ((a a' : A) → Mirrors (following a) (following' a')) → Mirrors (bind first following) (bind first' following')
 unfolding bind
-bind_mirrors one other = record { mirror = λ i i' b k s like.
-    let found = one.mirror i i' s.0 s.1 s.2 like in
-    let last = (other s.0 found.0).mirror s.1 found.1 b k s.3 found.3 in
-    (last.0, last.1, (found.0, found.1, found.2, last.2), last.3) }
+bind_mirrors one other = record {
+  mirror = λ i i' b k s like.
+      let found = one.mirror i i' s.0 s.1 s.2 like in
+      let last = (other s.0 found.0).mirror s.1 found.1 b k s.3 found.3 in
+      (last.0, last.1, (found.0, found.1, found.2, last.2), last.3);
+}
 
 either_mirrors : {A : Type 0} {first first' second second' : Rule A} → Mirrors first first' → Mirrors second second'
     → Mirrors (either first second) (either first' second')
 unfolding either
-either_mirrors one other = record { mirror = λ i i' a j s like. elim s [
-  | inl left ↦ let found = one.mirror i i' a j left like in (found.0, found.1, inl found.2, found.3)
-  | inr right ↦ let found = other.mirror i i' a j right like in (found.0, found.1, inr found.2, found.3)
-] }
+either_mirrors one other = record {
+  mirror = λ i i' a j s like. elim s [
+    | inl left ↦ let found = one.mirror i i' a j left like in (found.0, found.1, inl found.2, found.3)
+    | inr right ↦ let found = other.mirror i i' a j right like in (found.0, found.1, inr found.2, found.3)
+  ];
+}
 
 turns_mirrors : {A : Type 0} {turn : A → Rule A} → ((a a' : A) → Mirrors (turn a) (turn a')) → (n : ℕ) (a a' : A)
     → Mirrors (turns turn n a) (turns turn n a')
@@ -86,20 +93,23 @@ turns_mirrors one (suc n) a a' = bind_mirrors (one a a') (λ b b'. turns_mirrors
 repeat_mirrors : {A : Type 0} {turn : A → Rule A} → ((a a' : A) → Mirrors (turn a) (turn a')) → (a a' : A)
     → Mirrors (repeat turn a) (repeat turn a')
 unfolding repeat
-repeat_mirrors one a a' = record { mirror = λ i i' b j s like.
-    let found = (turns_mirrors one s.0 a a').mirror i i' b j s.1 like in
-    (found.0, found.1, (s.0, found.2), found.3) }
+repeat_mirrors one a a' = record {
+  mirror = λ i i' b j s like.
+      let found = (turns_mirrors one s.0 a a').mirror i i' b j s.1 like in
+      (found.0, found.1, (s.0, found.2), found.3);
+}
 
 inside_blind : {A : Type 0} {rule : Rule A} → Blind rule → Blind (inside rule)
 unfolding inside
-inside_blind one = record { mirror = λ i i' a j s like.
-    let found = one.mirror i i' a (input s.0 j.tokens) s.1 like in
-    (
-      found.0,
-      input i'.levels (found.1).tokens,
-      ((found.1).levels, found.2, refl),
-      (sym s.2 ∙ like.0, (found.3).1),
-    ) }
+inside_blind one = record {
+  mirror = λ i i' a j s like.
+      let found = one.mirror i i' a (input s.0 j.tokens) s.1 like in (
+        found.0,
+        input i'.levels (found.1).tokens,
+        ((found.1).levels, found.2, refl),
+        (sym s.2 ∙ like.0, (found.3).1),
+      );
+}
 
 nothing_blind : {A : Type 0} → Blind (nothing {A = A})
 unfolding nothing

@@ -34,8 +34,7 @@ spelled_alike : (tokens others : List Token) (given : Description) → AlikeToke
     → (other : Description) × Parses others other
 spelled_alike tokens others given like s =
     let found = (description_blind most_levels).mirror (input most_levels tokens) (input most_levels others) given
-    (input s.unclosed s.rest) s.spelled (refl, like) in
-    (
+    (input s.unclosed s.rest) s.spelled (refl, like) in (
       found.0,
       record {
         rest = (found.1).tokens;

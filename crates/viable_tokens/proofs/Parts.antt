@@ -44,13 +44,18 @@ passes_on before part begins first second = record {
 no_less : (index : ℕ) → index - 0 ≡ index
 no_less index = omega arith
 
+one_less : (first index : ℕ) → suc index - suc first ≡ index - first
+one_less first index = omega arith
+
 -- tokens up to an index, cut in two
 cut : (tokens : List Token) (first index : ℕ) → first ≤ index
     → take first tokens ++ take (index - first) (drop first tokens) ≡ take index tokens
 cut tokens zero index fits = ap (λ n. take n tokens) (no_less index)
 cut [] (suc first) index fits = take-nil (index - suc first) ∙ sym (take-nil index)
 cut (token ∷ rest) (suc first) zero fits = absurd (omega (arith, fits))
-cut (token ∷ rest) (suc first) (suc index) fits = ap (λ t. token ∷ t) (cut rest first index (omega (arith, fits)))
+cut (token ∷ rest) (suc first) (suc index) fits =
+    ap (λ n. token ∷ (take first rest ++ take n (drop first rest))) (one_less first index)
+    ∙ ap (λ t. token ∷ t) (cut rest first index (omega (arith, fits)))
 
 -- a part of tokens that begin with `procedure` begins so, or has no token
 part_begins : (tokens : List Token) (size : ℕ) → BeginsProcedure tokens → (next : List Token) → BeginsProcedure next
@@ -67,8 +72,11 @@ counts_on tokens first index fits (inl none) whole begins =
     ∙ ap (λ n. take n tokens) (no_less index) in
     inr (begins, subst Passes here (passes_whole (slice_range tokens first index) whole))
 counts_on tokens first index fits (inr (is, passes)) whole begins =
-    inr (begins, subst Passes (cut tokens first index fits) (passes_on (take first tokens) (slice_range tokens first index)
-    (part_begins (drop first tokens) (index - first) is) passes (passes_whole (slice_range tokens first index) whole)))
+    inr (
+      begins,
+      subst Passes (cut tokens first index fits) (passes_on (take first tokens) (slice_range tokens first index)
+          (part_begins (drop first tokens) (index - first) is) passes (passes_whole (slice_range tokens first index) whole)),
+    )
 
 -- ---- what is tried
 
@@ -95,8 +103,8 @@ hopeless_all tokens first token (inr (is, passes)) h = subst IsHopeless (sym (be
     let found = h later in (
       found.0,
       subst (λ t. IsRefused t found.0) (sym (append_assoc (take first tokens) counted later))
-      (passes.refused (counted ++ later)
-      (begins_on counted later (begins_on (drop first tokens) (token ∷ []) is)) found.0 found.1),
+          (passes.refused (counted ++ later)
+          (begins_on counted later (begins_on (drop first tokens) (token ∷ []) is)) found.0 found.1),
     ))
 
 -- a description begins with no hopeless tokens

@@ -131,7 +131,6 @@ fn can_stand(
 }
 
 /// Adds a kind of which a token can stand behind `tokens`. Those from `first` on count.
-#[tactic(auto, using(crate::proofs::Sifted::viable_on, crate::proofs::Sifted::viable_past))]
 fn add_viable(
     alloc: Global,
     tokens: &mut Vec<Token<'_>>,
