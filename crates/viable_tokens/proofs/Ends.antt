@@ -1,12 +1,12 @@
 -- With which token tokens go on hangs on its kind alone; and none goes on with what is refused.
-use Rattle.std.proofs.Common.{◌≡◌, ◌≢◌, ◌⊎◌, inl, inr, ℕ, Option, Some, List, [], ◌∷◌, ◌++◌, refl, sym, ◌∙◌, ap, subst, append_assoc, append-nil}
+use Rattle.std.proofs.Common.{◌≡◌, ◌≢◌, ◌⊎◌, inl, inr, Option, Some, List, [], ◌∷◌, ◌++◌, refl, sym, ◌∙◌, subst, append_assoc, append-nil}
 use Rattle.std.specs.Prelude.{MatchOption}
 use Rattle.lexer.specs.declared.token.Token.{Token}
 use Rattle.syntax.specs.declared.declaration.Description.{Description}
 use Rattle.parser.specs.Accepted.{Begins, IsRefused, Parses, most_levels}
 use Rattle.parser.specs.Grammar.{description}
-use Rattle.parser.specs.Input.{Input, input, next}
-use Rattle.parser.specs.Sentences.{GoesOnWith, Spells}
+use Rattle.parser.specs.Input.{input, next}
+use Rattle.parser.specs.Sentences.{GoesOnWith}
 use Rattle.refusals.specs.declared.parser.Fault.{Fault}
 use Rattle.refusals.specs.declared.parser.Fault.TheVariants.{Memory, Unexpected, TooDeep}
 use Rattle.viable_tokens.specs.internal.Trials.{IsHopeless}

@@ -1,17 +1,15 @@
 -- From where on tokens count.
-use Rattle.std.proofs.Common.{◌≡◌, ◌⊎◌, inl, inr, ℕ, zero, suc, ◌+◌, ◌-◌, ◌<◌, ◌≤◌, Bool, true, false, List, [], ◌∷◌, ◌++◌, take, drop, length, refl, sym, ◌∙◌, ap, subst, append_assoc, arith}
+use Rattle.std.proofs.Common.{◌≡◌, inl, inr, ℕ, zero, suc, ◌-◌, ◌≤◌, Bool, true, false, List, [], ◌∷◌, ◌++◌, take, drop, sym, ◌∙◌, ap, subst, append_assoc, arith}
 use Rattle.std.proofs.Math.Seq.{take-nil}
 use Rattle.std.proofs.lemmas.List.{take-append-drop}
 use Rattle.std.specs.Prelude.{slice_range}
 use Rattle.std.specs.Bool.{MatchBool}
 use Rattle.lexer.specs.declared.token.Kind.{Kind}
 use Rattle.lexer.specs.declared.token.Token.{Token}
-use Rattle.lexer.specs.internal.Parts.{BeginsProcedure, HasNoEnd}
+use Rattle.lexer.specs.internal.Parts.{BeginsProcedure}
 use Rattle.parser.specs.Accepted.{Begins, IsRefused, Parses}
 use Rattle.parser.specs.internal.Parts.{Opens, joined}
 use Rattle.parser.proofs.public.PartLaws.{begins_on, opens}
-use Rattle.refusals.specs.declared.parser.Fault.{Fault}
-use Rattle.syntax.specs.declared.declaration.Description.{Description}
 use Rattle.viable_tokens.specs.Viable.{CanStand}
 use Rattle.viable_tokens.specs.internal.Trials.{Counts, IsHopeless, IsWhole, Passes}
 use Rattle.viable_tokens.proofs.Ends.{begins_alike, not_both}

@@ -1,6 +1,4 @@
-use Rattle.std.proofs.Common.{◌∷◌, ◌++◌, [], ap}
 use Rattle.std.proofs.lemmas.Bool.{MatchBool-at_false, MatchBool-at_true}
-use Rattle.viable_tokens.specs.Viable.{AreViable}
 use Rattle.viable_tokens.proofs.Sifted.{viable_on, viable_past}
 use Rattle.viable_tokens.proofs.trial.add_viable.Goals as goal
 
