@@ -1,9 +1,8 @@
 // The part of a line that is shown.
-ghost use Rattle.std.specs.Prelude.{◌≡◌, ◌≢◌, ◌++◌, ◌+◌, ◌<◌, ◌≤◌, ℕ, IfOk, length, slice_index, string_bytes};
+ghost use Rattle.std.specs.Prelude.{◌≡◌, ◌++◌, ◌+◌, IfOk, string_bytes};
 ghost use Rattle.bstr.specs.Utf8.{lossy_chars};
-ghost use Rattle.source_places.specs.Places.{line_end};
+ghost use Rattle.source_places.specs.Places.{ends_before, within};
 ghost use Rattle.marked_lines.specs.Marks.{blanks_under, under};
-ghost use Rattle.marked_lines.specs.Rows.{IsPartAt, between, columns_of, cut_off, mark_signs, part_text, shown_text, under_cut};
 
 use crate::shown::{add_blanks, add_signs, columns, shown};
 use bstr::ByteSlice;
@@ -40,9 +39,7 @@ pub fn character_from(text: &[u8], offset: usize) -> usize {
 }
 
 /// Where what is shown of a line ends: without a byte 13 that ends it.
-fn shown_end(text: &[u8], start: usize, keeps_return: bool) -> usize
-    ensures { (k : ℕ) → start ≤ k → k < result → slice_index text.now k ≢ line_end }
-{
+fn shown_end(text: &[u8], start: usize, keeps_return: bool) -> usize {
     let end = end_of_line(text, start);
     if keeps_return || end <= start || text.get(end - 1) != Some(&b'\r') {
         return end;
@@ -52,7 +49,7 @@ fn shown_end(text: &[u8], start: usize, keeps_return: bool) -> usize
 
 /// The part of a line around the byte at `offset`.
 pub fn part_around(text: &[u8], offset: usize, keeps_return: bool) -> Part
-    ensures { IsPartAt text.now offset result }
+    ensures { result.line ≡ ends_before text.now (within text.now offset) + 1 }
 {
     let place = place_of(text, offset);
     let start = place.start;
@@ -75,9 +72,7 @@ pub fn part_around(text: &[u8], offset: usize, keeps_return: bool) -> Part
 }
 
 /// The bytes from one offset up to another, as far as the text has them.
-pub fn bytes_between(text: &[u8], from: usize, to: usize) -> &[u8]
-    ensures { result.now ≡ between text.now from to }
-{
+pub fn bytes_between(text: &[u8], from: usize, to: usize) -> &[u8] {
     text.get(from..to).unwrap_or(b"")
 }
 
@@ -88,44 +83,26 @@ impl Part {
     }
 
     /// Adds it as it is shown.
-    pub fn add(self, out: &mut String, text: &[u8]) -> Result<(), AllocError>
-        ensures { IfOk result (λ _. string_bytes out.new ≡ string_bytes out.old ++ part_text text.now self) }
-    {
-        add_dots(out, self.is_cut_before)?;
-        add_shown(out, bytes_between(text, self.from, self.to))?;
-        add_dots(out, self.is_cut_behind)
+    pub fn add(self, out: &mut String, text: &[u8]) -> Result<(), AllocError> {
+        if self.is_cut_before {
+            out.push_str("...")?;
+        }
+        for character in bytes_between(text, self.from, self.to).chars() {
+            out.push(shown(character))?;
+        }
+        if self.is_cut_behind {
+            out.push_str("...")?;
+        }
+        Ok(())
     }
 
     /// Adds the blanks that stand under the sign for what was cut off before it.
-    pub fn add_cut(self, out: &mut String) -> Result<(), AllocError>
-        ensures { IfOk result (λ _. string_bytes out.new ≡ string_bytes out.old ++ under_cut self.is_cut_before) }
-    {
+    pub fn add_cut(self, out: &mut String) -> Result<(), AllocError> {
         if self.is_cut_before {
             out.push_str("   ")?;
         }
         Ok(())
     }
-}
-
-/// Adds the sign for what was cut off.
-fn add_dots(out: &mut String, is_cut: bool) -> Result<(), AllocError>
-    ensures { IfOk result (λ _. string_bytes out.new ≡ string_bytes out.old ++ cut_off is_cut) }
-{
-    if is_cut {
-        out.push_str("...")?;
-    }
-    Ok(())
-}
-
-/// Adds bytes as they are shown.
-fn add_shown(out: &mut String, bytes: &[u8]) -> Result<(), AllocError>
-    ensures { IfOk result (λ _. string_bytes out.new ≡ string_bytes out.old ++ shown_text bytes.now) }
-{
-    let mut chars = bytes.chars();
-    'chars: while let Some(character) = chars.next() {
-        out.push(shown(character))?;
-    }
-    Ok(())
 }
 
 /// Adds what stands under some characters, so that what comes behind stands under what comes behind them: blanks, and a
@@ -150,21 +127,16 @@ fn add_under_one(out: &mut String, character: char) -> Result<(), AllocError>
     add_blanks(out, columns(character))
 }
 
-/// How many columns some characters take.
-fn columns_of(bytes: &[u8]) -> usize
-    ensures { result ≡ columns_of bytes.now }
-{
-    let mut count = 0;
-    let mut chars = bytes.chars();
-    'chars: while let Some(character) = chars.next() {
-        count += columns(character);
-    }
-    count
-}
-
 /// Adds a sign under each column of some characters, at least one.
-pub fn add_marks(out: &mut String, bytes: &[u8], sign: char) -> Result<(), AllocError>
-    ensures { IfOk result (λ _. string_bytes out.new ≡ string_bytes out.old ++ mark_signs bytes.now sign) }
-{
-    add_signs(out, sign, columns_of(bytes).max(1))
+pub fn add_marks(out: &mut String, bytes: &[u8], sign: char) -> Result<(), AllocError> {
+    let mut is_any = false;
+    for character in bytes.chars() {
+        let width = columns(character);
+        add_signs(out, sign, width)?;
+        is_any = is_any || width > 0;
+    }
+    if !is_any {
+        out.push(sign)?;
+    }
+    Ok(())
 }
