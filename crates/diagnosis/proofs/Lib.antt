@@ -1,3 +1,2 @@
 mod Clashed
 mod Greater
-mod InLine

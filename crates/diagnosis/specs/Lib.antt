@@ -1,3 +1,2 @@
 pub mod Clashes
 pub mod Numbers
-pub mod Told

@@ -1,11 +1,8 @@
 //! What people are told of a fault: where it is, the line with a mark under it, what is wrong and what helps.
 //!
-//! A fault is a number and what stands behind it, as the fault line has them. That the text begins with the place of the
-//! fault is proved, and that the use is marked which clashes with one; other words are tested.
+//! A fault is a number and what stands behind it, as the fault line has them. That the use is marked which clashes with
+//! one is proved; the words are tested. The lines and columns are those of `source_places`.
 #![tactic(auto)]
-
-ghost use Rattle.std.specs.Prelude.{IfOk, string_bytes};
-ghost use Rattle.diagnosis.specs.Told.{TellsFault, TellsOffset};
 
 mod clash;
 mod described;
@@ -36,9 +33,7 @@ pub fn explain(
     number: u32,
     field: Option<u64>,
     inputs: &Inputs<'_>,
-) -> Result<String, AllocError>
-    ensures { IfOk result (λ told. TellsFault number field inputs.now (string_bytes told)) }
-{
+) -> Result<String, AllocError> {
     match (number, field) {
         (2..=13 | 15..=17, Some(offset)) => explain_source(alloc, number, offset, inputs.source),
         (31..=34 | 51 | 61, line) => lines::explain(alloc, number, line.unwrap_or(1), inputs),
@@ -52,9 +47,7 @@ fn explain_source(
     number: u32,
     offset: u64,
     source: Input<'_>,
-) -> Result<String, AllocError>
-    ensures { IfOk result (λ told. TellsOffset source.entry offset (string_bytes told)) }
-{
+) -> Result<String, AllocError> {
     let offset = offset.min(source.bytes.len() as u64);
     let mut finding = Finding::new(alloc, offset, offset);
     match number {

@@ -1,7 +1,4 @@
 // Refusals of lines: 31 to 34, 51 and 61.
-ghost use Rattle.std.specs.Prelude.{◌≡◌, ◌≢◌, ◌≤◌, ◌<◌, ◌+◌, ℕ, length, slice_index, IfOk, Some, string_bytes};
-ghost use Rattle.source_places.specs.Places.{ends_before, line_end};
-ghost use Rattle.diagnosis.specs.Told.{TellsLine, input_of};
 
 use crate::told::{Inputs, explain_plain};
 use crate::{described, script, trace};
@@ -10,9 +7,7 @@ use source_places::{end_of_line, start_of_line};
 use std::alloc::{AllocError, Global};
 
 /// The text in which a line is refused.
-fn input_of<'a>(number: u32, inputs: &Inputs<'a>) -> Option<Input<'a>>
-    ensures { result ≡ input_of number inputs.now }
-{
+fn input_of<'a>(number: u32, inputs: &Inputs<'a>) -> Option<Input<'a>> {
     match number {
         51 => inputs.stimulus,
         61 => inputs.script,
@@ -26,9 +21,7 @@ pub fn explain(
     number: u32,
     line: u64,
     inputs: &Inputs<'_>,
-) -> Result<String, AllocError>
-    ensures { IfOk result (λ told. TellsLine (input_of number inputs.now) line (string_bytes told)) }
-{
+) -> Result<String, AllocError> {
     match input_of(number, inputs) {
         Some(input) => explain_line(alloc, number, line, input, inputs),
         None => explain_plain(alloc, number, inputs),
@@ -42,9 +35,7 @@ fn explain_line(
     line: u64,
     input: Input<'_>,
     inputs: &Inputs<'_>,
-) -> Result<String, AllocError>
-    ensures { IfOk result (λ told. TellsLine (Some input.entry) line (string_bytes told)) }
-{
+) -> Result<String, AllocError> {
     let Some(start) = start_of_line(input.bytes, line as usize) else {
         return explain_plain(alloc, number, inputs);
     };
@@ -60,13 +51,7 @@ fn text_in_line(
     start: usize,
     stop: usize,
     input: Input<'_>,
-) -> Result<String, AllocError>
-    requires order { start ≤ stop }
-    requires inside { (k : ℕ) → start ≤ k → k < stop → slice_index input.bytes.now k ≢ line_end }
-    requires end { stop ≤ length input.bytes.now }
-    ensures { IfOk result (λ told. TellsLine (Some input.entry) (ends_before input.entry.bytes.now start + 1)
-        (string_bytes told)) }
-{
+) -> Result<String, AllocError> {
     finding.start = finding.start.max(start as u64).min(stop as u64);
     finding.text(input, true)
 }
