@@ -4,7 +4,7 @@ use Rattle.std.specs.Prelude.{◌==◌, slice_index}
 use Rattle.std.proofs.lemmas.Bool.Decides.{eqb_tells}
 use Rattle.std.proofs.lemmas.List.Sums.{count_by_more_no}
 use Rattle.source_places.specs.Places.{ends_before, line_end, within}
-use Rattle.findings.specs.Heads.{IsHead}
+use Rattle.findings.specs.Heads.{IsHead, TellsPlace}
 use Rattle.findings.specs.declared.finding.Input.{Input}
 use Rattle.diagnosis.specs.Told.{TellsLine, TellsOffset}
 
@@ -49,3 +49,15 @@ tells_within input at offset told same tells =
     let place = tells.1 in
     let first : IsHead input.name.now input.bytes.now offset tells.0 place.0 = rw same at place.2 in
     (tells.0, (place.0, place.1, first, place.3))
+
+pub told_in_line : (input : Input) (start at stop : ℕ) (what told : List ℕ)
+    → TellsPlace input.name.now input.bytes.now at what told → start ≤ at → at ≤ stop → stop ≤ length input.bytes.now
+    → ((k : ℕ) → start ≤ k → k < stop → slice_index input.bytes.now k ≢ line_end)
+    → TellsLine (Some input) (ends_before input.bytes.now start + 1) told
+told_in_line input start at stop what told tells from below fits inside =
+    tells_line input start at stop told from below fits inside (what, tells)
+
+pub told_within : (input : Input) (at offset : ℕ) (what told : List ℕ)
+    → TellsPlace input.name.now input.bytes.now at what told
+    → within input.bytes.now at ≡ within input.bytes.now offset → TellsOffset input offset told
+told_within input at offset what told tells same = tells_within input at offset told same (what, tells)
