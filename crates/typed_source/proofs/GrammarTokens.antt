@@ -235,61 +235,61 @@ module _ (Good : Token → Type 0) where
   module _ (depth : ℕ) {expression : Rule Expr} {command : Rule Command} {inner : Rule Expr}
       (here : Goes expression) (command_goes : Goes command) (inner_goes : Goes inner)
     where
-    bracketed_goes : Goes (g.bracketed depth expression command inner)
-    unfolding g.bracketed
-    bracketed_goes = open_one depth _ then λ _. command_goes then λ held. one _ then λ _. done _
+      bracketed_goes : Goes (g.bracketed depth expression command inner)
+      unfolding g.bracketed
+      bracketed_goes = open_one depth _ then λ _. command_goes then λ held. one _ then λ _. done _
 
-    looping_goes : Goes (g.looping depth expression command inner)
-    unfolding g.looping
-    looping_goes =
-        open_one depth _ then λ start.
-        keeps_either (while_goes command_goes inner_goes start.span) (endless_goes command_goes inner_goes start.span)
+      looping_goes : Goes (g.looping depth expression command inner)
+      unfolding g.looping
+      looping_goes =
+          open_one depth _ then λ start.
+          keeps_either (while_goes command_goes inner_goes start.span) (endless_goes command_goes inner_goes start.span)
 
-    branching_goes : Goes (g.branching depth expression command inner)
-    unfolding g.branching
-    branching_goes =
-        open_one depth _ then λ start. row_by _ (guarded_goes command_goes inner_goes) then λ arms.
-        otherwise_goes command_goes inner_goes then λ last. one _ then λ stop. done _
+      branching_goes : Goes (g.branching depth expression command inner)
+      unfolding g.branching
+      branching_goes =
+          open_one depth _ then λ start. row_by _ (guarded_goes command_goes inner_goes) then λ arms.
+          otherwise_goes command_goes inner_goes then λ last. one _ then λ stop. done _
 
-    casing_goes : Goes (g.casing depth expression command inner)
-    unfolding g.casing
-    casing_goes =
-        open_one depth _ then λ start. inner_goes then λ value. one _ then λ _. row_by _ (case_arm_goes command_goes inner_goes) then λ arms.
-        otherwise_goes command_goes inner_goes then λ last. one _ then λ stop. done _
+      casing_goes : Goes (g.casing depth expression command inner)
+      unfolding g.casing
+      casing_goes =
+          open_one depth _ then λ start. inner_goes then λ value. one _ then λ _. row_by _ (case_arm_goes command_goes inner_goes) then λ arms.
+          otherwise_goes command_goes inner_goes then λ last. one _ then λ stop. done _
 
-    selecting_goes : Goes (g.selecting depth expression command inner)
-    unfolding g.selecting
-    selecting_goes = open_one depth _ then λ start. row_by _ (arm_goes command_goes inner_goes) then λ arms. one _ then λ stop. done _
+      selecting_goes : Goes (g.selecting depth expression command inner)
+      unfolding g.selecting
+      selecting_goes = open_one depth _ then λ start. row_by _ (arm_goes command_goes inner_goes) then λ arms. one _ then λ stop. done _
 
-    arbitrating_goes : Goes (g.arbitrating depth expression command inner)
-    unfolding g.arbitrating
-    arbitrating_goes =
-        open_one depth _ then λ start. arm_goes command_goes inner_goes then λ first. one _ then λ _.
-        arm_goes command_goes inner_goes then λ second. one _ then λ stop. done _
+      arbitrating_goes : Goes (g.arbitrating depth expression command inner)
+      unfolding g.arbitrating
+      arbitrating_goes =
+          open_one depth _ then λ start. arm_goes command_goes inner_goes then λ first. one _ then λ _.
+          arm_goes command_goes inner_goes then λ second. one _ then λ stop. done _
 
-    incoming_goes : (channel : Identifier) → Goes (g.incoming depth expression command inner channel)
-    unfolding g.incoming g.enclosing g.receiving
-    incoming_goes channel =
-        one _ then λ _. keeps_either (open_one depth _ then λ _. command_goes then λ held. one _ then λ stop. done _) (identifier_goes then λ variable. done _)
+      incoming_goes : (channel : Identifier) → Goes (g.incoming depth expression command inner channel)
+      unfolding g.incoming g.enclosing g.receiving
+      incoming_goes channel =
+          one _ then λ _. keeps_either (open_one depth _ then λ _. command_goes then λ held. one _ then λ stop. done _) (identifier_goes then λ variable. done _)
 
-    call_goes : (procedure : Identifier) → Goes (g.call procedure)
-    unfolding g.call g.arguments
-    call_goes procedure = one _ then λ _. keeps_either names_go (done _) then λ given. one _ then λ stop. (done _)
+      call_goes : (procedure : Identifier) → Goes (g.call procedure)
+      unfolding g.call g.arguments
+      call_goes procedure = one _ then λ _. keeps_either names_go (done _) then λ given. one _ then λ stop. (done _)
 
-    named_goes : Goes (g.named depth expression command inner)
-    unfolding g.named g.assignment g.sending
-    named_goes =
-        identifier_goes then λ name.
-        keeps_either (one _ then λ _. here then λ value. done _)
-        (keeps_either (one _ then λ _. here then λ value. done _) (keeps_either (incoming_goes name) (call_goes name)))
+      named_goes : Goes (g.named depth expression command inner)
+      unfolding g.named g.assignment g.sending
+      named_goes =
+          identifier_goes then λ name.
+          keeps_either (one _ then λ _. here then λ value. done _)
+          (keeps_either (one _ then λ _. here then λ value. done _) (keeps_either (incoming_goes name) (call_goes name)))
 
-    simple_of_goes : Goes (g.simple_of depth expression command inner)
-    unfolding g.simple_of g.any_simple g.word g.synchronisation
-    simple_of_goes =
-        within
-        (keeps_either bracketed_goes (keeps_either looping_goes (keeps_either branching_goes (keeps_either casing_goes
-        (keeps_either selecting_goes (keeps_either arbitrating_goes (keeps_either (one _ then λ start. identifier_goes then λ channel. done _)
-        (keeps_either named_goes (keeps_either (one _ then λ token. done _) (one _ then λ token. done _))))))))))
+      simple_of_goes : Goes (g.simple_of depth expression command inner)
+      unfolding g.simple_of g.any_simple g.word g.synchronisation
+      simple_of_goes =
+          within
+          (keeps_either bracketed_goes (keeps_either looping_goes (keeps_either branching_goes (keeps_either casing_goes
+          (keeps_either selecting_goes (keeps_either arbitrating_goes (keeps_either (one _ then λ start. identifier_goes then λ channel. done _)
+          (keeps_either named_goes (keeps_either (one _ then λ token. done _) (one _ then λ token. done _))))))))))
 
   simple_goes : (depth : ℕ) → Goes (g.simple depth)
   simple_goes zero = simple_of_goes zero (expression_goes zero) none none
