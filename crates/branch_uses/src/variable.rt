@@ -55,8 +55,8 @@ fn add_command(
         }
         Action::Select(arms) => add_arms(arms.as_slice(), alloc, name, offset, found),
         Action::Arbitrate(one, other) => {
-            add_command(&one.body, alloc, name, offset, found)?;
-            add_command(&other.body, alloc, name, offset, found)
+            add_command(&one.get().body, alloc, name, offset, found)?;
+            add_command(&other.get().body, alloc, name, offset, found)
         }
         Action::Assign(variable, value) => {
             found.note(name, variable.name.text(), variable.span.start, true)?;

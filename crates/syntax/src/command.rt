@@ -30,8 +30,8 @@ pub enum Action {
     Case(Expr, Items<CaseArm>, Option<Command>),
     /// `select` with one arm or more.
     Select(Items<Arm>),
-    /// `arbitrate` with its two arms.
-    Arbitrate(Arm, Arm),
+    /// `arbitrate` with its two arms. They stand on the heap, so that other actions take less room.
+    Arbitrate(Boxed<Arm>, Boxed<Arm>),
     /// `variable := value`
     Assign(Identifier, Expr),
     /// `channel <- value`

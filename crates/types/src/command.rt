@@ -92,8 +92,8 @@ fn settled_action(
         syntax::Action::Input(channel, body) => settled_input(alloc, scope, opened, body, channel),
         syntax::Action::Select(arms) => settled_select(alloc, scope, opened, arms.as_slice()),
         syntax::Action::Arbitrate(first, second) => {
-            let first = settled_arm(alloc, scope, opened, first)?;
-            settled_arbitrate(alloc, scope, opened, second, first)
+            let first = settled_arm(alloc, scope, opened, first.get())?;
+            settled_arbitrate(alloc, scope, opened, second.get(), first)
         }
         syntax::Action::Sequence(children) => {
             settled_sequence(alloc, scope, opened, children.as_slice())

@@ -173,8 +173,8 @@ fn add_command(command: &Command, walk: &mut Walk<'_>) -> Result<(), AllocError>
         }
         Action::Select(arms) => add_arms(arms.as_slice(), walk, span.start),
         Action::Arbitrate(one, other) => {
-            add_arm(one, walk, span.start)?;
-            add_arm(other, walk, span.start)
+            add_arm(one.get(), walk, span.start)?;
+            add_arm(other.get(), walk, span.start)
         }
         Action::Assign(variable, value) => {
             add_name(walk, Role::Assigned, variable)?;
