@@ -6,8 +6,15 @@ ghost use Rattle.address.specs.Reading.{HasNoText, IsTextOf};
 ghost use Rattle.address.specs.internal.Entries.{IsDigitsEnd, ReadsEntry, ReadsNumber, BeginsNoEntry, ReadsNoNumber};
 
 use crate::{Address, Entry};
+use smallvec::SmallVec;
 use std::alloc::{AllocError, Global};
 use std::fmt;
+
+/// About how many bytes the text of an entry has.
+const USUAL_BYTES: usize = 3;
+
+/// For so many entries there is room from the start, at most.
+const MOST_ROOM: usize = 1_024;
 
 impl fmt::Display for Entry {
     ghost output = { λ e. Some (entry_text e) };
@@ -36,7 +43,8 @@ impl fmt::Display for Address {
 pub fn read(alloc: Global, text: &[u8]) -> Result<Option<Address>, AllocError>
     ensures { IfOk result (λ r. MatchOption r (HasNoText text.now) (λ a. IsTextOf a text.now)) }
 {
-    let mut entries = Vec::new(alloc);
+    let room = (text.len() / USUAL_BYTES).min(MOST_ROOM);
+    let mut entries = SmallVec::with_capacity(alloc, room)?;
     let mut rest = text;
     while !rest.is_empty() {
         let Some((entry, after)) = read_entry(rest) else {
@@ -45,7 +53,7 @@ pub fn read(alloc: Global, text: &[u8]) -> Result<Option<Address>, AllocError>
         entries.push(entry)?;
         rest = after;
     }
-    Ok(Some(Address::from_vec(entries)))
+    Ok(Some(Address { entries }))
 }
 
 /// The entry at the start of the text, and what follows it; `None` where the text does not begin with `.` or `/` and a
