@@ -14,6 +14,7 @@ use locked_execution::Machine;
 use sharing_check::Checked;
 use std::alloc::Global;
 use std::io::{BufReader, Read, Write};
+use std::mem;
 
 /// The system that the source and the stimulus describe, or the first fault of the first pass that refuses them: the
 /// source is cut, parsed and typed, then the stimulus is read, then the system is made, and then the rule on sharing is
@@ -46,11 +47,14 @@ pub fn debug<R: Read, W: Write>(
     ensures write_failures { failures writer.new ≡ after_writing result (failures writer.old) }
 {
     let mut line = Vec::new(alloc);
-    debug_keeping(alloc, reader, writer, source, stimulus, &mut line)
+    let mut script_state = begin(alloc, source, stimulus)?;
+    answer_lines(alloc, &mut script_state, reader, writer, &mut line)
 }
 
-/// The same, where `line` has the last line that was taken, without its end, once it ends. So a line that says nothing
-/// can be shown: no reader has it any more. No clause speaks of `line`.
+/// The same for a program that ends behind it, where `line` has the last line that was taken, without its end, once it
+/// ends. So a line that says nothing can be shown: no reader has it any more. No clause speaks of `line`.
+///
+/// What the session holds is not freed: event by event that would only take time.
 pub fn debug_keeping<R: Read, W: Write>(
     alloc: Global,
     reader: &mut Counted<BufReader<R>>,
@@ -66,7 +70,9 @@ pub fn debug_keeping<R: Read, W: Write>(
     ensures write_failures { failures writer.new ≡ after_writing result (failures writer.old) }
 {
     let mut script_state = begin(alloc, source, stimulus)?;
-    answer_lines(alloc, &mut script_state, reader, writer, line)
+    let ended = answer_lines(alloc, &mut script_state, reader, writer, line);
+    mem::forget(script_state);
+    ended
 }
 
 /// Session 0 before its first line, on the system of source and stimulus.
