@@ -1,10 +1,5 @@
-<<<<<<< HEAD
-//! Answers that are held back while further lines are at hand, so that many of them take one write.
-ghost use Rattle.std.specs.Prelude.{◌≡◌, ◌≢◌, ◌≤◌, ◌⊎◌, ◌++◌, [], List, ℕ, length, MatchBool, MatchResult, IfOk, IfErr};
-=======
 //! Answers that are held back while further lines are at hand, so that many of them take one write.
 ghost use Rattle.std.specs.Prelude.{◌≡◌, ◌≢◌, ◌≤◌, ◌⊎◌, ◌++◌, [], List, ℕ, length, MatchBool, MatchResult, IfErr};
->>>>>>> 9b7dbb3e (debug over any reader and writer that count (draft))
 ghost use Rattle.std.specs.Io.KnownBytes.{Appends};
 ghost use Rattle.debug_session.specs.Counting.{after_writing, WritingStops};
 ghost use Rattle.debug_session.specs.Holding.{most_held};
@@ -13,13 +8,8 @@ use crate::Fault;
 use crate::output::write_out;
 use devices::CountedWrite;
 
-<<<<<<< HEAD
-/// How many bytes of an answer are held back at most, and behind how many.
-const ROOM: usize = 8_192;
-=======
 /// How many bytes of answers are held back at most.
 const MOST_HELD: usize = 8_192;
->>>>>>> 9b7dbb3e (debug over any reader and writer that count (draft))
 
 /// Writes out what is pending, and flushes.
 pub(crate) fn put_out<W: CountedWrite>(writer: &mut W, pending: &mut Vec<u8>) -> Result<(), Fault>

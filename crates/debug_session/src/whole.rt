@@ -26,21 +26,12 @@ pub fn accept(alloc: Global, source: &[u8], stimulus: &[u8]) -> Result<Checked, 
 
 /// Answers the lines of `reader` on `writer`, over the system of source and stimulus.
 ///
-<<<<<<< HEAD
-/// Source and stimulus are accepted before anything is read. Before the reader asks its device for more, the answers to
-/// all lines before are out and flushed; while its buffer has another line, answers may be held back, up to 16 KB.
-/// The buffer has to have room for a byte at least, or the script looks empty. At a fault the answers of the lines
-/// before are out, and where writing failed a beginning of the answers. `ReadFailed` and `WriteFailed` come exactly
-/// where reader and writer count a failure.
-pub fn debug<R: Read, W: Write>(
-=======
 /// Source and stimulus are accepted before anything is read. Before the reader asks for more, the answers to all lines
 /// before are out and flushed; while its buffer has another line whole, answers may be held back, 8 KB at most.
 /// Where a write fails no further line is taken. (A buffer has to have room for a byte at least, or the script looks
 /// empty.) At a fault the answers of the lines before are out, and where writing failed a beginning of the answers.
 /// `ReadFailed` and `WriteFailed` come exactly where reader and writer count a failure.
 pub fn debug<R: CountedLines, W: CountedWrite>(
->>>>>>> 9b7dbb3e (debug over any reader and writer that count (draft))
     alloc: Global,
     reader: &mut R,
     writer: &mut W,
