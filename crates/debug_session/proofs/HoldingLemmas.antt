@@ -316,7 +316,7 @@ IsDone (Ok done) = Unit {0}
 IsDone (Err fault) = ⊥
 
 -- the fault of a result
-fault-in : Result (Unit {0}) Fault → Fault
+abbrev fault-in : Result (Unit {0}) Fault → Fault
 fault-in (Ok done) = Fault.Memory
 fault-in (Err fault) = fault
 
