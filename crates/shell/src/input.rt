@@ -3,7 +3,8 @@ ghost use Rattle.std.specs.Prelude.{◌≡◌, ◌≢◌, ◌⊎◌, ◌++◌, �
 ghost use Rattle.std.specs.IoError.{error_kind};
 ghost use Rattle.std.specs.Io.BufRead.{ends_with_byte};
 ghost use Rattle.syntax.specs.Texts.{line_end};
-ghost use Rattle.devices.specs.Counting.{device};
+ghost use Rattle.devices.specs.Counting.{device, failures};
+ghost use Rattle.debug_session.specs.Counting.{after_reading};
 ghost use Rattle.debug_session.specs.internal.OneLine.{TakesLine, ReadingStops};
 ghost use Rattle.debug_session.specs.declared.fault.Fault.TheVariants.{Memory, ReadFailed};
 
@@ -17,11 +18,12 @@ pub(crate) fn next_line<R: BufRead>(
     reader: &mut Counted<R>,
     line: &mut Vec<u8>,
 ) -> Result<bool, Fault>
-    ensures { MatchResult result
+    ensures line { MatchResult result
         (λ complete.
         TakesLine (R.remaining (device reader.old)) (R.remaining (device reader.new)) line.new.items complete)
         (λ fault.
         ReadingStops (R.remaining (device reader.old)) (R.remaining (device reader.new)) line.new.items fault) }
+    ensures failures { failures reader.new ≡ after_reading result (failures reader.old) }
 {
     line.clear();
     let read = reader.read_through(line);

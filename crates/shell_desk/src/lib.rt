@@ -8,7 +8,9 @@ mod bench;
 mod deed;
 mod laws;
 mod loaded;
+mod neighbours;
 mod run;
+mod sleepers;
 mod tidy;
 mod word;
 
