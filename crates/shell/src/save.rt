@@ -24,7 +24,8 @@ impl Session {
         ensures { SavesTrace (H.files host.now) self.now.bench rest.now over result.outcome }
     {
         let Some(name) = name_in(rest) else {
-            return self.answer_question(setting, Word::Save, b"");
+            let word = if over { Word::SaveOver } else { Word::Save };
+            return self.answer_question(setting, word, rest);
         };
         match write_trace(setting.alloc, self.bench.desk().machine()) {
             Ok(trace) => write_file(
@@ -58,7 +59,8 @@ impl Session {
             result.outcome }
     {
         let Some(name) = name_in(rest) else {
-            return self.answer_question(setting, Word::Script, b"");
+            let word = if over { Word::ScriptOver } else { Word::Script };
+            return self.answer_question(setting, word, rest);
         };
         match self.notes.script() {
             Some(bytes) => write_file(

@@ -9,6 +9,7 @@ mod deed;
 mod laws;
 mod loaded;
 mod neighbours;
+mod offers;
 mod run;
 mod sleepers;
 mod tidy;

@@ -5,8 +5,10 @@ ghost use Rattle.shell_desk.specs.Does.{IsAsleep, NoneSleeps, SleepsBehind, Take
 ghost use Rattle.shell_desk.specs.internal.Sleeping.{AllSleep, SleepBut, SleepOnly, WakesAt};
 
 use crate::neighbours::Neighbours;
+use crate::offers::{Offer, offer_behind};
 use address::Address;
 use locked_execution::{Event, Reply};
+use runs::Kind;
 use std::alloc::{AllocError, Global};
 use system::System;
 use system_places::branch_at;
@@ -83,7 +85,7 @@ impl Sleepers {
         ensures { (i : ℕ) → IsAsleep self.new.asleep.items i
             → IsAsleep self.old.asleep.items i × (TakesPart system.now event.now i → ⊥) }
     {
-        self.wake_at(system, neighbours, &event.first);
+        self.wake_at(system, neighbours, event.kind, &event.first);
         self.wake_second(system, neighbours, event);
     }
 
@@ -92,32 +94,49 @@ impl Sleepers {
         ensures { WakesAt (branch_of_side system.now event.now.second) self.old.asleep.items self.new.asleep.items }
     {
         match &event.second {
-            Some(place) => self.wake_at(system, neighbours, place),
+            Some(place) => self.wake_at(system, neighbours, event.kind, place),
             None => {}
         }
     }
 
-    /// Wakes the branch of the place, if it lies in one, and who may have a step by one of this branch.
-    fn wake_at(&mut self, system: &System, neighbours: Option<&Neighbours>, place: &Address)
+    /// Wakes the branch of the place, if it lies in one, and who may have a step behind one of this kind there.
+    fn wake_at(
+        &mut self,
+        system: &System,
+        neighbours: Option<&Neighbours>,
+        kind: Kind,
+        place: &Address,
+    )
         ensures { WakesAt (branch_of system.now place.now) self.old.asleep.items self.new.asleep.items }
     {
         match branch_at(system, place) {
             Some(branch) => {
                 self.wake(branch);
-                self.wake_behind(neighbours, branch);
+                self.wake_behind(neighbours, branch, offer_behind(system, kind, place));
             }
             None => {}
         }
     }
 
-    /// Wakes who acts on a channel at whose other side the branch stands.
-    fn wake_behind(&mut self, neighbours: Option<&Neighbours>, branch: u32)
+    /// Wakes who acts on the channel that the branch offers, or on one that it may offer.
+    fn wake_behind(&mut self, neighbours: Option<&Neighbours>, branch: u32, offer: Offer)
         ensures { SleepOnly self.old.asleep.items self.new.asleep.items }
     {
         if let Some(known) = neighbours {
-            for channel in known.offered_by(branch) {
-                self.wake_each(known.acting_on(*channel));
+            match offer {
+                Offer::Nothing | Offer::Ended => {}
+                Offer::Channel(channel) => self.wake_each(known.acting_on(channel)),
+                Offer::Any => self.wake_around(known, branch),
             }
+        }
+    }
+
+    /// Wakes who acts on a channel at whose other side the branch stands.
+    fn wake_around(&mut self, known: &Neighbours, branch: u32)
+        ensures { SleepOnly self.old.asleep.items self.new.asleep.items }
+    {
+        for channel in known.offered_by(branch) {
+            self.wake_each(known.acting_on(*channel));
         }
     }
 
