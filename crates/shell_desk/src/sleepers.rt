@@ -5,7 +5,7 @@ ghost use Rattle.shell_desk.specs.Does.{IsAsleep, NoneSleeps, SleepsBehind, Take
 ghost use Rattle.shell_desk.specs.internal.Sleeping.{AllSleep, SleepBut, SleepOnly, WakesAt};
 
 use crate::neighbours::Neighbours;
-use crate::offers::{Offer, offer_behind};
+use crate::offers::offers_behind;
 use address::Address;
 use locked_execution::{Event, Reply};
 use runs::Kind;
@@ -111,31 +111,37 @@ impl Sleepers {
     {
         match branch_at(system, place) {
             Some(branch) => {
+                let offers = offers_behind(*self.asleep.allocator(), system, kind, place);
                 self.wake(branch);
-                self.wake_behind(neighbours, branch, offer_behind(system, kind, place));
+                self.wake_behind(neighbours, branch, offers);
             }
             None => {}
         }
     }
 
-    /// Wakes who acts on the channel that the branch offers, or on one that it may offer.
-    fn wake_behind(&mut self, neighbours: Option<&Neighbours>, branch: u32, offer: Offer)
+    /// Wakes who acts on these channels; where it is not known which the branch offers, on any at whose other side it
+    /// stands.
+    fn wake_behind(
+        &mut self,
+        neighbours: Option<&Neighbours>,
+        branch: u32,
+        offers: Option<Vec<u32>>,
+    )
         ensures { SleepOnly self.old.asleep.items self.new.asleep.items }
     {
         if let Some(known) = neighbours {
-            match offer {
-                Offer::Nothing | Offer::Ended => {}
-                Offer::Channel(channel) => self.wake_each(known.acting_on(channel)),
-                Offer::Any => self.wake_around(known, branch),
+            match offers {
+                Some(channels) => self.wake_on(known, channels.as_slice()),
+                None => self.wake_on(known, known.offered_by(branch)),
             }
         }
     }
 
-    /// Wakes who acts on a channel at whose other side the branch stands.
-    fn wake_around(&mut self, known: &Neighbours, branch: u32)
+    /// Wakes who acts on these channels.
+    fn wake_on(&mut self, known: &Neighbours, channels: &[u32])
         ensures { SleepOnly self.old.asleep.items self.new.asleep.items }
     {
-        for channel in known.offered_by(branch) {
+        for channel in channels {
             self.wake_each(known.acting_on(*channel));
         }
     }
