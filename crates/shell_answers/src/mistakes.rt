@@ -17,7 +17,7 @@ pub fn mistake_text(scene: &Scene<'_>, line: &[u8]) -> Text {
     } else if names_variable(word) && is_one_field(rest) {
         add_unknown_name(&mut text, scene, rest.get(1..).unwrap_or(b""));
     } else {
-        add_usage(&mut text, word);
+        add_usage(&mut text, word, rest);
     }
     text
 }
