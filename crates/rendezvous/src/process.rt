@@ -251,7 +251,7 @@ fn put_all(
     left: Shared<ResidualTree>,
     received: &[(u32, Value)],
 ) -> Result<Shared<ResidualTree>, AllocError>
-    ensures { IfOk result (λ made. residual_of_tree made ≡ puts received.now (residual_of_tree remaining)) }
+    ensures { IfOk result (λ made. residual_of_tree made ≡ puts received.now (residual_of_tree left)) }
 {
     let mut left = left;
     let mut count = received.len();
