@@ -3,7 +3,7 @@
 ghost use Rattle.std.specs.Prelude.{⊤};
 
 use crate::files::Files;
-use crate::running::run;
+use crate::program::run;
 use debug_session::{Counted, Fault};
 use diagnosis::Unread;
 use std::alloc::Global;
