@@ -3,7 +3,7 @@ use syntax::{Boxed, Shared};
 use system::{Decision, Expression};
 use value::{Value, Width};
 
-/// What one side does in an event. It has expressions and not their values.
+/// What one action does in an event. It has expressions and not their values.
 #[derive(Drop)]
 pub(crate) enum Move {
     /// to the variable, of this width

@@ -57,7 +57,7 @@ pub(crate) fn step(alloc: Global, state: &Plain, event: &Event) -> Result<Option
     }
 }
 
-/// The state after an event with one side.
+/// The state after an event of one action.
 fn alone(alloc: Global, state: &Plain, event: &Event, ask: Ask) -> Result<Option<Plain>, AllocError>
     ensures { IfOk result (λ r. option_map state_of r ≡ sides.alone (state_of state.now) event.now ask) }
 {
@@ -71,7 +71,7 @@ fn alone(alloc: Global, state: &Plain, event: &Event, ask: Ask) -> Result<Option
     }
 }
 
-/// The state after an event with two sides.
+/// The state after an event of two actions.
 fn together(
     alloc: Global,
     state: &Plain,
@@ -88,7 +88,7 @@ fn together(
     }
 }
 
-/// The state after an event with two sides, the second at this place.
+/// The state after an event of two actions, the second at this place.
 fn together_at(
     alloc: Global,
     state: &Plain,
@@ -117,7 +117,7 @@ fn together_at(
     }
 }
 
-/// The state after an event whose first side did this move, which left this.
+/// The state after an event whose first action made this move, which left this.
 fn second_side(
     alloc: Global,
     state: &Plain,

@@ -1,5 +1,5 @@
 -- The header, a byte at a time.
-use Rattle.std.proofs.Common.{◌≡◌, ℕ, ◌+◌, ◌<◌, List, [], ◌∷◌, length, drop, get_or, cond, true, false, Bool, Some, ap, sym, ◌∙◌, arith, ◌==◌}
+use Rattle.std.proofs.Common.{◌≡◌, ℕ, zero, suc, ◌+◌, ◌<◌, ◌≤◌, refl, List, [], ◌∷◌, length, drop, get_or, cond, true, false, Bool, Some, ap, sym, ◌∙◌, arith, ◌==◌}
 use Rattle.std.proofs.lemmas.List.{drop_more, drop-drop, length-drop}
 use Rattle.dap_frames.specs.Header as model
 
@@ -24,3 +24,17 @@ pub key-here : (text : List ℕ) (i : ℕ) → i < length text → model.has_key
     model.value_text true (drop i text) ≡ Some (drop (i + 15) text)
 key-here text i less all =
     found (drop i text) (omega (arith, length-drop i text)) all ∙ ap (λ (xs : List ℕ). Some xs) (drop-drop 15 i text)
+
+-- no key begins in nothing
+key-none : (key : List ℕ) (i : ℕ) → i < length key → model.begins_with (drop i key) [] ≡ false
+key-none [] i less = absurd (omega arith)
+key-none (k ∷ key) zero less = refl
+key-none (k ∷ key) (suc i) less = key-none key i (omega arith)
+
+-- no key begins where the text ends
+pub key-cut : (key text : List ℕ) (i : ℕ) → i < length key → length text ≤ i → model.begins_with (drop i key) (drop i text) ≡ false
+key-cut [] text i less end = absurd (omega arith)
+key-cut (k ∷ key) [] zero less end = refl
+key-cut (k ∷ key) (x ∷ text) zero less end = absurd (omega arith)
+key-cut (k ∷ key) [] (suc i) less end = key-none key i (omega arith)
+key-cut (k ∷ key) (x ∷ text) (suc i) less end = key-cut key text i (omega arith) (omega arith)

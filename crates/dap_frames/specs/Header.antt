@@ -1,5 +1,6 @@
 -- What a header says.
 use Rattle.std.specs.Prelude.{ℕ, Bool, true, false, not, cond, ◌&&◌, ◌==◌, ◌+◌, List, [], ◌∷◌, Option, Some, None, MatchOption, drop, nat_eq, codes}
+use Rattle.std.specs.Char.{eq_ignore_ascii_case}
 use Rattle.std.specs.List.{starts_with}
 use Rattle.decimal.specs.Reading.{Reads, IsNoNumber}
 use Rattle.dap_frames.specs.Frames.{header_end}
@@ -22,9 +23,15 @@ abbrev pub ends_bare : Bool → List ℕ → Bool
 ends_bare returned [] = false
 ends_bare returned (x ∷ xs) = cond (x == 10 && not returned) true (ends_bare (x == 13) xs)
 
--- the key stands at the beginning
+-- a key stands at the beginning, in small letters or large ones
+abbrev pub begins_with : List ℕ → List ℕ → Bool
+begins_with [] text = true
+begins_with (k ∷ key) [] = false
+begins_with (k ∷ key) (x ∷ text) = eq_ignore_ascii_case k x && begins_with key text
+
+-- the key of a header that tells how many bytes come
 abbrev pub has_key : List ℕ → Bool
-has_key text = starts_with nat_eq text (codes "Content-Length:")
+has_key text = begins_with (codes "Content-Length:") text
 
 -- what stands behind the key of the first line that begins with it; `begins` where a line begins here
 abbrev pub value_text : Bool → List ℕ → Option (List ℕ)

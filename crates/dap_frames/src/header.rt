@@ -40,8 +40,9 @@ pub(crate) fn ends_bare(bytes: &[u8]) -> bool
     false
 }
 
-/// How many bytes the body has, as the header tells: the decimal number behind `Content-Length:` and spaces, up to the
-/// end of its line. `None` where no line begins so, or no number below 2^64 stands there.
+/// How many bytes the body has, as the header tells: the decimal number behind `Content-Length:`, in small letters or
+/// large ones, and spaces, up to the end of its line. `None` where no line begins so, or no number below 2^64 stands
+/// there.
 pub(crate) fn body_length(header: &[u8]) -> Option<u64>
     ensures { MatchOption result (model.TellsNone header.now) (λ n. model.Tells header.now n) }
 {
@@ -67,7 +68,23 @@ fn has_key(text: &[u8]) -> bool
     ensures value { result ≡ model.has_key text.now }
     ensures length { result ≡ true → 15 ≤ length text.now }
 {
-    text.starts_with(b"Content-Length:")
+    begins_with(b"Content-Length:", text)
+}
+
+/// Whether this key stands at the beginning, in small letters or large ones.
+fn begins_with(key: &[u8], text: &[u8]) -> bool
+    ensures value { result ≡ model.begins_with key.now text.now }
+    ensures length { result ≡ true → length key.now ≤ length text.now }
+{
+    for i in 0..key.len() {
+        if i >= text.len() {
+            return false;
+        }
+        if !key[i].eq_ignore_ascii_case(&text[i]) {
+            return false;
+        }
+    }
+    true
 }
 
 /// The text between the spaces at the beginning and the end of the line.

@@ -93,11 +93,11 @@ short_response request gist seq =
 abbrev pub thread_named : Request → ℕ
 thread_named request = unwrap_or (number_named (codes "threadId") (view request.arguments)) 1
 
--- that nothing moves, since memory is lacking
+-- that nothing moves: what a request did is not told, since memory is lacking
 abbrev pub stopped_text : ℕ → List ℕ
 stopped_text thread =
-    codes "\",\"body\":{\"reason\":\"exception\",\"threadId\":" ++ decimal thread
-    ++ codes ",\"allThreadsStopped\":true,\"text\":\"refused 1: there is no memory left\"}}"
+    codes "\",\"body\":{\"reason\":\"pause\",\"threadId\":" ++ decimal thread
+    ++ codes ",\"allThreadsStopped\":true,\"text\":\"stopped; there is no memory left to tell more\"}}"
 
 -- what stands behind the name of an event
 abbrev pub event_rest : Request → Told → List ℕ

@@ -208,14 +208,14 @@ fn thread_named(request: &Request) -> u64
     request.number("threadId").unwrap_or(1)
 }
 
-/// Adds that nothing moves, since memory is lacking.
+/// Adds that nothing moves: what the request did is not told, since memory is lacking.
 fn add_stopped(body: &mut Vec<u8>, thread: u64) -> Result<(), AllocError>
     ensures { OnOk result (body.new.items ≡ body.old.items ++ model.stopped_text thread) }
 {
-    body.extend_from_slice(b"\",\"body\":{\"reason\":\"exception\",\"threadId\":")?;
+    body.extend_from_slice(b"\",\"body\":{\"reason\":\"pause\",\"threadId\":")?;
     add_number(body, thread)?;
     body.extend_from_slice(
-        b",\"allThreadsStopped\":true,\"text\":\"refused 1: there is no memory left\"}}",
+        b",\"allThreadsStopped\":true,\"text\":\"stopped; there is no memory left to tell more\"}}",
     )
 }
 

@@ -1,6 +1,7 @@
 // What was found about a fault, and its text.
-ghost use Rattle.std.specs.Prelude.{◌≡◌, ◌++◌, ℕ, List, IfOk, string_bytes};
+ghost use Rattle.std.specs.Prelude.{◌≡◌, ◌∷◌, ◌++◌, ℕ, List, [], IfOk, OnOk, string_bytes};
 ghost use Rattle.findings.specs.Heads.{IsHead, TellsPlace, head};
+ghost use Rattle.findings.specs.MarkedPlaces.{marked_at};
 
 use crate::wrap::add_help;
 use marked_lines::{Mark, add_marked};
@@ -95,7 +96,9 @@ impl Finding {
     }
 
     /// Adds another place.
-    pub fn add_beside(&mut self, span: Span, note: &str) -> Result<(), AllocError> {
+    pub fn add_beside(&mut self, span: Span, note: &str) -> Result<(), AllocError>
+        ensures { OnOk result (marked_at self.new.beside.items ≡ marked_at self.old.beside.items ++ span.start ∷ []) }
+    {
         let note = String::from_str(self.alloc, note)?;
         self.beside.push(Beside {
             start: span.start,

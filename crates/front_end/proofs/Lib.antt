@@ -1,2 +1,3 @@
 mod AcceptLemmas
 mod MakingLemmas
+mod SystemLaws

@@ -1,3 +1,4 @@
 pub mod Accepting
 pub mod FaultNumbers
+pub mod Laws
 pub mod Wrapping

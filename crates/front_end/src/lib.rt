@@ -4,7 +4,9 @@
 
 mod acceptance;
 mod fault;
+mod laws;
 mod make;
 
 pub use acceptance::accept;
 pub use fault::Fault;
+pub use laws::{names_are_distinct, system_is_small};

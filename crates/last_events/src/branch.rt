@@ -1,6 +1,6 @@
 // What stands in a branch, in the order of places, with what stands in the branches of its parallels. No place is
 // stored whole: events of one branch share the way to it.
-ghost use Rattle.std.specs.Prelude.{◌≡◌, ◌<◌, ◌++◌, ◌∷◌, [], true, false, length, map, IfOk, OnOk, OnErr};
+ghost use Rattle.std.specs.Prelude.{◌≡◌, ◌<◌, ◌-◌, ◌++◌, ◌∷◌, [], true, false, length, map, Some, slice_get, IfOk, OnOk, OnErr};
 ghost use Rattle.last_events.specs.LastEvents.{ticket_at, first_child, Orderly, PutAt, RemovedAt};
 ghost use Rattle.last_events.specs.internal.Search.{Splits};
 ghost use Rattle.last_events.specs.internal.Seats.{AllOrdered, seat_way, seat_places, ordered_of, IsWay, flat, HasSeat, IsSound, IsBranch, IsMadeOf, FitsBehind, TakenAt};
@@ -8,7 +8,7 @@ ghost use Rattle.last_events.specs.internal.Walks.{Related, AddedLast, AddedFrom
 
 use crate::children::is_first_child;
 use crate::search::count_less;
-use crate::ways::{ends_at_branch, ordered, way_length};
+use crate::ways::{ends_at_branch, is_same, ordered, way_length};
 use address::{Address, Entry};
 use std::alloc::{AllocError, Global};
 use std::marker::Model;
@@ -253,7 +253,7 @@ fn has_way(seats: &[Seat], index: usize, way: &[Entry]) -> bool
     ensures no { result ≡ false → HasSeat seats.now index way.now → ⊥ }
 {
     match seats.get(index) {
-        Some(seat) => seat.way() == way,
+        Some(seat) => is_same(seat.way(), way),
         None => false,
     }
 }
@@ -305,8 +305,20 @@ fn add_last_among(seats: &[Seat], found: &mut Vec<u64>) -> Result<(), AllocError
     let Some(last) = seats.last() else {
         return Ok(());
     };
-    let (_, group) = seats.split_at(count_less(seats, ordered(last.way())));
+    let (_, group) = seats.split_at(count_beside(seats, last));
     add_each(group, found)
+}
+
+/// How many of these stand before the last one and before the branches beside it. Beside an event there are none.
+fn count_beside(seats: &[Seat], last: &Seat) -> usize
+    requires branch { IsBranch seats.now }
+    requires last { slice_get seats.now (length seats.now - 1) ≡ Some last.now }
+    ensures { Splits (map seat_way seats.now) (ordered_of (seat_way last.now)) result }
+{
+    match last {
+        Seat::Event(_, _) => seats.len() - 1,
+        Seat::Inner(_, _) => count_less(seats, ordered(last.way())),
+    }
 }
 
 /// Adds the last events of each of these.

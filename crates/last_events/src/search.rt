@@ -6,6 +6,7 @@ ghost use Rattle.last_events.specs.internal.Seats.{seat_way};
 
 use crate::branch::Seat;
 use crate::forks::{fork, is_less};
+use crate::ways::is_same;
 use address::Entry;
 
 /// What stands at a place.
@@ -79,7 +80,7 @@ fn is_at<T: Placed>(seats: &[T], index: usize, place: &[Entry]) -> bool
         return false;
     }
     let seat = seats[index].place();
-    seat == place
+    is_same(seat, place)
 }
 
 /// Whether the first so many of these places, which rise, are less than this one. Else there is a last of them, and it

@@ -1,5 +1,5 @@
 // The way that a place takes in its branch.
-ghost use Rattle.std.specs.Prelude.{◌≡◌, ◌≤◌, length, take, drop, true, false};
+ghost use Rattle.std.specs.Prelude.{◌≡◌, ◌≤◌, ◌↔◌, length, take, drop, true, false, IsTrue};
 ghost use Rattle.last_events.specs.internal.Seats.{way_of, rest_of, ordered_of, AllOrdered, EndsAtBranch, IsWay};
 
 use crate::forks::is_ordered;
@@ -49,4 +49,22 @@ pub(crate) fn ends_at_branch(way: &[Entry]) -> bool
         Entry::Branch(_) => true,
         Entry::Ordered(_) => false,
     }
+}
+
+/// Whether both are the same entries. Those of one entry, as the number of a branch is, are compared here: to compare
+/// slices takes several times as long.
+pub(crate) fn is_same(one: &[Entry], other: &[Entry]) -> bool
+    ensures { IsTrue result ↔ (one.now ≡ other.now) }
+{
+    match (one, other) {
+        ([first], [second]) => is_entry(*first, *second),
+        _ => one == other,
+    }
+}
+
+/// Whether both are the same entry.
+fn is_entry(one: Entry, other: Entry) -> bool
+    ensures { IsTrue result ↔ (one ≡ other) }
+{
+    one == other
 }

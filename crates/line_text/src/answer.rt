@@ -41,9 +41,10 @@ pub fn add_entry(
 fn end_with_event(out: &mut Vec<u8>, system: &System, event: &Event) -> Result<(), AllocError>
     ensures { OnOk result (out.new.items ≡ out.old.items ++ (field (event_text system.now event.now) ++ ending)) }
 {
-    add_bytes(out, b" ")?;
+    out.push(b' ')?;
     add_event(out, system, event)?;
-    add_bytes(out, b"\n")
+    out.push(b'\n')?;
+    Ok(())
 }
 
 /// Adds how many events are ready, and a line for each.

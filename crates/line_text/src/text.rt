@@ -1,5 +1,5 @@
 //! Pieces of answers. Each function adds its text behind what is there; without memory a part of it may be there.
-ghost use Rattle.std.specs.Prelude.{◌≡◌, ◌∷◌, ◌++◌, OnOk};
+ghost use Rattle.std.specs.Prelude.{◌≡◌, ◌<◌, ◌∷◌, ◌++◌, OnOk};
 ghost use Rattle.std.specs.List.{flat_map};
 ghost use Rattle.std.specs.Fmt.{decimal};
 ghost use Rattle.address.specs.Text.{entry_text, text_of};
@@ -18,8 +18,28 @@ pub fn add_bytes(out: &mut Vec<u8>, bytes: &[u8]) -> Result<(), AllocError>
     out.extend_from_slice(bytes)
 }
 
-/// Adds a number in decimal.
+/// Adds a number in decimal. Most numbers of places have one digit, and need no buffer.
 fn add_decimal(out: &mut Vec<u8>, number: u64) -> Result<(), AllocError>
+    ensures { OnOk result (out.new.items ≡ out.old.items ++ decimal number) }
+{
+    if number < 10 {
+        return add_digit(out, number);
+    }
+    add_digits(out, number)
+}
+
+/// Adds the digit of a number of one.
+#[tactic(auto, using(std::proofs::lemmas::Fmt::decimal_digit))]
+fn add_digit(out: &mut Vec<u8>, number: u64) -> Result<(), AllocError>
+    requires { number < 10 }
+    ensures { OnOk result (out.new.items ≡ out.old.items ++ decimal number) }
+{
+    out.push(b'0' + number as u8)?;
+    Ok(())
+}
+
+/// Adds the digits of a number.
+fn add_digits(out: &mut Vec<u8>, number: u64) -> Result<(), AllocError>
     ensures { OnOk result (out.new.items ≡ out.old.items ++ decimal number) }
 {
     let mut buffer = Buffer::new();
@@ -72,7 +92,7 @@ fn add_shown(out: &mut Vec<u8>, field: Field<'_>) -> Result<(), AllocError>
 pub(crate) fn add_field(out: &mut Vec<u8>, field: Field<'_>) -> Result<(), AllocError>
     ensures { OnOk result (out.new.items ≡ out.old.items ++ spaced field.entry) }
 {
-    add_bytes(out, b" ")?;
+    out.push(b' ')?;
     add_shown(out, field)
 }
 

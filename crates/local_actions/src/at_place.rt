@@ -60,7 +60,7 @@ pub fn actions_below(
         IfOk result (λ actions. (x : any.LocalAction) →
         In x actions ↔ (Offered (state_of tree.now store.now) x × Under place.now x.place)) }
 {
-    let mut cursor = Cursor::new(alloc);
+    let mut cursor = Cursor::with_room(alloc, place.len())?;
     list_down(alloc, tree.root(), place, store.as_slice(), &mut cursor)?;
     Ok(those_below(cursor.into_found(), place))
 }

@@ -1,5 +1,5 @@
 // Where a walk through a tree is, and what it has found.
-ghost use Rattle.std.specs.Prelude.{◌≡◌, [], ◌∷◌, ◌^◌, ◌≤◌, length, IfOk, OnOk, OnErr};
+ghost use Rattle.std.specs.Prelude.{◌≡◌, [], ◌∷◌, ◌^◌, ◌≤◌, false, length, IfOk, OnOk, OnErr};
 ghost use Rattle.system.specs.Translation.{expression_of, decision_of};
 ghost use Rattle.process_tree.specs.Remaining.{with_value};
 ghost use Rattle.process_tree.specs.internal.Received.{puts_value, puts_decision};
@@ -49,6 +49,17 @@ impl Cursor {
             arrived: Items::new(alloc),
             found: Items::new(alloc),
         }
+    }
+
+    /// The same, with room for a place of so many entries. It is an error if there is no memory.
+    pub fn with_room(alloc: Global, depth: usize) -> Result<Cursor, AllocError>
+        ensures { IfOk result (λ made. made ≡ record { place = []; received = []; actions = [] }) }
+    {
+        Ok(Cursor {
+            entries: Items::with_capacity(alloc, depth)?,
+            arrived: Items::new(alloc),
+            found: Items::new(alloc),
+        })
     }
 
     /// What was found.
@@ -105,6 +116,13 @@ impl Cursor {
         ensures { self.new ≡ within_arm (outside self.old.received) self.old }
     {
         self.arrived.pop();
+    }
+
+    /// Whether something was received in an arm around the place.
+    pub fn has_received(&self) -> bool
+        ensures { result ≡ false → self.now.received ≡ [] }
+    {
+        !self.arrived.is_empty()
     }
 
     /// The expression with what was received in place of its names. It is an error if there is no memory.

@@ -3,6 +3,7 @@ ghost use Rattle.std.specs.Prelude.{◌≡◌, ◌≤◌, ℕ, ◌*◌, ◌^◌,
 ghost use Rattle.system.specs.Expression as model;
 ghost use Rattle.system.specs.Translation.{expression_of, decision_of};
 ghost use Rattle.runs.specs.Events.{sent};
+ghost use Rattle.process_tree.specs.Code.{assigning, sending};
 ghost use Rattle.process_tree.specs.Remaining.{residual_once, residual_sender, channel_of};
 ghost use Rattle.process_tree.specs.View.{once_view, sender_view};
 ghost use Rattle.process_tree.specs.internal.Received.{puts_value, puts_once, puts_sender, puts_guard, puts_decision};
@@ -32,15 +33,53 @@ pub fn list_once(
 {
     match once {
         Once::Assign(variable, width, value) => {
-            let value = cursor.with_received(alloc, value)?;
-            let read = value.variables(alloc)?;
-            let written = sent(values, *width, &value);
-            cursor.add(alloc, ActionKind::Assigns(*variable, written, read))
+            list_assign(alloc, *variable, *width, value, values, cursor)
         }
         Once::Receive(channel, variable) => {
             cursor.add(alloc, ActionKind::Receives(*channel, Some(*variable)))
         }
     }
+}
+
+/// Lists an assignment of this value. It is copied only where something was received.
+fn list_assign(
+    alloc: Global,
+    variable: u32,
+    width: Width,
+    value: &Expression,
+    values: &[Value],
+    cursor: &mut Cursor,
+) -> Result<(), AllocError>
+    ensures { OnOk result (cursor.new
+        ≡ added
+        (actions_of_residual values.now
+        (residual_once (assigning variable width (puts_value cursor.old.received (expression_of value.now)))))
+        cursor.old) }
+{
+    if cursor.has_received() {
+        let value = cursor.with_received(alloc, value)?;
+        return add_assign(alloc, variable, width, &value, values, cursor);
+    }
+    add_assign(alloc, variable, width, value, values, cursor)
+}
+
+/// Adds an assignment of this value, in which names of what was received no longer stand.
+fn add_assign(
+    alloc: Global,
+    variable: u32,
+    width: Width,
+    value: &Expression,
+    values: &[Value],
+    cursor: &mut Cursor,
+) -> Result<(), AllocError>
+    ensures { OnOk result (cursor.new
+        ≡ added
+        (actions_of_residual values.now (residual_once (assigning variable width (expression_of value.now))))
+        cursor.old) }
+{
+    let read = value.variables(alloc)?;
+    let written = sent(values, width, value);
+    cursor.add(alloc, ActionKind::Assigns(variable, written, read))
 }
 
 /// Lists a send or sync that waits. It is an error if there is no memory.
@@ -57,13 +96,51 @@ pub fn list_sender(
 {
     match sender {
         Sender::Send(channel, width, value) => {
-            let value = cursor.with_received(alloc, value)?;
-            let read = value.variables(alloc)?;
-            let passed = sent(values, *width, &value);
-            cursor.add_act(alloc, 0, ActionKind::Sends(*channel, passed, read))
+            list_send(alloc, *channel, *width, value, values, cursor)
         }
         Sender::Sync(channel) => cursor.add_act(alloc, 0, ActionKind::Syncs(*channel)),
     }
+}
+
+/// Lists a send of this value. It is copied only where something was received.
+fn list_send(
+    alloc: Global,
+    channel: u32,
+    width: Width,
+    value: &Expression,
+    values: &[Value],
+    cursor: &mut Cursor,
+) -> Result<(), AllocError>
+    ensures { OnOk result (cursor.new
+        ≡ added
+        (actions_of_residual values.now
+        (residual_sender (sending channel width (puts_value cursor.old.received (expression_of value.now)))))
+        cursor.old) }
+{
+    if cursor.has_received() {
+        let value = cursor.with_received(alloc, value)?;
+        return add_send(alloc, channel, width, &value, values, cursor);
+    }
+    add_send(alloc, channel, width, value, values, cursor)
+}
+
+/// Adds a send of this value, in which names of what was received no longer stand.
+fn add_send(
+    alloc: Global,
+    channel: u32,
+    width: Width,
+    value: &Expression,
+    values: &[Value],
+    cursor: &mut Cursor,
+) -> Result<(), AllocError>
+    ensures { OnOk result (cursor.new
+        ≡ added
+        (actions_of_residual values.now (residual_sender (sending channel width (expression_of value.now))))
+        cursor.old) }
+{
+    let read = value.variables(alloc)?;
+    let passed = sent(values, width, value);
+    cursor.add_act(alloc, 0, ActionKind::Sends(channel, passed, read))
 }
 
 /// Lists a send or sync that is held. It is an error if there is no memory.
@@ -115,7 +192,8 @@ fn list_guard(
     list_test(alloc, &decision, act, values, cursor)
 }
 
-/// Lists a test at this act, with the arm that it takes. It is an error if there is no memory.
+/// Lists a test at this act, with the arm that it takes. It is copied only where something was received. It is an error
+/// if there is no memory.
 pub fn list_test(
     alloc: Global,
     decision: &Decision,
@@ -126,8 +204,24 @@ pub fn list_test(
     ensures { OnOk result (cursor.new
         ≡ added (tested_at values.now act (puts_decision cursor.old.received (decision_of decision.now))) cursor.old) }
 {
-    let decision = cursor.decision_with_received(alloc, decision)?;
-    let arm = arm_of(&decision, values)?;
+    if cursor.has_received() {
+        let decision = cursor.decision_with_received(alloc, decision)?;
+        return add_test(alloc, &decision, act, values, cursor);
+    }
+    add_test(alloc, decision, act, values, cursor)
+}
+
+/// Adds a test, in which names of what was received no longer stand.
+fn add_test(
+    alloc: Global,
+    decision: &Decision,
+    act: u64,
+    values: &[Value],
+    cursor: &mut Cursor,
+) -> Result<(), AllocError>
+    ensures { OnOk result (cursor.new ≡ added (tested_at values.now act (decision_of decision.now)) cursor.old) }
+{
+    let arm = arm_of(decision, values)?;
     let read = decision.variables(alloc)?;
     cursor.add_act(alloc, act, ActionKind::Tests(arm, read))
 }

@@ -9,3 +9,4 @@ mod widths;
 
 pub use kinds::kind_text;
 pub use names::find;
+pub use widths::greatest;

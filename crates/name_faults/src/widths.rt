@@ -122,11 +122,26 @@ fn find_value(
         "`{text}` is {wide} bits wide, and `{name}` has {room}"
     )?;
     add_declared(context, target, finding)?;
+    if text.bytes().all(|byte| byte.is_ascii_digit()) {
+        let most = greatest(room);
+        return write!(
+            finding.help,
+            "the greatest value of {room} bits is {most}: make `{name}` wider, or the number smaller"
+        );
+    }
     let inner = without_parentheses(text);
     write!(
         finding.help,
         "cut it by `({inner} as {room} bits)`, or make `{name}` wider"
     )
+}
+
+/// The greatest value of a width.
+pub fn greatest(width: u64) -> u64 {
+    if width >= MOST {
+        return u64::MAX;
+    }
+    1_u64.checked_shl(width as u32).unwrap_or(0).wrapping_sub(1)
 }
 
 /// What stands in the parentheses around a text, where these are one pair and there is no cast in them.

@@ -1,2 +1,3 @@
 mod ListedPast
 mod Sweeping
+mod Values

@@ -1,12 +1,17 @@
 // The past of an event as text, a line for each event.
+ghost use Rattle.std.specs.Prelude.{◌≡◌, ◌++◌, OnOk, IfOk, slice_get, slice_set, reverse};
+ghost use Rattle.std.specs.List.{flat_map};
+ghost use Rattle.std.specs.Option.{option_copied};
+ghost use Rattle.past.specs.PastText as model;
+
 use crate::past::{Past, PastEvent};
 use dependence::Live;
 use event_places::line_after;
 use runs::{Event, Kind};
 use sharing_check::Checked;
 use std::alloc::{AllocError, Global};
-use std::io::Write;
-use system::System;
+use system::{QualifiedName, System};
+use text_parts::{Piece, add_pieces, add_words};
 use value::Value;
 
 /// Adds a line for each of the events, which are live: its ticket, its line in the source, what it did, the values of
@@ -18,48 +23,138 @@ pub fn write_past(
     checked: &Checked,
     live: &Live,
     past: &Past,
-) -> Result<(), AllocError> {
-    let system = checked.system();
-    let mut values = zeros(alloc, system)?;
-    let mut next = 0;
-    for entry in live.as_slice() {
-        let event = entry.1.get();
-        if let Some(told) = past.events.as_slice().get(next) {
-            if told.ticket == entry.0 {
-                write_event(out, checked, live, event, told, values.as_slice())?;
-                next += 1;
-            }
-        }
-        note(values.as_mut_slice(), event);
-    }
+) -> Result<(), AllocError>
+    ensures { OnOk result (out.new.items ≡ out.old.items
+        ++ model.past_text checked.now live.now.live past.now) }
+{
+    write_events(alloc, out, checked, live, past.events.as_slice())?;
     write_left_out(out, past.left_out)
 }
 
-/// Adds how many events are left out, and how to see them.
-fn write_left_out(out: &mut Vec<u8>, count: usize) -> Result<(), AllocError> {
-    match count {
-        0 => Ok(()),
-        1 => out.extend_from_slice(b"1 step without a value left out: --all\n"),
-        _ => write!(out, "{count} steps without a value left out: --all\n").map_err(|_| AllocError),
+/// Adds a line for each of the events that are told.
+fn write_events(
+    alloc: Global,
+    out: &mut Vec<u8>,
+    checked: &Checked,
+    live: &Live,
+    told: &[PastEvent],
+) -> Result<(), AllocError>
+    ensures { OnOk result (out.new.items ≡ out.old.items
+        ++ model.past_lines checked.now live.now.live told.now 0 (model.zeros checked.now) live.now.live) }
+{
+    let mut values = zeros(alloc, checked.system())?;
+    let mut next = 0;
+    for entry in live.as_slice() {
+        let event = entry.1.get();
+        let told_next = told_at(told, next);
+        write_if(
+            out,
+            checked,
+            live,
+            entry.0,
+            event,
+            told_next,
+            values.as_slice(),
+        )?;
+        if is_told_at(told_next, entry.0) {
+            next += 1;
+        }
+        note(values.as_mut_slice(), event);
+    }
+    Ok(())
+}
+
+/// The told event of this number, if there is one.
+fn told_at<'a>(told: &'a [PastEvent], number: usize) -> Option<&'a PastEvent>
+    ensures { option_copied result ≡ slice_get told.now number }
+{
+    match told.get(number) {
+        Some(event) => Some(event),
+        None => None,
     }
 }
 
+/// Whether there is one, with this ticket.
+fn is_told_at(told: Option<&PastEvent>, ticket: u64) -> bool
+    ensures { result ≡ model.is_told_at (option_copied told.entry) ticket }
+{
+    match told {
+        Some(told) => told.ticket == ticket,
+        None => false,
+    }
+}
+
+/// Adds the line of the event of this ticket, if it is the one that is told.
+fn write_if(
+    out: &mut Vec<u8>,
+    checked: &Checked,
+    live: &Live,
+    ticket: u64,
+    event: &Event,
+    told: Option<&PastEvent>,
+    values: &[u64],
+) -> Result<(), AllocError>
+    ensures { OnOk result (out.new.items ≡ out.old.items
+        ++ model.line_if checked.now live.now.live (ticket, event.now) (option_copied told.entry) values.now) }
+{
+    match told {
+        Some(told) => {
+            if told.ticket == ticket {
+                write_event(out, checked, live, event, told, values)
+            } else {
+                Ok(())
+            }
+        }
+        None => Ok(()),
+    }
+}
+
+/// Adds how many events are left out, and how to see them.
+fn write_left_out(out: &mut Vec<u8>, count: usize) -> Result<(), AllocError>
+    ensures { OnOk result (out.new.items ≡ out.old.items ++ model.left_out_line count) }
+{
+    if count == 0 {
+        Ok(())
+    } else if count == 1 {
+        add_words(out, b"1 step without a value left out: --all\n")
+    } else {
+        write_more_left_out(out, count)
+    }
+}
+
+/// Adds how many they are, where they are more than one.
+fn write_more_left_out(out: &mut Vec<u8>, count: usize) -> Result<(), AllocError>
+    ensures { OnOk result (out.new.items ≡ out.old.items ++ model.more_left_out count) }
+{
+    let number = Piece::Number(count as u64);
+    let words = Piece::Words(b" steps without a value left out: --all\n");
+    add_pieces(out, &[number, words])
+}
+
 /// Every variable at 0.
-fn zeros(alloc: Global, system: &System) -> Result<Vec<u64>, AllocError> {
+fn zeros(alloc: Global, system: &System) -> Result<Vec<u64>, AllocError>
+    ensures { IfOk result (λ values. values.items ≡ model.zeros system.now) }
+{
     Ok(vec![in alloc; 0; system.variables.len()]?)
 }
 
 /// Keeps what the event wrote.
-fn note(values: &mut [u64], event: &Event) {
+fn note(values: &mut [u64], event: &Event)
+    ensures { values.new ≡ model.noted event.now values.old }
+{
     if let (Some(variable), Some(value)) = (event.written, event.value) {
         keep(values, variable, value.bits());
     }
 }
 
 /// Keeps the value of a variable.
-fn keep(values: &mut [u64], variable: u32, bits: u64) {
-    if let Some(held) = values.get_mut(variable as usize) {
-        *held = bits;
+#[tactic(auto, using(crate::proofs::Values::past_end, crate::proofs::Values::not_within))]
+fn keep(values: &mut [u64], variable: u32, bits: u64)
+    ensures { values.new ≡ slice_set values.old variable bits }
+{
+    let index = variable as usize;
+    if index < values.len() {
+        values[index] = bits;
     }
 }
 
@@ -71,74 +166,98 @@ fn write_event(
     event: &Event,
     told: &PastEvent,
     values: &[u64],
-) -> Result<(), AllocError> {
-    let ticket = told.ticket;
-    write!(out, "  {ticket}").map_err(|_| AllocError)?;
-    match line_after(checked, live, event.acting_place()) {
-        Some(line) => write!(out, " line {line}:").map_err(|_| AllocError)?,
-        None => out.extend_from_slice(b" environment:")?,
-    }
+) -> Result<(), AllocError>
+    ensures { OnOk result (out.new.items ≡ out.old.items
+        ++ model.event_line checked.now live.now.live event.now told.now values.now) }
+{
+    add_pieces(out, &[Piece::Words(b"  "), Piece::Number(told.ticket)])?;
+    write_line(out, line_after(checked, live, event.acting_place()))?;
     write_deed(out, checked.system(), event)?;
-    write_reads(out, checked.system(), event, values)?;
-    write_follows(out, told.follows.as_slice())
+    write_reads(out, checked.system(), event.read.as_slice(), values)?;
+    write_follows(out, told.follows.as_slice())?;
+    add_words(out, b"\n")
+}
+
+/// Adds where the event stands in the source.
+fn write_line(out: &mut Vec<u8>, line: Option<u64>) -> Result<(), AllocError>
+    ensures { OnOk result (out.new.items ≡ out.old.items ++ model.line_text line) }
+{
+    match line {
+        Some(line) => add_pieces(
+            out,
+            &[
+                Piece::Words(b" line "),
+                Piece::Number(line),
+                Piece::Words(b":"),
+            ],
+        ),
+        None => add_words(out, b" environment:"),
+    }
 }
 
 /// Adds what the event did.
-fn write_deed(out: &mut Vec<u8>, system: &System, event: &Event) -> Result<(), AllocError> {
+fn write_deed(out: &mut Vec<u8>, system: &System, event: &Event) -> Result<(), AllocError>
+    ensures { OnOk result (out.new.items ≡ out.old.items ++ model.deed_text system.now event.now) }
+{
     match event.kind {
         Kind::Assign => {
             write_variable(out, system, event.written)?;
-            out.extend_from_slice(b" :=")?;
+            add_words(out, b" :=")?;
             write_value(out, event.value)
         }
-        Kind::Test => write_arm(out, b" test takes", event.arm),
-        Kind::Turn => out.extend_from_slice(b" turn"),
-        Kind::Meet => write_meeting(out, system, event),
-        Kind::Open => {
+        Kind::Test => {
+            add_words(out, b" test takes")?;
+            write_arm(out, event.arm)
+        }
+        Kind::Turn => add_words(out, b" turn"),
+        Kind::Meet => {
             write_channel(out, system, event.channel)?;
             write_carried(out, event.value)?;
-            write_arm(out, b" opens", event.arm)
+            write_into(out, system, event.written)
         }
-        Kind::Close => write_channel_and(out, system, event.channel, b" closes"),
-        Kind::Sync => write_channel_and(out, system, event.channel, b" syncs"),
+        Kind::Open => write_open(out, system, event),
+        Kind::Close => {
+            write_channel(out, system, event.channel)?;
+            add_words(out, b" closes")
+        }
+        Kind::Sync => {
+            write_channel(out, system, event.channel)?;
+            add_words(out, b" syncs")
+        }
     }
 }
 
-/// Adds a meeting: the channel, the value, and where it went.
-fn write_meeting(out: &mut Vec<u8>, system: &System, event: &Event) -> Result<(), AllocError> {
+/// Adds an open: the channel, the value, and the arm.
+fn write_open(out: &mut Vec<u8>, system: &System, event: &Event) -> Result<(), AllocError>
+    ensures { OnOk result (out.new.items ≡ out.old.items
+        ++ model.deed_by system.now Kind.Open event.now) }
+{
     write_channel(out, system, event.channel)?;
     write_carried(out, event.value)?;
-    if event.written.is_some() {
-        out.extend_from_slice(b" into")?;
-        write_variable(out, system, event.written)?;
-    }
-    Ok(())
+    add_words(out, b" opens")?;
+    write_arm(out, event.arm)
 }
 
-/// Adds a space and the name of the channel, and words behind it.
-fn write_channel_and(
-    out: &mut Vec<u8>,
-    system: &System,
-    channel: Option<u32>,
-    words: &[u8],
-) -> Result<(), AllocError> {
-    write_channel(out, system, channel)?;
-    out.extend_from_slice(words)
+/// Adds where a value went that was received, if it went to a variable.
+fn write_into(out: &mut Vec<u8>, system: &System, variable: Option<u32>) -> Result<(), AllocError>
+    ensures { OnOk result (out.new.items ≡ out.old.items ++ model.into_text system.now variable) }
+{
+    match variable {
+        Some(_) => {
+            add_words(out, b" into")?;
+            write_variable(out, system, variable)
+        }
+        None => Ok(()),
+    }
 }
 
 /// Adds a space and the name of the channel.
-fn write_channel(
-    out: &mut Vec<u8>,
-    system: &System,
-    channel: Option<u32>,
-) -> Result<(), AllocError> {
-    out.extend_from_slice(b" ")?;
+fn write_channel(out: &mut Vec<u8>, system: &System, channel: Option<u32>) -> Result<(), AllocError>
+    ensures { OnOk result (out.new.items ≡ out.old.items ++ model.channel_text system.now channel) }
+{
     match channel {
-        Some(number) => match system.channel_name(number) {
-            Some(name) => name.write_to(out),
-            None => out.extend_from_slice(b"?"),
-        },
-        None => out.extend_from_slice(b"?"),
+        Some(number) => write_name(out, system.channel_name(number)),
+        None => add_words(out, b" ?"),
     }
 }
 
@@ -147,75 +266,139 @@ fn write_variable(
     out: &mut Vec<u8>,
     system: &System,
     variable: Option<u32>,
-) -> Result<(), AllocError> {
-    out.extend_from_slice(b" ")?;
+) -> Result<(), AllocError>
+    ensures { OnOk result (out.new.items ≡ out.old.items ++ model.variable_text system.now variable) }
+{
     match variable {
-        Some(number) => match system.variable_name(number) {
-            Some(name) => name.write_to(out),
-            None => out.extend_from_slice(b"?"),
-        },
-        None => out.extend_from_slice(b"?"),
+        Some(number) => write_name(out, system.variable_name(number)),
+        None => add_words(out, b" ?"),
+    }
+}
+
+/// Adds a space and a name.
+fn write_name(out: &mut Vec<u8>, name: Option<&QualifiedName>) -> Result<(), AllocError>
+    ensures { OnOk result (out.new.items ≡ out.old.items ++ model.name_text (option_copied name.entry)) }
+{
+    match name {
+        Some(name) => add_pieces(out, &[Piece::Words(b" "), Piece::Name(name)]),
+        None => add_words(out, b" ?"),
     }
 }
 
 /// Adds a space and the value.
-fn write_value(out: &mut Vec<u8>, value: Option<Value>) -> Result<(), AllocError> {
+fn write_value(out: &mut Vec<u8>, value: Option<Value>) -> Result<(), AllocError>
+    ensures { OnOk result (out.new.items ≡ out.old.items ++ model.value_text value) }
+{
     match value {
-        Some(value) => {
-            let bits = value.bits();
-            write!(out, " {bits}").map_err(|_| AllocError)
-        }
-        None => out.extend_from_slice(b" -"),
+        Some(value) => add_pieces(out, &[Piece::Words(b" "), Piece::Number(value.bits())]),
+        None => add_words(out, b" -"),
     }
 }
 
 /// Adds the value that a channel carried, if it carried one.
-fn write_carried(out: &mut Vec<u8>, value: Option<Value>) -> Result<(), AllocError> {
+fn write_carried(out: &mut Vec<u8>, value: Option<Value>) -> Result<(), AllocError>
+    ensures { OnOk result (out.new.items ≡ out.old.items ++ model.carried_text value) }
+{
     match value {
         Some(_) => {
-            out.extend_from_slice(b" carries")?;
+            add_words(out, b" carries")?;
             write_value(out, value)
         }
         None => Ok(()),
     }
 }
 
-/// Adds words and the arm.
-fn write_arm(out: &mut Vec<u8>, words: &[u8], arm: Option<u32>) -> Result<(), AllocError> {
-    out.extend_from_slice(words)?;
+/// Adds a space and the arm.
+fn write_arm(out: &mut Vec<u8>, arm: Option<u32>) -> Result<(), AllocError>
+    ensures { OnOk result (out.new.items ≡ out.old.items ++ model.arm_text arm) }
+{
     match arm {
-        Some(number) => write!(out, " arm {number}").map_err(|_| AllocError),
-        None => out.extend_from_slice(b" none"),
+        Some(number) => add_pieces(
+            out,
+            &[Piece::Words(b" arm "), Piece::Number(u64::from(number))],
+        ),
+        None => add_words(out, b" none"),
     }
 }
 
-/// Adds the variables that the event read, with their values then.
+/// Adds the variables that the event read, with their values then, if it read any.
 fn write_reads(
     out: &mut Vec<u8>,
     system: &System,
-    event: &Event,
+    variables: &[u32],
     values: &[u64],
-) -> Result<(), AllocError> {
-    for (index, variable) in event.read.as_slice().iter().enumerate() {
-        if index == 0 {
-            out.extend_from_slice(b", reads")?;
-        }
-        write_variable(out, system, Some(*variable))?;
-        match values.get(*variable as usize) {
-            Some(value) => write!(out, " {value}").map_err(|_| AllocError)?,
-            None => out.extend_from_slice(b" ?")?,
-        }
+) -> Result<(), AllocError>
+    ensures { OnOk result (out.new.items ≡ out.old.items
+        ++ model.reads_text system.now values.now variables.now) }
+{
+    if variables.is_empty() {
+        return Ok(());
+    }
+    add_words(out, b", reads")?;
+    write_each_read(out, system, variables, values)
+}
+
+/// Adds each of the variables, with its value.
+fn write_each_read(
+    out: &mut Vec<u8>,
+    system: &System,
+    variables: &[u32],
+    values: &[u64],
+) -> Result<(), AllocError>
+    ensures { OnOk result (out.new.items ≡ out.old.items
+        ++ flat_map (model.read_text system.now values.now) variables.now) }
+{
+    for variable in variables {
+        write_read(out, system, *variable, values)?;
     }
     Ok(())
 }
 
-/// Adds the tickets that it follows, and the end of the line.
-fn write_follows(out: &mut Vec<u8>, tickets: &[u64]) -> Result<(), AllocError> {
-    for (index, ticket) in tickets.iter().rev().enumerate() {
-        if index == 0 {
-            out.extend_from_slice(b", after")?;
-        }
-        write!(out, " {ticket}").map_err(|_| AllocError)?;
+/// Adds a variable, with its value.
+fn write_read(
+    out: &mut Vec<u8>,
+    system: &System,
+    variable: u32,
+    values: &[u64],
+) -> Result<(), AllocError>
+    ensures { OnOk result (out.new.items ≡ out.old.items
+        ++ model.read_text system.now values.now variable) }
+{
+    write_variable(out, system, Some(variable))?;
+    write_held(out, values, variable)
+}
+
+/// Adds a space and the value of a variable.
+fn write_held(out: &mut Vec<u8>, values: &[u64], variable: u32) -> Result<(), AllocError>
+    ensures { OnOk result (out.new.items ≡ out.old.items
+        ++ model.held_text (slice_get values.now variable)) }
+{
+    match values.get(variable as usize) {
+        Some(bits) => add_pieces(out, &[Piece::Words(b" "), Piece::Number(*bits)]),
+        None => add_words(out, b" ?"),
     }
-    out.extend_from_slice(b"\n")
+}
+
+/// Adds the tickets that it follows, the least first, if there are any.
+fn write_follows(out: &mut Vec<u8>, tickets: &[u64]) -> Result<(), AllocError>
+    ensures { OnOk result (out.new.items ≡ out.old.items ++ model.follows_text tickets.now) }
+{
+    if tickets.is_empty() {
+        return Ok(());
+    }
+    add_words(out, b", after")?;
+    write_each_ticket(out, tickets)
+}
+
+/// Adds each of the tickets, the last first.
+fn write_each_ticket(out: &mut Vec<u8>, tickets: &[u64]) -> Result<(), AllocError>
+    ensures { OnOk result (out.new.items ≡ out.old.items
+        ++ flat_map model.ticket_text (reverse tickets.now)) }
+{
+    let mut rest = tickets;
+    'tickets: while let Some((last, before)) = rest.split_last() {
+        add_pieces(out, &[Piece::Words(b" "), Piece::Number(*last)])?;
+        rest = before;
+    }
+    Ok(())
 }

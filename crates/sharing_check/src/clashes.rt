@@ -126,9 +126,15 @@ fn add_branch(
     ensures { IfOk result (λ _.
         found.new ≡ model.beside variables.now (model.gathering variables.now child.now) found.old) }
 {
-    let earlier = found.take_touches(alloc);
-    add_command(alloc, variables, child, found)?;
-    found.join(variables, earlier)
+    match child.action.get() {
+        // These touch no variable.
+        Action::Continue | Action::Halt | Action::Sync(_) => Ok(()),
+        _ => {
+            let earlier = found.take_touches(alloc);
+            add_command(alloc, variables, child, found)?;
+            found.join(variables, earlier)
+        }
+    }
 }
 
 /// Adds the arms of an `if`.

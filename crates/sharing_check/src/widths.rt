@@ -149,6 +149,10 @@ impl Widths {
             ≡ model.join how (model.table_of_widths self.old) (model.table_of_widths other.old)) }
         ensures emptied { OnOk result (model.table_of_widths other.new ≡ model.nothing) }
     {
+        // Most branches use no channel.
+        if other.by_channel.is_empty() {
+            return Ok(());
+        }
         put_larger_first(self, other);
         self.add_each(how, other)?;
         other.clear();

@@ -1,2 +1,4 @@
+mod GrammarTokens
+mod OwnNames
 mod PartLemmas
 mod WholeLemmas

@@ -6,9 +6,11 @@ ghost use Rattle.std.specs.Prelude.{IfOk, IfErr, IfSome};
 ghost use Rattle.typed_source.specs.Source.{IsRefused, IsTyped};
 
 mod fault;
+mod laws;
 mod part;
 
 pub use fault::Fault;
+pub use laws::names_are_own;
 use lexer::{Lexing, lex};
 use parser::parse;
 use part::next_part;

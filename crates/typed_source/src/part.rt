@@ -114,6 +114,13 @@ fn refuse_with_next<'a>(
     )
 }
 
+/// Gives back the room of many tokens: what is made of their tree next takes as much.
+fn give_back(alloc: Global, tokens: &mut Vec<Token<'_>>) {
+    if tokens.capacity() > FIRST_TOKENS {
+        *tokens = Vec::new(alloc);
+    }
+}
+
 /// The part that these tokens are, behind which `lexing` stands. None: they and the token that follows do not tell.
 fn tree_of<'a>(
     alloc: Global,
@@ -127,10 +134,13 @@ fn tree_of<'a>(
         IfErr result (λ fault. RefusesPart old tokens.old.items fault) }
 {
     match parse(alloc, tokens.as_slice()) {
-        Ok(description) => Ok(Some(Part {
-            description,
-            is_last,
-        })),
+        Ok(description) => {
+            give_back(alloc, tokens);
+            Ok(Some(Part {
+                description,
+                is_last,
+            }))
+        }
         Err(parser::Fault::Memory) => Err(Fault::Memory),
         Err(fault) if is_last => Err(Fault::from(fault)),
         Err(_) => {

@@ -1,6 +1,7 @@
 pub mod public
 mod CallLemmas
 mod DeclarationLemmas
+mod DeclaredDistinct
 mod DeclaredOnce
 mod ExpressionWays
 mod Least

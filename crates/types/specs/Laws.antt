@@ -7,6 +7,7 @@ use Rattle.typed.specs.declared.tree.Procedure as typed
 use Rattle.syntax.specs.Lists.{In, Every}
 use Rattle.syntax.specs.declared.declaration.Description.{Description}
 use Rattle.syntax.specs.declared.declaration.Local.{Local}
+use Rattle.syntax.specs.declared.declaration.Port.{Port}
 use Rattle.syntax.specs.declared.declaration.Procedure.{Procedure}
 use Rattle.syntax.specs.declared.declaration.TypeDeclaration.{TypeDeclaration}
 use Rattle.syntax.specs.declared.declaration.TypeDefinition.{TypeDefinition}
@@ -41,6 +42,33 @@ ExpressionsHaveOneWidth =
     (d : Description) → IsAccepted d →
     (before : List Procedure) (p : Procedure) (behind : List Procedure) → d.procedures ≡ before ++ p ∷ behind →
     Every (λ e. (width : ℕ) × (widths_of (visible_in d.types before p) e ≡ width ∷ [])) (expressions_in p)
+
+-- no two of the names are equal
+abbrev pub Distinct : List Name → Type 0
+Distinct [] = Unit {0}
+Distinct (name ∷ names) = (¬ In name names) × Distinct names
+
+-- the names that a typed procedure declares: its ports, and then its locals
+abbrev pub declared_names : typed.Procedure → List Name
+declared_names p = map (λ q. q.name) p.ports ++ map (λ l. l.name) p.locals
+
+-- the names that stand in the source where a procedure declares its ports and its locals
+abbrev pub written_names : Procedure → List Name
+written_names p =
+    flat_map (λ (d : Port). map (λ (name : Identifier). name.name) d.names) p.ports
+    ++ flat_map (λ (d : Local). map (λ (name : Identifier). name.name) d.names) p.locals
+
+-- In an accepted description each procedure declares the names that stand in the source, in that order.
+abbrev pub DeclaredNamesStay : Type 0
+DeclaredNamesStay =
+    (d : Description) (procedures : List typed.Procedure) → found_description d ≡ Ok procedures →
+    map declared_names procedures ≡ map written_names d.procedures
+
+-- In an accepted description the names that a procedure declares are distinct.
+abbrev pub DeclaredNamesAreDistinct : Type 0
+DeclaredNamesAreDistinct =
+    (d : Description) (procedures : List typed.Procedure) → found_description d ≡ Ok procedures →
+    Every (λ procedure. Distinct (declared_names procedure)) procedures
 
 -- ---- what is not used
 

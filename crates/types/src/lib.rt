@@ -18,7 +18,10 @@ mod typing;
 mod uses;
 mod verdict;
 
-pub use laws::{expressions_have_one_width, names_are_declared_once, unused_may_be_left_out};
+pub use laws::{
+    declared_names_are_distinct, expressions_have_one_width, names_are_declared_once,
+    unused_may_be_left_out,
+};
 pub use refusals::types::Fault;
 use std::alloc::Global;
 use syntax::Description;

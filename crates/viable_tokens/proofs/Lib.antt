@@ -1,1 +1,5 @@
-mod Places
+mod Blind
+mod Ends
+mod EveryKind
+mod Parts
+mod Sifted

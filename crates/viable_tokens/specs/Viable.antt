@@ -1,19 +1,20 @@
--- Whether the parser takes what stands at an offset, behind the tokens before it.
-use Rattle.std.specs.Prelude.{◌⊎◌, ◌++◌, ◌<◌, ◌≤◌, ℕ, List}
+-- Which tokens can stand behind others, by the grammar.
+use Rattle.std.specs.Prelude.{◌≡◌, ◌++◌, ◌∷◌, [], List}
+use Rattle.lexer.specs.declared.token.Kind.{Kind}
 use Rattle.lexer.specs.declared.token.Token.{Token}
-use Rattle.parser.specs.Accepted.{Begins, IsRefused}
-use Rattle.refusals.specs.declared.parser.Fault.TheVariants.{Unexpected, TooDeep}
+use Rattle.parser.specs.Accepted.{Begins}
+use Rattle.syntax.specs.Lists.{Every, In}
 
--- whatever stands behind the tokens, they are refused at the offset
-abbrev pub RefusedAt : List Token → ℕ → Type 0
-RefusedAt tokens offset =
-    (later : List Token) → IsRefused (tokens ++ later) (Unexpected offset)
-    ⊎ IsRefused (tokens ++ later) (TooDeep offset)
+-- a description begins with the tokens of `front` and one of this kind; of the kind of the end: those of `front` are one
+abbrev pub CanStand : List Token → Kind → Type 0
+CanStand front kind = (token : Token) × (token.kind ≡ kind) × Begins (front ++ token ∷ [])
 
--- a description begins with the tokens; or they are refused, and behind the offset, whatever stands behind them
-abbrev pub TakenAt : List Token → ℕ → Type 0
-TakenAt tokens offset = Begins tokens ⊎ ((other : ℕ) × (offset < other) × RefusedAt tokens other)
+-- of some kinds, exactly those that can stand there
+pub record AreViable (front : List Token) (among viable : List Kind) : Type 0 where
+  pub right : Every (CanStand front) viable
+  pub every : (kind : Kind) → In kind among → CanStand front kind → In kind viable
 
--- they are refused at the offset or before it
-abbrev pub StoppedBy : List Token → ℕ → Type 0
-StoppedBy tokens offset = (other : ℕ) × (other ≤ offset) × RefusedAt tokens other
+-- of all kinds, exactly those that can stand there
+pub record AreAllViable (front : List Token) (viable : List Kind) : Type 0 where
+  pub right : Every (CanStand front) viable
+  pub every : (kind : Kind) → CanStand front kind → In kind viable

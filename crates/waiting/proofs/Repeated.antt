@@ -1,13 +1,14 @@
 -- Of actions that are listed more often each is told once.
-use Rattle.std.proofs.Common.{◌≡◌, ◌⊎◌, ◌↔◌, inl, inr, ℕ, suc, ◌+◌, List, [], ◌∷◌, ◌++◌, Bool, true, false, ◌||◌, cond, Option, Some, None, reverse, slice_get, refl, sym, ◌∙◌, ap, subst, arith, eqb-true, eq-eqb}
+use Rattle.std.proofs.Common.{◌≡◌, ◌⊎◌, ◌↔◌, ◌<◌, ◌≤◌, inl, inr, ℕ, suc, ◌+◌, List, [], ◌∷◌, ◌++◌, Bool, true, false, nat_lt, Option, Some, None, reverse, slice_get, refl, sym, ◌∙◌, ap, ap₂, subst, arith, eqb-true, eq-eqb, true≢false}
 use Rattle.std.specs.Ordering.{ordering_reverse}
 use Rattle.std.specs.declared.cmp.Ordering.{Ordering}
 use Rattle.std.specs.declared.cmp.Ordering.TheVariants.{Less, Equal, Greater}
+use Rattle.std.proofs.lemmas.Bool.{ltb-false, ltb-true}
 use Rattle.std.proofs.lemmas.List.{reverse-append}
 use Rattle.address.specs.Order.{order_of}
 use Rattle.address.specs.declared.Entry.{Entry}
 use Rattle.address.specs.declared.Entry.TheVariants.{Ordered, Branch}
-use Rattle.address.proofs.public.Total.{order-antisymmetric, order-ties}
+use Rattle.address.proofs.public.Total.{order-antisymmetric, order-itself, order-ties}
 use Rattle.syntax.specs.Lists.{In, Every}
 use Rattle.system.specs.Expression.{Store}
 use Rattle.system.specs.Residual.{Residual, done, halted, inside, beside, assign, send, receive, sync, held, loop, while, test, choose, closing, drain}
@@ -25,8 +26,10 @@ use Rattle.local_actions.specs.declared.action.LocalAction.{LocalAction}
 use Rattle.local_actions.specs.declared.action.ActionKind.TheVariants.{Opens}
 use Rattle.local_actions.proofs.public.Exactly.{behind-in, exactly, sound}
 use Rattle.local_actions.proofs.public.PlacedActions.{place-true, place-itself}
-use Rattle.waiting.specs.Waits.{arm_of, EachOnce, ListsWaiting, Waits}
-use Rattle.waiting.specs.internal.Repeats.{same_arm, is_next, each_once}
+use Rattle.waiting.specs.Waits.{arm_of, ArmBefore, ArmsRise, EachOnce, ListsWaiting, OneList, Waits}
+use Rattle.waiting.specs.declared.once.Position.{Position}
+use Rattle.waiting.specs.declared.once.Position.TheVariants.{Before, Same, Behind}
+use Rattle.waiting.specs.internal.Repeats.{same_arm, arm_before, by_arms, by_places, position, put_at, put, each_once}
 
 -- ---- a state offers one action at a place, but for the arms of a choice
 
@@ -149,23 +152,112 @@ arm-is None (Some k) h = cc
 arm-is (Some j) None h = cc
 arm-is (Some j) (Some k) h = eq-eqb j k (some-injective j k h)
 
--- ---- one with the place and the arm
--- it is one of these, with the place and the arm
-abbrev IsAmong : LocalAction → List LocalAction → Type 0
-IsAmong x xs = (y : LocalAction) × In y xs × (y.place ≡ x.place) × (arm_of y.action ≡ arm_of x.action)
+less-true : (j k : ℕ) → nat_lt j k ≡ true → j < k
+less-true j k h = ltb-true j k h
 
-among-more : (x y : LocalAction) (ys : List LocalAction) → IsAmong x ys → IsAmong x (y ∷ ys)
-among-more x y ys h = (h.0, inr h.1, h.2, h.3)
+not-less : (j k : ℕ) → (j ≡ k → ⊥) → nat_lt j k ≡ false → k < j
+not-less j k apart h = let e : k ≤ j = ltb-false j k h in omega (arith, e, apart)
 
-next-first : (x y : LocalAction) (ys : List LocalAction) (b c : Bool) → same_place y.place x.place ≡ b → same_arm (arm_of y.action) (arm_of x.action) ≡ c
-    → cond b (c || is_next x ys) false ≡ true → (is_next x ys ≡ true → IsAmong x ys) → IsAmong x (y ∷ ys)
-next-first x y ys true true at arm e later = (y, inl refl, place-true y.place x.place at, arm-true (arm_of y.action) (arm_of x.action) arm)
-next-first x y ys true false at arm e later = among-more x y ys (later e)
-next-first x y ys false c at arm e later = cc
+-- ---- the order of arms
+arm-least : (j k : Option ℕ) → arm_before j k ≡ true → ArmBefore j k
+arm-least None None h = cc
+arm-least None (Some k) h = tt
+arm-least (Some j) None h = cc
+arm-least (Some j) (Some k) h = less-true j k h
 
-next-in : (x : LocalAction) (xs : List LocalAction) → is_next x xs ≡ true → IsAmong x xs
-next-in x [] h = cc
-next-in x (y ∷ ys) h = next-first x y ys (same_place y.place x.place) (same_arm (arm_of y.action) (arm_of x.action)) refl refl h (next-in x ys)
+arm-other : (j k : Option ℕ) → (j ≡ k → ⊥) → arm_before j k ≡ false → ArmBefore k j
+arm-other None None apart h = absurd (apart refl)
+arm-other None (Some k) apart h = cc
+arm-other (Some j) None apart h = tt
+arm-other (Some j) (Some k) apart h = not-less j k (λ e. apart (ap (λ (n : ℕ). Some n) e)) h
+
+arm-chain : (i j k : Option ℕ) → ArmBefore i j → ArmBefore j k → ArmBefore i k
+arm-chain None None k h g = absurd h
+arm-chain None (Some j) None h g = absurd g
+arm-chain None (Some j) (Some k) h g = tt
+arm-chain (Some i) None k h g = absurd h
+arm-chain (Some i) (Some j) None h g = absurd g
+arm-chain (Some i) (Some j) (Some k) h g = omega (arith, h, g)
+
+arm-itself : (k : Option ℕ) → ArmBefore k k → ⊥
+arm-itself None h = h
+arm-itself (Some k) h = omega (arith, h)
+
+-- ---- where one stands to another
+is-same : (b c d : Bool) → by_places b (by_arms c d) ≡ Same → (b ≡ true) × (c ≡ true)
+is-same true true d h = (refl, refl)
+is-same true false true h = cc
+is-same true false false h = cc
+is-same false c d h = cc
+
+is-before : (b c d : Bool) → by_places b (by_arms c d) ≡ Before → (b ≡ true) × (d ≡ true)
+is-before true true d h = cc
+is-before true false true h = (refl, refl)
+is-before true false false h = cc
+is-before false c d h = cc
+
+is-behind : (b c d : Bool) → by_places b (by_arms c d) ≡ Behind → b ≡ true → (c ≡ false) × (d ≡ false)
+is-behind true true d h e = cc
+is-behind true false true h e = cc
+is-behind true false false h e = (refl, refl)
+is-behind false c d h e = cc
+
+same-told : (y x : LocalAction) → position y x ≡ Same → (y.place ≡ x.place) × (arm_of y.action ≡ arm_of x.action)
+same-told y x h =
+    let told = is-same (same_place y.place x.place) (same_arm (arm_of y.action) (arm_of x.action)) (arm_before (arm_of y.action) (arm_of x.action)) h in
+    (place-true y.place x.place told.0, arm-true (arm_of y.action) (arm_of x.action) told.1)
+
+before-told : (y x : LocalAction) → position y x ≡ Before → (y.place ≡ x.place) × ArmBefore (arm_of y.action) (arm_of x.action)
+before-told y x h =
+    let told = is-before (same_place y.place x.place) (same_arm (arm_of y.action) (arm_of x.action)) (arm_before (arm_of y.action) (arm_of x.action)) h in
+    (place-true y.place x.place told.0, arm-least (arm_of y.action) (arm_of x.action) told.1)
+
+behind-told : (y x : LocalAction) → position y x ≡ Behind → ArmsRise x y
+behind-told y x h at =
+    let here : same_place y.place x.place ≡ true = subst (λ (a : Place). same_place y.place a ≡ true) (sym at) (place-itself y.place) in
+    let told = is-behind (same_place y.place x.place) (same_arm (arm_of y.action) (arm_of x.action)) (arm_before (arm_of y.action) (arm_of x.action)) h here in
+    arm-other (arm_of y.action) (arm_of x.action) (λ e. true≢false (sym (arm-is (arm_of y.action) (arm_of x.action) e) ∙ told.0)) told.1
+
+-- ---- an action that is put to others
+in-put-at : (p : Position) (z x y : LocalAction) (ys rest : List LocalAction) → (In z rest → (z ≡ x) ⊎ In z ys) → In z (put_at p x y ys rest)
+    → (z ≡ x) ⊎ In z (y ∷ ys)
+in-put-at Before z x y ys rest later (inl is) = inr (inl is)
+in-put-at Before z x y ys rest later (inr i) = elim (later i) [ inl is ↦ inl is | inr j ↦ inr (inr j) ]
+in-put-at Same z x y ys rest later i = inr i
+in-put-at Behind z x y ys rest later (inl is) = inl is
+in-put-at Behind z x y ys rest later (inr i) = inr i
+
+in-put : (z x : LocalAction) (ys : List LocalAction) → In z (put x ys) → (z ≡ x) ⊎ In z ys
+in-put z x [] (inl is) = inl is
+in-put z x [] (inr i) = absurd i
+in-put z x (y ∷ ys) i = in-put-at (position y x) z x y ys (put x ys) (in-put z x ys) i
+
+kept-at : (p : Position) (z x y : LocalAction) (ys rest : List LocalAction) → (In z ys → In z rest) → In z (y ∷ ys) → In z (put_at p x y ys rest)
+kept-at Before z x y ys rest later (inl is) = inl is
+kept-at Before z x y ys rest later (inr i) = inr (later i)
+kept-at Same z x y ys rest later i = i
+kept-at Behind z x y ys rest later i = inr i
+
+put-kept : (z x : LocalAction) (ys : List LocalAction) → In z ys → In z (put x ys)
+put-kept z x [] i = absurd i
+put-kept z x (y ∷ ys) i = kept-at (position y x) z x y ys (put x ys) (put-kept z x ys) i
+
+-- one that has its place and arm is itself
+abbrev OnlyItself : LocalAction → List LocalAction → Type 0
+OnlyItself x ys = (y : LocalAction) → In y ys → y.place ≡ x.place → arm_of y.action ≡ arm_of x.action → y ≡ x
+
+there-at : (p : Position) (x y : LocalAction) (ys rest : List LocalAction) → position y x ≡ p → OnlyItself x (y ∷ ys) → In x rest → In x (put_at p x y ys rest)
+there-at Before x y ys rest e only later = inr later
+there-at Same x y ys rest e only later = let told = same-told y x e in inl (sym (only y (inl refl) told.0 told.1))
+there-at Behind x y ys rest e only later = inl refl
+
+put-there : (x : LocalAction) (ys : List LocalAction) → OnlyItself x ys → In x (put x ys)
+put-there x [] only = inl refl
+put-there x (y ∷ ys) only = there-at (position y x) x y ys (put x ys) refl only (put-there x ys (λ z i. only z (inr i)))
+
+every-put : (P : LocalAction → Type 0) (x : LocalAction) (ys : List LocalAction) → P x → Every P ys → Every P (put x ys)
+every-put P x ys here there =
+    every-of P (put x ys) (λ z i. elim (in-put z x ys i) [ inl is ↦ subst P (sym is) here | inr j ↦ every-in P ys z there j ])
 
 -- what is behind each other is at one place
 not-behind : (a b : Place) → (order_of a b ≡ Greater → ⊥) → (order_of b a ≡ Greater → ⊥) → a ≡ b
@@ -178,82 +270,79 @@ not-behind a b h g = order-ties a b (pick (order_of a b) (order_of b a) (order-a
     pick Less Equal e h g = cc
     pick Less Greater e h g = absurd (g refl)
 
-in-next : (x y : LocalAction) (xs : List LocalAction) → Every (NotBehind x) xs → InOrder NotBehind xs → In y xs → y.place ≡ x.place → arm_of y.action ≡ arm_of x.action
-    → is_next x xs ≡ true
-in-next x y [] before order i at arm = absurd i
-in-next x y (z ∷ zs) before order (inl is) at arm =
-    let here : same_place z.place x.place ≡ true =
-    subst (λ (b : Place). same_place z.place b ≡ true) (sym (ap (λ (k : LocalAction). k.place) is) ∙ at) (place-itself z.place) in
-    let same : same_arm (arm_of z.action) (arm_of x.action) ≡ true =
-    arm-is (arm_of z.action) (arm_of x.action) (sym (ap (λ (k : LocalAction). arm_of k.action) is) ∙ arm) in
-    ap (λ (b : Bool). cond b (same_arm (arm_of z.action) (arm_of x.action) || is_next x zs) false) here ∙ ap (λ (b : Bool). b || is_next x zs) same
-in-next x y (z ∷ zs) before order (inr i) at arm =
-    let after : order_of z.place x.place ≡ Greater → ⊥ =
-    λ g. every-in (NotBehind z) zs y order.0 i (ap (order_of z.place) at ∙ g) in
-    let same : z.place ≡ x.place = sym (not-behind x.place z.place before.0 after) in
-    let here : same_place z.place x.place ≡ true = subst (λ (b : Place). same_place z.place b ≡ true) same (place-itself z.place) in
-    ap (λ (b : Bool). cond b (same_arm (arm_of z.action) (arm_of x.action) || is_next x zs) false) here
-    ∙ or-true (same_arm (arm_of z.action) (arm_of x.action)) (is_next x zs) (in-next x y zs before.1 order.1 i at arm)
+not-behind-same : (x y : LocalAction) → y.place ≡ x.place → NotBehind y x
+not-behind-same x y at g = order-greater x.place (subst (λ (a : Place). order_of a x.place ≡ Greater) at g)
   where
-    or-true : (a b : Bool) → b ≡ true → (a || b) ≡ true
-    or-true true b h = refl
-    or-true false b h = h
+    order-greater : (a : Place) → order_of a a ≡ Greater → ⊥
+    order-greater a e = let same : order_of a a ≡ Equal = order-itself a in let both : Equal ≡ Greater = sym same ∙ e in cc
+
+-- in order of place
+order-at : (p : Position) (x y : LocalAction) (ys rest : List LocalAction) → position y x ≡ p → Every (NotBehind x) (y ∷ ys) → InOrder NotBehind (y ∷ ys)
+    → (NotBehind y x → Every (NotBehind y) rest) → InOrder NotBehind rest → InOrder NotBehind (put_at p x y ys rest)
+order-at Before x y ys rest e before order all later = (all (not-behind-same x y (before-told y x e).0), later)
+order-at Same x y ys rest e before order all later = order
+order-at Behind x y ys rest e before order all later = (before, order)
+
+put-order : (x : LocalAction) (ys : List LocalAction) → Every (NotBehind x) ys → InOrder NotBehind ys → InOrder NotBehind (put x ys)
+put-order x [] before order = (tt, tt)
+put-order x (y ∷ ys) before order =
+    order-at (position y x) x y ys (put x ys) refl before order (λ here. every-put (NotBehind y) x ys here order.0) (put-order x ys before.1 order.1)
+
+-- the arms of a choice in theirs
+rises : (x y z : LocalAction) → NotBehind x y → NotBehind y z → ArmsRise x y → ArmsRise y z → ArmsRise x z
+rises x y z before after first second at =
+    let near : x.place ≡ y.place = not-behind x.place y.place before (λ g. after (subst (λ (a : Place). order_of y.place a ≡ Greater) at g)) in
+    arm-chain (arm_of x.action) (arm_of y.action) (arm_of z.action) (first near) (second (sym near ∙ at))
+
+arms-at : (p : Position) (x y : LocalAction) (ys rest : List LocalAction) → position y x ≡ p → Every (NotBehind x) (y ∷ ys) → InOrder NotBehind (y ∷ ys)
+    → InOrder ArmsRise (y ∷ ys) → (ArmsRise y x → Every (ArmsRise y) rest) → InOrder ArmsRise rest → InOrder ArmsRise (put_at p x y ys rest)
+arms-at Before x y ys rest e before order arms all later = (all (λ at. (before-told y x e).1), later)
+arms-at Same x y ys rest e before order arms all later = arms
+arms-at Behind x y ys rest e before order arms all later =
+    let first : ArmsRise x y = behind-told y x e in (
+      (
+        first,
+        every-of (ArmsRise x) ys (λ z i. rises x y z before.0 (every-in (NotBehind y) ys z order.0 i) first (every-in (ArmsRise y) ys z arms.0 i)),
+      ),
+      arms,
+    )
+
+put-arms : (x : LocalAction) (ys : List LocalAction) → Every (NotBehind x) ys → InOrder NotBehind ys → InOrder ArmsRise ys → InOrder ArmsRise (put x ys)
+put-arms x [] before order arms = (tt, tt)
+put-arms x (y ∷ ys) before order arms =
+    arms-at (position y x) x y ys (put x ys) refl before order arms (λ here. every-put (ArmsRise y) x ys here arms.0) (put-arms x ys before.1 order.1 arms.1)
 
 -- ---- the actions, each once
-kept-in : (b : Bool) (x y : LocalAction) (ys k : List LocalAction) → (In x k → In x ys) → In x (cond b k (y ∷ k)) → In x (y ∷ ys)
-kept-in true x y ys k later i = inr (later i)
-kept-in false x y ys k later (inl is) = inl is
-kept-in false x y ys k later (inr i) = inr (later i)
-
 once-in : (xs : List LocalAction) (x : LocalAction) → In x (each_once xs) → In x xs
 once-in [] x i = absurd i
-once-in (y ∷ ys) x i = kept-in (is_next y (each_once ys)) x y ys (each_once ys) (once-in ys x) i
-
-in-kept : (b : Bool) (x y : LocalAction) (ys k : List LocalAction) → (b ≡ true → In y k) → (In x ys → In x k) → In x (y ∷ ys) → In x (cond b k (y ∷ k))
-in-kept true x y ys k there later (inl is) = subst (λ (z : LocalAction). In z k) (sym is) (there refl)
-in-kept true x y ys k there later (inr i) = later i
-in-kept false x y ys k there later (inl is) = inl is
-in-kept false x y ys k there later (inr i) = inr (later i)
-
-fewer-alike : (y : LocalAction) (ys : List LocalAction) → Alike (y ∷ ys) → Alike ys
-fewer-alike y ys alike u v i j = alike u v (inr i) (inr j)
-
--- what is left out is there once more
-there-still : (y : LocalAction) (ys : List LocalAction) → Alike (y ∷ ys) → is_next y (each_once ys) ≡ true → In y (each_once ys)
-there-still y ys alike next =
-    let found = next-in y (each_once ys) next in
-    let one : found.0 ≡ y = alike found.0 y (inr (once-in ys found.0 found.1)) (inl refl) found.2 found.3 in
-    subst (λ (z : LocalAction). In z (each_once ys)) one found.1
+once-in (y ∷ ys) x i = elim (in-put x y (each_once ys) i) [ inl is ↦ inl is | inr j ↦ inr (once-in ys x j) ]
 
 in-once : (xs : List LocalAction) → Alike xs → (x : LocalAction) → In x xs → In x (each_once xs)
 in-once [] alike x i = absurd i
-in-once (y ∷ ys) alike x i =
-    in-kept (is_next y (each_once ys)) x y ys (each_once ys) (there-still y ys alike) (in-once ys (fewer-alike y ys alike) x) i
+in-once (y ∷ ys) alike x (inl is) =
+    subst (λ (z : LocalAction). In z (put y (each_once ys))) (sym is)
+    (put-there y (each_once ys) (λ z j at arm. alike z y (inr (once-in ys z j)) (inl refl) at arm))
+in-once (y ∷ ys) alike x (inr i) = put-kept x y (each_once ys) (in-once ys (λ u v j k. alike u v (inr j) (inr k)) x i)
 
 before-once : (y : LocalAction) (ys : List LocalAction) → Every (NotBehind y) ys → Every (NotBehind y) (each_once ys)
 before-once y ys before = every-of (NotBehind y) (each_once ys) (λ x i. every-in (NotBehind y) ys x before (once-in ys x i))
 
-kept-order : (b : Bool) (y : LocalAction) (k : List LocalAction) → Every (NotBehind y) k → InOrder NotBehind k → InOrder NotBehind (cond b k (y ∷ k))
-kept-order true y k before order = order
-kept-order false y k before order = (before, order)
-
 once-order : (xs : List LocalAction) → InOrder NotBehind xs → InOrder NotBehind (each_once xs)
 once-order [] order = tt
-once-order (y ∷ ys) order = kept-order (is_next y (each_once ys)) y (each_once ys) (before-once y ys order.0) (once-order ys order.1)
+once-order (y ∷ ys) order = put-order y (each_once ys) (before-once y ys order.0) (once-order ys order.1)
 
-kept-once : (b : Bool) (y : LocalAction) (k : List LocalAction) → is_next y k ≡ b → Every (NotBehind y) k → InOrder NotBehind k → EachOnce k
-    → EachOnce (cond b k (y ∷ k))
-kept-once true y k next before order once = once
-kept-once false y k next before order once = (
-  λ x i at arm.
-      let both : true ≡ false = sym (in-next y x k before order i at arm) ∙ next in cc,
-  once,
+once-arms : (xs : List LocalAction) → InOrder NotBehind xs → InOrder ArmsRise (each_once xs)
+once-arms [] order = tt
+once-arms (y ∷ ys) order = put-arms y (each_once ys) (before-once y ys order.0) (once-order ys order.1) (once-arms ys order.1)
+
+arms-once : (xs : List LocalAction) → InOrder ArmsRise xs → EachOnce xs
+arms-once [] arms = tt
+arms-once (x ∷ xs) arms = (
+  λ y i at arm.
+      arm-itself (arm_of x.action)
+      (subst (λ (k : Option ℕ). ArmBefore (arm_of x.action) k) arm (every-in (ArmsRise x) xs y arms.0 i (sym at))),
+  arms-once xs arms.1,
 )
-
-once-once : (xs : List LocalAction) → InOrder NotBehind xs → EachOnce (each_once xs)
-once-once [] order = tt
-once-once (y ∷ ys) order =
-    kept-once (is_next y (each_once ys)) y (each_once ys) refl (before-once y ys order.0) (once-order ys order.1) (once-once ys order.1)
 
 -- exactly the actions that wait, in order, are told once
 pub waits-once : (S : State) (xs : List LocalAction) → WellFormed S.residual → ((x : LocalAction) → In x xs ↔ Waits S x) → InOrder NotBehind xs
@@ -264,9 +353,69 @@ waits-once S xs w exact order = record {
     λ h. in-once xs (waits-alike S xs w (λ y j. ((exact y).0 j).offered)) x ((exact x).1 h),
   );
   in_order = once-order xs order;
-  once = once-once xs order;
+  arms = once-arms xs order;
+  once = arms-once (each_once xs) (once-arms xs order);
 }
 
 -- ---- as the code goes through them, from the last on
-pub next-last : (x last : LocalAction) (once before : List LocalAction) → once ≡ before ++ last ∷ [] → is_next x (reverse once) ≡ is_next x (last ∷ reverse before)
-next-last x last once before is = ap (λ (l : List LocalAction). is_next x (reverse l)) is ∙ ap (is_next x) (reverse-append before (last ∷ []))
+pub reverse-last : (last : LocalAction) (once before : List LocalAction) → once ≡ before ++ last ∷ [] → reverse once ≡ last ∷ reverse before
+reverse-last last once before is = ap (λ (l : List LocalAction). reverse l) is ∙ reverse-append before (last ∷ [])
+
+put-there-is : (p : Position) (x first : LocalAction) (old before : List LocalAction) → old ≡ before ++ first ∷ [] → position first x ≡ p
+    → put x (reverse old) ≡ put_at p x first (reverse before) (put x (reverse before))
+put-there-is p x first old before was is =
+    ap (put x) (reverse-last first old before was) ∙ ap (λ (q : Position). put_at q x first (reverse before) (put x (reverse before))) is
+
+-- before the first there is none
+pub put-none : (x : LocalAction) (old new : List LocalAction) → old ≡ [] → new ≡ old ++ x ∷ [] → reverse new ≡ put x (reverse old)
+put-none x old new was is =
+    ap (λ (l : List LocalAction). reverse l) (is ∙ ap (λ (l : List LocalAction). l ++ x ∷ []) was) ∙ sym (ap (λ (l : List LocalAction). put x (reverse l)) was)
+
+pub put-before : (x first : LocalAction) (old before mid new : List LocalAction) → old ≡ before ++ first ∷ [] → reverse mid ≡ put x (reverse before)
+    → new ≡ mid ++ first ∷ [] → position first x ≡ Before → reverse new ≡ put x (reverse old)
+put-before x first old before mid new was rest_is is at =
+    reverse-last first new mid is ∙ ap (λ (l : List LocalAction). first ∷ l) rest_is ∙ sym (put-there-is Before x first old before was at)
+
+pub put-same : (x first : LocalAction) (old before new : List LocalAction) → old ≡ before ++ first ∷ [] → new ≡ before ++ first ∷ [] → position first x ≡ Same
+    → reverse new ≡ put x (reverse old)
+put-same x first old before new was is at = reverse-last first new before is ∙ sym (put-there-is Same x first old before was at)
+
+pub put-behind : (x first : LocalAction) (old before mid new : List LocalAction) → old ≡ before ++ first ∷ [] → mid ≡ before ++ first ∷ [] → new ≡ mid ++ x ∷ []
+    → position first x ≡ Behind → reverse new ≡ put x (reverse old)
+put-behind x first old before mid new was back is at =
+    reverse-last x new mid is ∙ ap (λ (l : List LocalAction). x ∷ l) (reverse-last first mid before back) ∙ sym (put-there-is Behind x first old before was at)
+
+-- ---- there is one such list
+fewer : (x y : LocalAction) (xs ys : List LocalAction) → x ≡ y → InOrder ArmsRise (x ∷ xs) → ((z : LocalAction) → In z (x ∷ xs) → In z (y ∷ ys))
+    → (z : LocalAction) → In z xs → In z ys
+fewer x y xs ys same arms each z i = elim (each z (inr i)) [
+  | inl is ↦
+      let here : x ≡ z = same ∙ sym is in
+      absurd (arm-itself (arm_of x.action)
+      (subst (λ (u : LocalAction). ArmBefore (arm_of x.action) (arm_of u.action)) (sym here)
+      (every-in (ArmsRise x) xs z arms.0 i (ap (λ (u : LocalAction). u.place) here))))
+  | inr j ↦ j
+]
+
+first-is : (x y : LocalAction) (xs ys : List LocalAction) → InOrder NotBehind (x ∷ xs) → InOrder ArmsRise (x ∷ xs) → InOrder NotBehind (y ∷ ys)
+    → InOrder ArmsRise (y ∷ ys) → In x (y ∷ ys) → In y (x ∷ xs) → x ≡ y
+first-is x y xs ys order arms other others (inl is) j = is
+first-is x y xs ys order arms other others (inr i) (inl is) = sym is
+first-is x y xs ys order arms other others (inr i) (inr j) =
+    let at : x.place ≡ y.place = not-behind x.place y.place (every-in (NotBehind x) xs y order.0 j) (every-in (NotBehind y) ys x other.0 i) in
+    absurd (arm-itself (arm_of x.action)
+    (arm-chain (arm_of x.action) (arm_of y.action) (arm_of x.action) (every-in (ArmsRise x) xs y arms.0 j at) (every-in (ArmsRise y) ys x others.0 i (sym at))))
+
+one-order : (xs ys : List LocalAction) → InOrder NotBehind xs → InOrder ArmsRise xs → InOrder NotBehind ys → InOrder ArmsRise ys
+    → ((z : LocalAction) → In z xs → In z ys) → ((z : LocalAction) → In z ys → In z xs) → xs ≡ ys
+one-order [] [] order arms other others each back = refl
+one-order [] (y ∷ ys) order arms other others each back = absurd (back y (inl refl))
+one-order (x ∷ xs) [] order arms other others each back = absurd (each x (inl refl))
+one-order (x ∷ xs) (y ∷ ys) order arms other others each back =
+    let same : x ≡ y = first-is x y xs ys order arms other others (each x (inl refl)) (back y (inl refl)) in
+    ap₂ (λ (z : LocalAction) (zs : List LocalAction). z ∷ zs) same
+    (one-order xs ys order.1 arms.1 other.1 others.1 (fewer x y xs ys same arms each) (fewer y x ys xs (sym same) others back))
+
+pub one-list : OneList
+one-list S xs ys h g =
+    one-order xs ys h.in_order h.arms g.in_order g.arms (λ z i. (g.exactly z).1 ((h.exactly z).0 i)) (λ z i. (h.exactly z).1 ((g.exactly z).0 i))

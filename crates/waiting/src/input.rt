@@ -14,16 +14,17 @@ use std::alloc::{AllocError, Global};
 use system::{Branch, System};
 
 impl Waiting {
-    /// Whether nothing can go on for want of input alone: nothing is deadlocked, so that whatever waits waits for the
-    /// environment in the end, by whichever of its arms, and an action of the body waits for what the environment has
-    /// no more of. Where it is not known from where a partner comes, it is not. The machine is the one that was asked.
+    /// Whether nothing can go on for want of input alone: nothing in the body is deadlocked, so that whatever waits
+    /// there waits for the environment in the end, by whichever of its arms, and an action of the body waits for what
+    /// the environment has no more of. What the environment has left over, and nobody takes, counts for nothing. Where
+    /// it is not known from where a partner comes, the answer is no. The machine is the one that was asked.
     pub fn lacks_input(&self, machine: &Machine) -> bool
         ensures { result ≡ model.lacks_input machine.now self.now }
     {
         let actions = self.actions.as_slice();
         let partners = self.partners.as_slice();
         is_stuck(self.progress)
-            && none_deadlocked(self.deadlocked.as_slice())
+            && none_deadlocked(machine, actions, self.deadlocked.as_slice())
             && any_starved(machine, actions, partners)
             && all_settled(actions, partners)
     }
@@ -80,16 +81,33 @@ fn all_settled(actions: &[LocalAction], partners: &[Partner]) -> bool
     true
 }
 
-/// Whether none of these marks is set.
-fn none_deadlocked(marks: &[bool]) -> bool
-    ensures { result ≡ model.none_deadlocked marks.now }
+/// Whether none of the actions, which have these marks, stands in the body and is deadlocked.
+fn none_deadlocked(machine: &Machine, actions: &[LocalAction], marks: &[bool]) -> bool
+    ensures { result ≡ model.none_deadlocked machine.now marks.now 0 actions.now }
 {
-    for mark in marks {
-        if *mark {
+    for (index, action) in actions.iter().enumerate() {
+        if is_in_body(machine, action) && is_set(marks, index) {
             return false;
         }
     }
     true
+}
+
+/// Whether the mark of this index is there, and set.
+fn is_set(marks: &[bool], index: usize) -> bool
+    ensures { result ≡ model.is_set (slice_get marks.now index) }
+{
+    match marks.get(index) {
+        Some(mark) => *mark,
+        None => false,
+    }
+}
+
+/// Whether the action stands in the body.
+fn is_in_body(machine: &Machine, offered: &LocalAction) -> bool
+    ensures { result ≡ model.is_in_body machine.now offered.now }
+{
+    machine.line(&offered.place).is_some()
 }
 
 /// Whether the action is an output port's, or waits for more input.
@@ -130,8 +148,8 @@ fn is_starved(machine: &Machine, offered: &LocalAction, partner: Option<&Partner
 fn takes_input(machine: &Machine, offered: &LocalAction) -> bool
     ensures { result ≡ model.takes_input machine.now offered.now }
 {
-    let line = machine.line(&offered.place);
-    line.is_some() && fed_channel(machine.checked().system(), &offered.action).is_some()
+    is_in_body(machine, offered)
+        && fed_channel(machine.checked().system(), &offered.action).is_some()
 }
 
 /// The channel on which the action takes what the environment has a number of, if it is one.

@@ -4,12 +4,14 @@
 
 mod actions;
 mod input;
+mod laws;
 mod once;
 mod progress;
 mod replay;
 mod text;
 mod waiting;
 
+pub use laws::waiters_have_one_order;
 pub use progress::Progress;
 pub use rings::Partner;
 pub use waiting::{Waiting, who_waits};

@@ -1,5 +1,5 @@
-// Actions that are told once, where they are listed more often.
-ghost use Rattle.std.specs.Prelude.{◌≡◌, IfOk, reverse};
+// Actions that are told once, the arms of a choice in order, where they are listed in any.
+ghost use Rattle.std.specs.Prelude.{◌≡◌, IfOk, OnOk, reverse};
 ghost use Rattle.waiting.specs.Waits.{arm_of};
 ghost use Rattle.waiting.specs.internal.Repeats as model;
 
@@ -8,8 +8,16 @@ use local_actions::{ActionKind, LocalAction};
 use std::alloc::{AllocError, Global};
 use syntax::Items;
 
-/// The actions, of those with one place and arm the last. They are in order of place, so that these stand among those
-/// at one place. It is an error if there is no memory.
+/// Where an action stands to one that is put to it and those behind it.
+#[derive(Clone, Copy)]
+pub(crate) enum Position {
+    Before,
+    Same,
+    Behind,
+}
+
+/// The actions, each once, at each place in the order of arms. They are in order of place. It is an error if there is
+/// no memory.
 pub(crate) fn each_once(
     alloc: Global,
     actions: Items<LocalAction>,
@@ -19,25 +27,54 @@ pub(crate) fn each_once(
     let mut rest = actions.into_vec();
     let mut once = Vec::with_capacity(alloc, rest.len())?;
     'actions: while let Some(action) = rest.pop() {
-        if !is_next(once.as_slice(), &action) {
-            once.push(action)?;
-        }
+        put(&mut once, action)?;
     }
     once.reverse();
     Ok(Items::from_vec(once))
 }
 
-/// Whether one of the last of these, as far as they stand at the place of the action, has its arm.
-fn is_next(once: &[LocalAction], action: &LocalAction) -> bool
-    ensures { result ≡ model.is_next action.now (reverse once.now) }
+/// Puts the action to these, of which the last comes first, if none is there with its place and arm. They stand at its
+/// place or behind it.
+fn put(once: &mut Vec<LocalAction>, action: LocalAction) -> Result<(), AllocError>
+    ensures { OnOk result (reverse once.new.items ≡ model.put action (reverse once.old.items)) }
 {
-    let Some((last, before)) = once.split_last() else {
-        return false;
+    let Some(first) = once.pop() else {
+        return Ok(once.push(action)?);
     };
-    if is_same(&last.place, &action.place) {
-        is_same_arm(arm_of(&last.action), arm_of(&action.action)) || is_next(before, action)
+    match compared(&first, &action) {
+        Position::Before => {
+            put(once, action)?;
+            Ok(once.push(first)?)
+        }
+        Position::Same => Ok(once.push(first)?),
+        Position::Behind => {
+            once.push(first)?;
+            Ok(once.push(action)?)
+        }
+    }
+}
+
+/// Where the first stands to the action.
+fn compared(first: &LocalAction, action: &LocalAction) -> Position
+    ensures { result ≡ model.position first.now action.now }
+{
+    if is_same(&first.place, &action.place) {
+        by_arms(arm_of(&first.action), arm_of(&action.action))
     } else {
-        false
+        Position::Behind
+    }
+}
+
+/// The same at one place, by the arms of both.
+fn by_arms(first: Option<u32>, action: Option<u32>) -> Position
+    ensures { result ≡ model.by_arms (model.same_arm first action) (model.arm_before first action) }
+{
+    if is_same_arm(first, action) {
+        Position::Same
+    } else if is_before(first, action) {
+        Position::Before
+    } else {
+        Position::Behind
     }
 }
 
@@ -58,6 +95,17 @@ fn is_same_arm(one: Option<u32>, other: Option<u32>) -> bool
     match (one, other) {
         (Some(one), Some(other)) => one == other,
         (None, None) => true,
+        _ => false,
+    }
+}
+
+/// Whether the one comes before the other, where none comes before all.
+fn is_before(one: Option<u32>, other: Option<u32>) -> bool
+    ensures { result ≡ model.arm_before one other }
+{
+    match (one, other) {
+        (Some(one), Some(other)) => one < other,
+        (None, Some(_)) => true,
         _ => false,
     }
 }

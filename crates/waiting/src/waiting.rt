@@ -28,7 +28,7 @@ pub struct Waiting {
     pub progress: Progress,
     /// the events that may be taken, in order
     pub ready: Items<Event>,
-    /// the actions that wait, in order of place, each once
+    /// the actions that wait, in order of place, each once; arms of one choice in their order
     pub actions: Items<LocalAction>,
     /// for each of them what has to go on before its partner can come
     pub partners: Vec<Partner>,

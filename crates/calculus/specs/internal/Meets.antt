@@ -1,5 +1,5 @@
 -- The event of a send and what meets it, from the value that is sent and the variables that are read.
--- No reader has to believe it: the proofs of `making` tie it to `made_together`, and those to `Makes` of `Events.antt`.
+-- No reader has to believe it: the proofs of `make_event` tie it to `made_together`, and those to `Makes` of `Events.antt`.
 use Rattle.std.specs.Prelude.{ℕ, ◌==◌, ◌&&◌, Bool, true, false, List, cond, Option, Some, None}
 use Rattle.value.specs.Word.{Word}
 use Rattle.runs.specs.Moves.{Place, Move, sends, receives, syncs, opens, releases}

@@ -1,5 +1,5 @@
 -- What was passed on the way along a sequence or along branches.
--- No reader has to believe it: the proofs of `left` and `offers` tie it to `put_residual` and `after`.
+-- No reader has to believe it: the proofs of `residual_tree` and `offers` tie it to `put_residual` and `after`.
 use Rattle.std.specs.Prelude.{ℕ, Bool, true, false, List, [], ◌∷◌, is_none}
 use Rattle.system.specs.Residual.{Residual, inside, beside, along}
 use Rattle.runs.specs.Moves.{Place}

@@ -1,5 +1,5 @@
 -- The parts of a place, as the code takes it apart, and whether two places are apart.
--- No reader has to believe it: `proofs/Below.antt` ties it to the answers by places of `ByPlace.antt`, and
+-- No reader has to believe it: the proofs tie it to the answers by places of `ByPlace.antt`, and
 -- `proofs/public/Made.antt` the test to `Apart`.
 use Rattle.std.specs.Prelude.{ℕ, ◌==◌, [], ◌∷◌, Bool, true, false, cond, Option, Some, None, not, ◌&&◌, ◌||◌}
 use Rattle.address.specs.declared.Entry.TheVariants.{Ordered, Branch}

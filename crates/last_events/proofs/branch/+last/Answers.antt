@@ -1,14 +1,11 @@
-use Rattle.std.proofs.Common.{◌≡◌, ◌<◌, ◌+◌, ◌-◌, List, length, map, drop, sym, ap, subst, ◌∙◌, arith}
-use Rattle.address.specs.declared.Entry.{Entry}
+use Rattle.std.proofs.Common.{◌≡◌, ◌<◌, ◌+◌, ◌-◌, List, length, drop, Some, sym, ap, subst, ◌∙◌, arith}
 use Rattle.last_events.specs.declared.branch.Seat.{Seat}
-use Rattle.last_events.specs.internal.Search.{Splits}
-use Rattle.last_events.specs.internal.Seats.{Places, ordered_of, seat_way, seat_places, flat, IsWay, IsSound, IsBranch}
+use Rattle.last_events.specs.internal.Seats.{Places, seat_places, flat, IsSound, IsBranch}
 use Rattle.last_events.specs.internal.Sizes.{entries_of}
 use Rattle.last_events.specs.internal.Walks.{Related, AddedLast}
 use Rattle.last_events.proofs.CodeLaws.{item-in, each-more, entries-dropped, entries-item, entries-fall}
 use Rattle.last_events.proofs.LastLaws.{event-last, inner-last, related-behind, related-seat, related-dropped, branch-dropped, group-last}
-use Rattle.last_events.proofs.ListLaws.{every-in, if-ok}
-use Rattle.last_events.proofs.SeatLaws.{seat-is-way}
+use Rattle.last_events.proofs.ListLaws.{every-in, get-at, if-ok}
 use Rattle.last_events.proofs.branch.+last.Goals as goal
 
 pub Seat::add_last-add_last-requires : goal.Seat::add_last-add_last-requires
@@ -48,23 +45,25 @@ add_each-loop-seat-preserved t c = record {
       c.requires.branch c.loop-seat-test.true c.seat-item.is (omega arith) c.loop-seat.invariant.added c.in_ok-add_last.ensures;
 }
 
-pub add_last_among-ordered-requires : goal.add_last_among-ordered-requires
-add_last_among-ordered-requires t c =
+pub add_last_among-count_beside-requires : goal.add_last_among-count_beside-requires
+add_last_among-count_beside-requires t c =
     let item = c.in-Some.ensures.item in
     let some : 0 < length c.args.seats.now = item.3.0 in
-    let there = item-in c.args.seats.now (length c.args.seats.now - 1) c.in-Some.last.now (omega arith) item.1 in
-    subst (λ (w : List Entry). IsWay w) (sym c.way.ensures) (seat-is-way c.in-Some.last.now (every-in IsSound c.args.seats.now c.in-Some.last.now c.requires.branch.sound there))
+    record {
+      branch = c.requires.branch;
+      last = get-at c.args.seats.now (length c.args.seats.now - 1) c.in-Some.last.now (omega arith) ∙ ap Some (sym item.1);
+    }
 
 pub add_last_among-add_each-requires : goal.add_last_among-add_each-requires
 add_last_among-add_each-requires t c =
-    let less = entries-dropped c.args.seats.now c.count_less.result in
-    let same : entries_of (flat c.split_at.result.1.now) ≡ entries_of (flat (drop c.count_less.result c.args.seats.now)) =
+    let less = entries-dropped c.args.seats.now c.count_beside.result in
+    let same : entries_of (flat c.split_at.result.1.now) ≡ entries_of (flat (drop c.count_beside.result c.args.seats.now)) =
     ap (λ (xs : List Seat). entries_of (flat xs)) c.split_at.ensures.back in (
       omega (arith, less, same, c.decreases),
       (
-        subst IsBranch (sym c.split_at.ensures.back) (branch-dropped c.args.seats.now c.count_less.result c.requires.branch),
+        subst IsBranch (sym c.split_at.ensures.back) (branch-dropped c.args.seats.now c.count_beside.result c.requires.branch),
         subst (λ (xs : List Seat). Related (flat xs)) (sym c.split_at.ensures.back)
-            (related-dropped c.args.seats.now c.count_less.result c.requires.branch c.requires.related),
+            (related-dropped c.args.seats.now c.count_beside.result c.requires.branch c.requires.related),
       ),
     )
 
@@ -73,10 +72,8 @@ add_last_among-returns t c =
     let item = c.in-Some.ensures.item in
     let some : 0 < length c.args.seats.now = item.3.0 in
     let there = item-in c.args.seats.now (length c.args.seats.now - 1) c.in-Some.last.now (omega arith) item.1 in
-    let split : Splits (map seat_way c.args.seats.now) (ordered_of (seat_way c.in-Some.last.now)) c.count_less.result =
-    subst (λ (w : List Entry). Splits (map seat_way c.args.seats.now) w c.count_less.result) (c.ordered.ensures ∙ ap ordered_of c.way.ensures) c.count_less.ensures in
     if-ok _ _ c.add_each.result
     (λ x added.
-    group-last c.args.seats.now c.in-Some.last.now c.count_less.result c.requires.branch c.requires.related there split c.args.found.now.items c.add_each.new.found.items
+    group-last c.args.seats.now c.in-Some.last.now c.count_beside.result c.requires.branch c.requires.related there c.count_beside.ensures c.args.found.now.items c.add_each.new.found.items
     (subst (λ (xs : List Seat). AddedLast (flat xs) c.args.found.now.items c.add_each.new.found.items) c.split_at.ensures.back added))
     c.add_each.ensures

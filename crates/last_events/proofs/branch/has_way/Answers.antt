@@ -1,6 +1,4 @@
 use Rattle.std.proofs.Common.{◌<◌, ◌≤◌, length, sym, ◌∙◌, true≢false, arith}
-use Rattle.std.proofs.lemmas.Slice.Eq.{slice_eq-Decides}
-use Rattle.address.proofs.public.Entries.{entry_eq-Decides}
 use Rattle.last_events.proofs.SeatLaws.{has-at, has-is, has-within}
 use Rattle.last_events.proofs.branch.has_way.Goals as goal
 
@@ -8,13 +6,13 @@ pub returns-in-Some-clause-yes : goal.returns-in-Some-clause-yes
 returns-in-Some-clause-yes c = λ holds.
     let seat = c.in-Some.ensures.lookup in
     has-at c.args.seats.now c.args.index c.in-Some.seat.now c.args.way.now seat.3.0 seat.1
-    (sym c.way.ensures ∙ (slice_eq-Decides entry_eq-Decides c.way.result.now c.args.way.now c.eq.result c.eq.ensures).0 holds)
+    (sym c.way.ensures ∙ c.is_same.ensures.0 holds)
 
 pub returns-in-Some-clause-no : goal.returns-in-Some-clause-no
 returns-in-Some-clause-no c = λ fails there.
     let seat = c.in-Some.ensures.lookup in
     true≢false
-    (sym ((slice_eq-Decides entry_eq-Decides c.way.result.now c.args.way.now c.eq.result c.eq.ensures).1
+    (sym (c.is_same.ensures.1
     (c.way.ensures ∙ has-is c.args.seats.now c.args.index c.in-Some.seat.now c.args.way.now seat.3.0 seat.1 there)) ∙ fails)
 
 pub returns-in-None-clause-no : goal.returns-in-None-clause-no

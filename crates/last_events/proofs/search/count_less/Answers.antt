@@ -1,4 +1,4 @@
-use Rattle.std.proofs.Common.{◌≡◌, ◌<◌, ◌-◌, ◌∙◌, length, map, refl, sym, eqb-true, arith}
+use Rattle.std.proofs.Common.{◌<◌, ◌-◌, ◌∙◌, length, map, refl, sym, eqb-true, arith}
 use Rattle.last_events.proofs.SearchLaws.{split-all, split-last, split-none, length-places}
 use Rattle.last_events.proofs.search.count_less.Goals as goal
 

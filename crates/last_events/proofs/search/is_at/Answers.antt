@@ -1,6 +1,4 @@
-use Rattle.std.proofs.Common.{◌≡◌, ◌<◌, length, map, List, Some, slice_get, sym, ◌∙◌, ap, arith}
-use Rattle.std.proofs.lemmas.Slice.Eq.{slice_eq-Decides}
-use Rattle.address.proofs.public.Entries.{entry_eq-Decides}
+use Rattle.std.proofs.Common.{◌≡◌, ◌<◌, length, map, List, Some, slice_get, ◌∙◌, ap, arith}
 use Rattle.address.specs.declared.Entry.{Entry}
 use Rattle.last_events.proofs.SearchLaws.{split-at, place-read, length-places}
 use Rattle.last_events.proofs.search.is_at.Goals as goal
@@ -12,6 +10,6 @@ returns g c = λ holds.
     let at : slice_get (map g.T.Placed.place c.args.seats.now) c.args.index ≡ Some c.place-seat.result.now =
     place-read g.T.Placed.place c.args.seats.now c.args.index c.index-seats-index.result c.place-seat.result.now within c.index-seats-index.is c.place-seat.ensures in
     let same : c.place-seat.result.now ≡ c.args.place.now =
-    (slice_eq-Decides entry_eq-Decides c.place-seat.result.now c.args.place.now c.eq.result c.eq.ensures).0 holds in
+    c.is_same.ensures.0 holds in
     split-at (map g.T.Placed.place c.args.seats.now) c.args.place.now c.args.index c.requires (omega arith)
     (at ∙ ap (λ (p : List Entry). Some p) same)

@@ -4,5 +4,5 @@ use Rattle.local_actions.proofs.at_place.actions_below.Goals as goal
 
 pub returns : goal.returns
 returns c = λ t.
-    offered-below c.args.store.now c.as_slice.result.now (tree_view c.args.tree.now) (proc_view c.root.result.now) c.new-cursor.result c.list_down.new.cursor c.args.place.now
-    c.into_found.result c.those_below.result t c.new-cursor.ensures c.in_ok-list_down.ensures c.as_slice.ensures c.root.ensures c.into_found.ensures c.those_below.ensures
+    offered-below c.args.store.now c.as_slice.result.now (tree_view c.args.tree.now) (proc_view c.root.result.now) c.in_ok-cursor.cursor c.list_down.new.cursor c.args.place.now
+    c.into_found.result c.those_below.result t c.in_ok-cursor.ensures c.in_ok-list_down.ensures c.as_slice.ensures c.root.ensures c.into_found.ensures c.those_below.ensures

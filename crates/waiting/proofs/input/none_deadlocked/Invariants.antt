@@ -3,5 +3,6 @@ use Rattle.waiting.specs.Input.{none_deadlocked}
 use Rattle.waiting.proofs.input.none_deadlocked.Given as goal
 
 -- of those that are left the same holds
-abbrev pub invariant-loop-mark : goal.invariant-loop-mark
-invariant-loop-mark l = none_deadlocked (drop l.mark-index l.marks) ≡ none_deadlocked l.marks
+abbrev pub invariant-loop-index : goal.invariant-loop-index
+invariant-loop-index l =
+    none_deadlocked l.machine l.marks l.index (drop l.index l.actions) ≡ none_deadlocked l.machine l.marks 0 l.actions

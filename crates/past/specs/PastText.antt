@@ -1,0 +1,153 @@
+-- The text of the past of an event, a line for each event that is told.
+use Rattle.std.specs.Prelude.{◌==◌, ℕ, ◌+◌, List, [], ◌∷◌, ◌++◌, Bool, true, false, Option, None, Some, codes, cond, length, replicate, reverse, slice_get, slice_set}
+use Rattle.std.specs.Fmt.{decimal}
+use Rattle.std.specs.List.{flat_map}
+use Rattle.value.specs.Word.{Word}
+use Rattle.system.specs.Named.{channel_name_at, variable_name_at}
+use Rattle.system.specs.declared.system.System.{System}
+use Rattle.runs.specs.Events.{acting}
+use Rattle.runs.specs.Live.{Live, events}
+use Rattle.runs.specs.declared.event.Event.{Event}
+use Rattle.runs.specs.declared.event.Kind.{Kind}
+use Rattle.runs.specs.declared.event.Kind.TheVariants.{Assign, Test, Turn, Meet, Open, Close, Sync}
+use Rattle.event_places.specs.EventPlaces.{line_after}
+use Rattle.past.specs.declared.past.Past.{Past}
+use Rattle.past.specs.declared.past.PastEvent.{PastEvent}
+
+-- the end of a line
+abbrev pub ending : List ℕ
+ending = 10 ∷ []
+
+-- ---- names and values
+
+-- a name behind a space, `?` where there is none
+abbrev pub name_text : Option (List ℕ) → List ℕ
+name_text None = codes " ?"
+name_text (Some name) = codes " " ++ name
+
+abbrev pub variable_text : System → Option ℕ → List ℕ
+variable_text system None = codes " ?"
+variable_text system (Some x) = name_text (variable_name_at system.variables x)
+
+abbrev pub channel_text : System → Option ℕ → List ℕ
+channel_text system None = codes " ?"
+channel_text system (Some c) = name_text (channel_name_at system.channels c)
+
+-- a value, `-` where none was written
+abbrev pub value_text : Option Word → List ℕ
+value_text None = codes " -"
+value_text (Some v) = codes " " ++ decimal v.bits
+
+-- a value that a channel carried, if it carried one
+abbrev pub carried_text : Option Word → List ℕ
+carried_text None = []
+carried_text (Some v) = codes " carries" ++ value_text (Some v)
+
+abbrev pub arm_text : Option ℕ → List ℕ
+arm_text None = codes " none"
+arm_text (Some k) = codes " arm " ++ decimal k
+
+-- ---- what an event did
+
+-- where a value went that was received
+abbrev pub into_text : System → Option ℕ → List ℕ
+into_text system None = []
+into_text system (Some x) = codes " into" ++ variable_text system (Some x)
+
+abbrev pub deed_by : System → Kind → Event → List ℕ
+deed_by system Assign e = variable_text system e.written ++ codes " :=" ++ value_text e.value
+deed_by system Test e = codes " test takes" ++ arm_text e.arm
+deed_by system Turn e = codes " turn"
+deed_by system Meet e = channel_text system e.channel ++ carried_text e.value ++ into_text system e.written
+deed_by system Open e = channel_text system e.channel ++ carried_text e.value ++ codes " opens" ++ arm_text e.arm
+deed_by system Close e = channel_text system e.channel ++ codes " closes"
+deed_by system Sync e = channel_text system e.channel ++ codes " syncs"
+
+abbrev pub deed_text : System → Event → List ℕ
+deed_text system e = deed_by system e.kind e
+
+-- ---- what it read
+
+-- the value of each variable, by their numbers
+abbrev pub Values : Type 0
+Values = List ℕ
+
+abbrev pub zeros : System → Values
+zeros system = replicate (length system.variables) 0
+
+-- the values after one was written
+abbrev pub noted_at : Option ℕ → Option Word → Values → Values
+noted_at (Some x) (Some v) values = slice_set values x v.bits
+noted_at (Some x) None values = values
+noted_at None v values = values
+
+abbrev pub noted : Event → Values → Values
+noted e values = noted_at e.written e.value values
+
+abbrev pub held_text : Option ℕ → List ℕ
+held_text None = codes " ?"
+held_text (Some bits) = codes " " ++ decimal bits
+
+-- a variable, and its value
+abbrev pub read_text : System → Values → ℕ → List ℕ
+read_text system values x = variable_text system (Some x) ++ held_text (slice_get values x)
+
+-- nothing where it read none
+abbrev pub reads_text : System → Values → List ℕ → List ℕ
+reads_text system values [] = []
+reads_text system values (x ∷ xs) = codes ", reads" ++ flat_map (read_text system values) (x ∷ xs)
+
+-- ---- what it followed, from tickets that fall
+
+abbrev pub ticket_text : ℕ → List ℕ
+ticket_text t = codes " " ++ decimal t
+
+abbrev pub follows_text : List ℕ → List ℕ
+follows_text [] = []
+follows_text (t ∷ ts) = codes ", after" ++ flat_map ticket_text (reverse (t ∷ ts))
+
+-- ---- all of it
+
+-- where an event stands in the source
+abbrev pub line_text : Option ℕ → List ℕ
+line_text None = codes " environment:"
+line_text (Some line) = codes " line " ++ decimal line ++ codes ":"
+
+-- a line: the ticket, the line in the source, what it did, what it read with the values then, and what it followed
+abbrev pub event_line : System → Live → Event → PastEvent → Values → List ℕ
+event_line system live e told values =
+    codes "  " ++ decimal told.ticket ++ line_text (line_after (events live) system (acting e)) ++ deed_text system e
+    ++ reads_text system values e.read ++ follows_text told.follows ++ ending
+
+-- whether it is the one of this ticket
+abbrev pub is_told_at : Option PastEvent → ℕ → Bool
+is_told_at None t = false
+is_told_at (Some told) t = told.ticket == t
+
+abbrev pub line_if : System → Live → ℕ × Event → Option PastEvent → Values → List ℕ
+line_if system live x None values = []
+line_if system live x (Some told) values = cond (told.ticket == x.0) (event_line system live x.1 told values) []
+
+-- the number of the one that is told next
+abbrev pub next_told : Bool → ℕ → ℕ
+next_told true n = n + 1
+next_told false n = n
+
+-- these events of `live`, of which those that are told from number n on have a line each
+abbrev pub past_lines : System → Live → List PastEvent → ℕ → Values → Live → List ℕ
+past_lines system live told n values [] = []
+past_lines system live told n values (x ∷ l) =
+    line_if system live x (slice_get told n) values
+    ++ past_lines system live told (next_told (is_told_at (slice_get told n) x.0) n) (noted x.1 values) l
+
+-- how many are left out
+abbrev pub more_left_out : ℕ → List ℕ
+more_left_out n = decimal n ++ codes " steps without a value left out: --all" ++ ending
+
+abbrev pub left_out_line : ℕ → List ℕ
+left_out_line n =
+    cond (n == 0) [] (cond (n == 1) (codes "1 step without a value left out: --all" ++ ending) (more_left_out n))
+
+abbrev pub past_text : System → Live → Past → List ℕ
+past_text system live past =
+    past_lines system live past.events 0 (zeros system) live ++ left_out_line past.left_out
