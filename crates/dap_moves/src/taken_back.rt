@@ -127,6 +127,8 @@ fn roll_newest(
         return Rolled::Ended(Rewound::AtBeginning);
     };
     if let Some(why) = undo_or_roll(desk, ticket) {
+        // It was not taken back, so the run does not stand before it.
+        kept.clear();
         return Rolled::Ended(Rewound::Refused(why));
     }
     match stop {

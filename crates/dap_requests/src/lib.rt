@@ -7,6 +7,7 @@ mod completion;
 mod console;
 mod moves;
 mod said;
+mod still;
 mod watches;
 
 pub use breakpoints::{
