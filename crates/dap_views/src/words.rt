@@ -31,8 +31,8 @@ impl Words {
         let _ = self.text.push_str(text);
     }
 
-    /// Adds a number in decimal, from 0 to 2^64 - 1, without zeros before it. What it counts, and whether from 0 or from
-    /// 1, is what the caller says: a line is shown as the client counts lines, a value by its bits.
+    /// Adds a number in decimal, from 0 to 2^64 - 1, without zeros before it. What it counts, and whether from 0 or
+    /// from 1, the caller says.
     pub fn number(&mut self, number: u64) {
         let _ = write!(self.text, "{number}");
     }
