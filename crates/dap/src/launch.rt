@@ -9,7 +9,8 @@ use crate::sources::Sources;
 use dap_messages::{Answer, Members, Told, field, number_in, text_in};
 use dap_moves::{Desk, Machine};
 use dap_requests::tell;
-use dap_views::{Counting, Index, Launch, Lines, Program, Words, base_of, own_name};
+use dap_views::{Counting, Index, Launch, Lines, Program, Words, base_of, is_rooted, own_name};
+use diagnosis::{Input, Inputs, explain};
 use front_end::accept;
 use refusal_pages::page_of;
 use serde_json::Value;
@@ -242,9 +243,7 @@ fn launch_of(alloc: Global, arguments: &Value, answer: &mut Answer) -> Result<La
         stimulus: whole_of(alloc, folder, text_in(arguments, "stimulus"))?,
         trace: whole_of(alloc, folder, text_in(arguments, "trace"))?,
         stops: flag_in(arguments, "stopOnEntry", true),
-        most: number_in(arguments, "maxSteps")
-            .unwrap_or(MOST_STEPS)
-            .max(1),
+        most: number_in(arguments, "maxSteps").unwrap_or(MOST_STEPS),
         free: flag_in(arguments, "noDebug", false),
         program: whole(alloc, folder, program)?,
     })
@@ -258,7 +257,7 @@ fn refuse_type(alloc: Global, wrong: (&str, Wanted), answer: &mut Answer) {
     words.add(match wanted {
         Wanted::Text => "` is no text",
         Wanted::Flag => "` is neither true nor false",
-        Wanted::Number => "` is no whole number from 0 on",
+        Wanted::Number => "` is no whole number from 1 on",
     });
     answer.refuse(104, words.as_str());
 }
@@ -299,14 +298,22 @@ fn is_wanted(value: &Value, wanted: Wanted) -> bool {
     match wanted {
         Wanted::Text => value.as_str().is_some(),
         Wanted::Flag => value.as_bool().is_some(),
-        Wanted::Number => value.as_u64().is_some(),
+        Wanted::Number => is_positive(value.as_u64()),
     }
 }
 
-/// The path of a file of this name: one that does not begin with `/` counts from the folder. Where no folder is named
+/// Whether it is a number from 1 on.
+fn is_positive(number: Option<u64>) -> bool {
+    match number {
+        Some(number) => number > 0,
+        None => false,
+    }
+}
+
+/// The path of a file of this name: one that does not begin at a root counts from the folder. Where no folder is named
 /// that is the one in which the adapter was started.
 fn whole(alloc: Global, folder: &str, name: &str) -> Result<String, AllocError> {
-    if name.starts_with('/') || folder.is_empty() {
+    if is_rooted(name) || folder.is_empty() {
         return String::from_str(alloc, name);
     }
     let mut path = String::from_str(alloc, folder.trim_end_matches('/'))?;
@@ -396,6 +403,8 @@ fn checked(
         Err(front_end::Fault::Memory) => Err(Failed::Memory),
         Err(fault) => {
             refuse_texts(alloc, asked, source, fault, counting, answer);
+            let place = (fault.number(), fault.field());
+            tell_words(alloc, asked, place, source, Some(stimulus), None, answer);
             Err(Failed::Told)
         }
     }
@@ -497,7 +506,7 @@ fn loaded(
 {
     match load_text(alloc, checked, trace) {
         Ok(machine) => Ok(machine),
-        Err(fault) => Err(refuse_trace(alloc, asked, fault, answer)),
+        Err(fault) => Err(refuse_trace(alloc, asked, fault, trace, answer)),
     }
 }
 
@@ -516,6 +525,7 @@ fn refuse_trace(
     alloc: Global,
     asked: &Launch,
     fault: trace_file::Fault,
+    trace: &[u8],
     answer: &mut Answer,
 ) -> Failed {
     if fault == trace_file::Fault::Memory {
@@ -527,7 +537,53 @@ fn refuse_trace(
     };
     let line = fault.field().unwrap_or(1);
     refuse_at(alloc, name, line, 1, fault.number(), ONES, answer);
+    let place = (fault.number(), fault.field());
+    tell_words(alloc, asked, place, &[], None, Some(trace), answer);
     Failed::Told
+}
+
+/// Tells what `--explain` tells of a fault of this number and field in these texts, where there is memory for it.
+fn tell_words(
+    alloc: Global,
+    asked: &Launch,
+    place: (u32, Option<u64>),
+    source: &[u8],
+    stimulus: Option<&[u8]>,
+    trace: Option<&[u8]>,
+    answer: &mut Answer,
+) {
+    let (number, field) = place;
+    let inputs = Inputs {
+        source: Input {
+            name: base_of(asked.program.as_str()),
+            bytes: source,
+        },
+        stimulus: input_of(&asked.stimulus, "the stimulus beside it", stimulus),
+        trace: input_of(&asked.trace, "the trace", trace),
+        script: None,
+        unread: None,
+    };
+    if let Ok(words) = explain(alloc, number, field, &inputs) {
+        if !words.is_empty() {
+            tell(alloc, words.as_str().trim_ascii_end(), "stderr", answer);
+        }
+    }
+}
+
+/// A text with the name of its file, where it is at hand.
+fn input_of<'a>(
+    name: &'a Option<String>,
+    otherwise: &'static str,
+    bytes: Option<&'a [u8]>,
+) -> Option<Input<'a>> {
+    let name = match name {
+        Some(name) => base_of(name.as_str()),
+        None => otherwise,
+    };
+    Some(Input {
+        name,
+        bytes: bytes?,
+    })
 }
 
 /// Refuses with the place of the fault, and tells it with a link to that place.

@@ -8,7 +8,7 @@ use crate::launch::{Launched, start};
 use crate::sources::Sources;
 use dap_messages::{Answer, Members, Request, field};
 use dap_requests::{Placing, place_again, tell_changed};
-use dap_views::{Launch, Program};
+use dap_views::{Launch, Program, is_same_file};
 use std::alloc::Global;
 use std::mem;
 
@@ -123,7 +123,7 @@ fn keep_settings(old: Program, program: &mut Program) {
         free: _free,
     } = launch;
     let file = elsewhere.unwrap_or(own);
-    if file.as_str() != program.launch.program.as_str() {
+    if !is_same_file(file.as_str(), program.launch.program.as_str()) {
         program.elsewhere = Some(file);
     }
     program.excepts = excepts;

@@ -17,7 +17,7 @@ use system_places::branch_at;
 pub enum Rewound {
     /// no step is left that it could take back
     AtBeginning,
-    /// the step that was taken back last has a side in this branch on this line, which has a breakpoint
+    /// the step that was taken back last has an action in this branch on this line, which has a breakpoint
     AtLine(u32, u64),
     /// the step that was taken back last, of this ticket, which is watched, acted in this branch
     Watched(u32, u64),
@@ -127,6 +127,8 @@ fn roll_newest(
         return Rolled::Ended(Rewound::AtBeginning);
     };
     if let Some(why) = undo_or_roll(desk, ticket) {
+        // It was not taken back, so the run does not stand before it.
+        kept.clear();
         return Rolled::Ended(Rewound::Refused(why));
     }
     match stop {
@@ -201,7 +203,7 @@ fn stop_at(
         let branch = branch_at(machine.checked().system(), event.acting_place());
         return Some(Rewound::Watched(branch.unwrap_or(0), ticket));
     }
-    let (side, line) = line_among(machine, marks.lines, event)?;
+    let (at, line) = line_among(machine, marks.lines, event)?;
     keep(alloc, kept, event);
-    Some(Rewound::AtLine(side, line))
+    Some(Rewound::AtLine(at, line))
 }

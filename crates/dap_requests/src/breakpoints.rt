@@ -3,7 +3,7 @@ ghost use Rattle.dap_requests.specs.Stands.{StandsOn};
 
 use dap_messages::{Answer, Listed, Members, Request, Told, number_in, text_in};
 use dap_moves::{Machine, first_stop, stop_lines};
-use dap_views::{Asked, Program, Words, base_of};
+use dap_views::{Asked, Program, Words, base_of, is_same_file};
 use serde_json::Value;
 use std::alloc::Global;
 
@@ -113,7 +113,7 @@ fn path_in(request: &Request) -> &str {
 /// Whether the breakpoints were asked for in this file, and another is debugged.
 fn is_elsewhere(program: &Program, path: &str) -> bool {
     match &program.elsewhere {
-        Some(file) => file.as_str() == path,
+        Some(file) => is_same_file(file.as_str(), path),
         None => false,
     }
 }
@@ -190,7 +190,7 @@ pub fn place_again(
         Some(file) => file.as_str(),
         None => before.launch.program.as_str(),
     };
-    let own = file == program.launch.program.as_str();
+    let own = is_same_file(file, program.launch.program.as_str());
     place_all(alloc, machine, program, before.asked.as_slice(), own)
 }
 

@@ -3,8 +3,9 @@ ghost use Rattle.std.specs.Prelude.{◌≡◌, true};
 ghost use Rattle.dap_moves.specs.Led.{Led};
 ghost use Rattle.dap_requests.specs.Reading.{reads};
 
+use crate::hints::add_in_place;
 use crate::moves::{back_in, reverse_in};
-use crate::said::{stop, tell};
+use crate::said::{stop, tell, words_of};
 use dap_messages::{Answer, Members, Request};
 use dap_moves::{Command, Desk, Machine, Reply};
 use dap_threads::{channel_words, frame_in};
@@ -14,6 +15,7 @@ use line_text::{
     add_refusal, add_valued, cut_at_space, read_branch, read_choice, read_ticket, read_variable,
     variable_field,
 };
+use runs::Event;
 use source_view::view;
 use std::alloc::{AllocError, Global};
 use std::str;
@@ -276,11 +278,12 @@ fn view_bytes(alloc: Global, desk: &Desk, program: &Program) -> Result<Vec<u8>, 
     )
 }
 
-/// Refuses what is no variable, no channel and no line.
+/// Refuses what is no variable, no channel and no line, and tells what serves in its place, where that is known.
 fn no_line(alloc: Global, line: &str, answer: &mut Answer) {
     let mut words = Words::of(alloc, "`");
     words.add(line);
     words.add("` is no variable, no channel, and no line that is answered here");
+    add_in_place(line, &mut words);
     answer.refuse(61, words.as_str());
 }
 
@@ -337,7 +340,7 @@ fn asked(desk: &mut Desk, command: &Command) -> Reply
     desk.perform(0, command)
 }
 
-/// Answers as a script is answered.
+/// Answers as a script is answered, and says in words what the numbers mean.
 fn show_reply(
     alloc: Global,
     machine: &Machine,
@@ -345,8 +348,51 @@ fn show_reply(
     reply: &Reply,
     answer: &mut Answer,
 ) {
-    let bytes = reply_bytes(alloc, machine.checked().system(), command, reply);
+    let system = machine.checked().system();
+    let meaning = meaning_of(alloc, machine, reply);
+    let bytes = reply_bytes(alloc, system, command, reply, meaning.as_str());
     show(alloc, bytes, answer);
+}
+
+/// What a reply means, in words; nothing where it says so itself.
+fn meaning_of(alloc: Global, machine: &Machine, reply: &Reply) -> Words {
+    match reply {
+        Reply::Refused(why) => Words::of(alloc, words_of(*why)),
+        Reply::Stepped(_, event) => event_words(alloc, machine, event),
+        Reply::Undone(_, event) => taken_back(alloc, machine, event),
+        Reply::Rolled(count) => counted(alloc, *count),
+        Reply::Blamed(ticket) => live_words(alloc, machine, *ticket),
+        Reply::Stopped(_) => Words::of(alloc, "a breakpoint of the console stops the branch there"),
+        Reply::Idle => Words::of(alloc, "the branch has no step"),
+        _ => Words::new(alloc),
+    }
+}
+
+/// The event in words, which was taken back.
+fn taken_back(alloc: Global, machine: &Machine, event: &Event) -> Words {
+    let mut words = Words::of(alloc, "taken back: ");
+    words.add(event_words(alloc, machine, event).as_str());
+    words
+}
+
+/// That so many steps were taken back.
+fn counted(alloc: Global, count: u64) -> Words {
+    let mut words = Words::of(alloc, "took back ");
+    words.number(count);
+    words.add(if count == 1 { " step" } else { " steps" });
+    words
+}
+
+/// The live step of this ticket in words.
+fn live_words(alloc: Global, machine: &Machine, ticket: u64) -> Words {
+    let live = machine.live_events();
+    match live.index_of(ticket) {
+        Some(index) => match live.pair_at(index as u64) {
+            Some((_, event)) => event_words(alloc, machine, event),
+            None => Words::new(alloc),
+        },
+        None => Words::new(alloc),
+    }
 }
 
 /// Asks the desk where the command changes nothing.
@@ -450,15 +496,20 @@ fn bare(rest: &[u8], command: Command) -> Option<Command> {
     if rest.is_empty() { Some(command) } else { None }
 }
 
-/// The bytes with which a script is answered where this is the reply to the command.
+/// The bytes with which a script is answered where this is the reply to the command, and a line of what it means.
 fn reply_bytes(
     alloc: Global,
     system: &System,
     command: &Command,
     reply: &Reply,
+    meaning: &str,
 ) -> Result<Vec<u8>, AllocError> {
     let mut out = Vec::new(alloc);
     add_reply(&mut out, system, command, reply)?;
+    if !meaning.is_empty() {
+        out.extend_from_slice(b"  ")?;
+        out.extend_from_slice(meaning.as_bytes())?;
+    }
     Ok(out)
 }
 

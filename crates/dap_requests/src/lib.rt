@@ -5,8 +5,10 @@ mod breakpoints;
 mod choices;
 mod completion;
 mod console;
+mod hints;
 mod moves;
 mod said;
+mod still;
 mod watches;
 
 pub use breakpoints::{

@@ -9,6 +9,7 @@ ghost use Rattle.dap_requests.specs.Forth.{ForthBy, IsTarget, RunsBy, StepsForth
 ghost use Rattle.dap_requests.specs.Said.{Runs, TellsOutputs, TellsStop};
 
 use crate::said::{stop, stop_at_line, tell, tell_outputs, tell_refused, tell_step, words_of};
+use crate::still::nothing_words;
 use dap_messages::{Answer, Kind, Members, Request};
 use dap_moves::{
     Back, Desk, Ended, Machine, Marks, Plan, Reply, Rewound, go_on, rewind, rewind_branch, step_at,
@@ -404,27 +405,6 @@ fn stop_after_most(alloc: Global, program: &Program, answer: &mut Answer, branch
         " steps"
     });
     stop(alloc, answer, "pause", branch, words.as_str());
-}
-
-/// Tells that nothing can go on.
-fn nothing_words(alloc: Global, machine: &Machine, only: Option<u32>) -> Words {
-    let live = machine.live_events().len();
-    let mut words = Words::of(
-        alloc,
-        if only.is_some() {
-            "This thread cannot go on"
-        } else {
-            "Nothing can go on"
-        },
-    );
-    words.add(", ");
-    words.number(live as u64);
-    words.add(if live == 1 {
-        " step is live"
-    } else {
-        " steps are live"
-    });
-    words
 }
 
 /// Tells that a step was taken that is watched.

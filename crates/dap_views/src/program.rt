@@ -1,6 +1,7 @@
 // What is launched.
 use crate::index::Index;
 use crate::lines::Lines;
+use crate::paths::{base_of, is_same_file};
 use crate::sight::Sight;
 use dap_messages::Members;
 use dap_moves::Watched;
@@ -76,17 +77,10 @@ pub struct Program {
 }
 
 impl Program {
-    /// Whether a client means this program by the path. Where it was launched by a name that does not begin with `/`,
-    /// it does so by each path that ends in that.
+    /// Whether a client means this program by the path. Where it was launched by a name that counts from a folder, it
+    /// does so by each path that ends in that.
     pub fn is_at(&self, path: &str) -> bool {
-        let program = self.launch.program.as_str();
-        if program.starts_with('/') {
-            return path == program;
-        }
-        match path.strip_suffix(own_name(program)) {
-            Some(folder) => folder.is_empty() || folder.ends_with('/'),
-            None => false,
-        }
+        is_same_file(self.launch.program.as_str(), path)
     }
 
     /// Adds the file.
@@ -114,18 +108,5 @@ impl Program {
     /// The line that the client means, from 1.
     pub fn meant_line(&self, line: u64) -> u64 {
         line.saturating_add(self.counting.lines)
-    }
-}
-
-/// The name of a file that counts from a folder, without the sign for that folder.
-pub fn own_name(name: &str) -> &str {
-    name.strip_prefix("./").unwrap_or(name)
-}
-
-/// The name of a file without the folders before it.
-pub fn base_of(path: &str) -> &str {
-    match path.rsplit_once('/') {
-        Some((_, base)) => base,
-        None => path,
     }
 }

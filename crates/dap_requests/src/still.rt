@@ -1,0 +1,50 @@
+// Why nothing goes on, in words.
+use dap_moves::Machine;
+use dap_views::Words;
+use std::alloc::Global;
+use waiting::{Progress, Waiting, who_waits};
+
+/// Tells that nothing can go on, and why: all is done, the stimulus is used up, or a deadlock.
+pub(crate) fn nothing_words(alloc: Global, machine: &Machine, only: Option<u32>) -> Words {
+    let mut words = match only {
+        Some(_) => Words::of(alloc, "This thread cannot go on"),
+        None => end_words(alloc, machine),
+    };
+    add_live_count(machine, &mut words);
+    words
+}
+
+/// Adds how many steps are live.
+fn add_live_count(machine: &Machine, words: &mut Words) {
+    let live = machine.live_events().len();
+    words.add(", ");
+    words.number(live as u64);
+    words.add(if live == 1 {
+        " step is live"
+    } else {
+        " steps are live"
+    });
+}
+
+/// How a run stands of which nothing can go on.
+fn end_words(alloc: Global, machine: &Machine) -> Words {
+    match who_waits(alloc, machine) {
+        Ok(waiting) => Words::of(alloc, end_text(machine, &waiting)),
+        Err(_) => Words::of(alloc, "Nothing can go on"),
+    }
+}
+
+/// The same, where it is known who waits.
+fn end_text(machine: &Machine, waiting: &Waiting) -> &'static str {
+    match waiting.progress {
+        Progress::GoesOn => "Nothing can go on",
+        Progress::Done => "All is done",
+        Progress::Stuck if !waiting.ring.is_empty() => {
+            "Nothing can go on: a deadlock, where each waits for the next"
+        }
+        Progress::Stuck if waiting.lacks_input(machine) => {
+            "Nothing can go on: the stimulus is used up"
+        }
+        Progress::Stuck => "Nothing can go on: who waits, waits for what never comes",
+    }
+}
