@@ -75,7 +75,7 @@ const LINES: [(&[u8], &[u8], &[u8]); 29] = [
     (
         b"break x\n",
         b"",
-        b"  it is written `break LINE`, as `break 7`; it sets a breakpoint on a line\n",
+        b"  that does not fit behind `break`: write `break LINE`, as `break 7`; it sets a breakpoint on a line\n",
     ),
     (
         b"save old\n",
