@@ -543,13 +543,13 @@ fn refuse_trace(
 }
 
 /// Tells what `--explain` tells of a fault of this number and field in these texts, where there is memory for it.
-fn tell_words(
+fn tell_words<'a>(
     alloc: Global,
-    asked: &Launch,
+    asked: &'a Launch,
     place: (u32, Option<u64>),
-    source: &[u8],
-    stimulus: Option<&[u8]>,
-    trace: Option<&[u8]>,
+    source: &'a [u8],
+    stimulus: Option<&'a [u8]>,
+    trace: Option<&'a [u8]>,
     answer: &mut Answer,
 ) {
     let (number, field) = place;
