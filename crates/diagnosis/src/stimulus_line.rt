@@ -1,7 +1,7 @@
 // Refusal 51: a line of the stimulus.
 use crate::fields::{Field, fields_of, find_blemish, number_fault, point};
 use findings::{Finding, Nearest, short, text_between, text_of};
-use name_faults::kind_text;
+use name_faults::{greatest, kind_text};
 use std::alloc::AllocError;
 use std::str;
 use syntax::{Description, Span};
@@ -258,14 +258,6 @@ fn find_values(
     }
     finding.say(&["this line fits no port"])?;
     finding.advise(&[FORM])
-}
-
-/// The greatest value of a width.
-fn greatest(width: u64) -> u64 {
-    if width >= 64 {
-        return u64::MAX;
-    }
-    1_u64.checked_shl(width as u32).unwrap_or(0).wrapping_sub(1)
 }
 
 /// A value that its port does not take.
