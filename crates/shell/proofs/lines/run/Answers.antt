@@ -1,7 +1,10 @@
-use Rattle.std.proofs.Common.{inr, subst}
+use Rattle.std.proofs.Common.{inr, subst, sym}
+use Rattle.std.specs.Option.{option_copied}
 use Rattle.std.specs.Io.Buffered.{reader_remaining}
+use Rattle.devices.specs.Counting.{failures}
 use Rattle.shell.specs.Taken.{EndsAt}
 use Rattle.shell_desk.specs.AtBench.{AtBench}
+use Rattle.shell.proofs.BeginLemmas.{begin-reads, begin-writes}
 use Rattle.shell.proofs.lines.run.Goals as goal
 
 pub returns-in-Ok-clause-ends : goal.returns-in-Ok-clause-ends
@@ -17,3 +20,15 @@ returns-in-Ok-clause-ends g c = inr (
     c.is_sound.ensures,
   ),
 )
+
+pub returns-in-Err-clause-read_failures : goal.returns-in-Err-clause-read_failures
+returns-in-Err-clause-read_failures g c =
+    sym
+    (begin-reads c.args.texts.source.now c.args.texts.stimulus.now (option_copied c.args.texts.trace) c.in-Err.fault
+    (failures c.args.reader.now) c.in-Err.ensures)
+
+pub returns-in-Err-clause-write_failures : goal.returns-in-Err-clause-write_failures
+returns-in-Err-clause-write_failures g c =
+    sym
+    (begin-writes c.args.texts.source.now c.args.texts.stimulus.now (option_copied c.args.texts.trace) c.in-Err.fault
+    (failures c.args.out.now) c.in-Err.ensures)
