@@ -15,6 +15,7 @@ use picture_text::{data_text, page_text};
 use picture_waves::waves_text;
 use sharing_check::Checked;
 use std::alloc::{AllocError, Global};
+use std::io::Write;
 use trace_file::{Fault, load_text};
 use typed_source::typed_source;
 
