@@ -239,7 +239,7 @@ awake-leaves session count (suc left) k b b' b'' asleep asleep' reply same (inr 
     asked-then session b m b'' (Command.Branch k) r same asked
     (by-cases ((reply ≡ r) × (b' ≡ m) × (asleep' ≡ s)) (AwakeInTurn count m s left (next_of count k) reply b' asleep')
     (is_busy r) next
-    (λ done. unmoved session m b' b'' done.1.0 (asked.1 ∙ same) rest)
+    (λ done. unmoved session m b' b'' done.1 (asked.1 ∙ same) rest)
     (λ more. awake-leaves session count left (next_of count k) m b' b'' s asleep' reply (asked.1 ∙ same) more rest))
 
 -- the steps of a run where some sleep
