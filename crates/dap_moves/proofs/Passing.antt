@@ -35,7 +35,7 @@ here_in (y ∷ xs) (suc i) x h is = inr (here_in xs i x (omega arith) is)
 pub seen_here : (seen : List Choice) (i : ℕ) (x c : Choice) → i < length seen → x ≡ get_or seen i x → x ≡ c → In c seen
 seen_here seen i x c h is same = subst (λ (y : Choice). In y seen) same (here_in seen i x h is)
 
--- the side that acts is the first or the second
+-- the action that acts is the first or the second
 acts-at : (k : Kind) (a : Place) (b : Option Place) → (acting_at k a b ≡ a) ⊎ (b ≡ Some (acting_at k a b))
 acts-at Kind.Meet a (Some b) = inr refl
 acts-at Kind.Meet a None = inl refl
@@ -48,8 +48,8 @@ acts-at Kind.Test a b = inl refl
 acts-at Kind.Turn a b = inl refl
 acts-at Kind.Sync a b = inl refl
 
-pub acting_side : (e : Event) → (acting e ≡ e.first) ⊎ (e.second ≡ Some (acting e))
-acting_side e = acts-at e.kind e.first e.second
+pub acting_is_action : (e : Event) → (acting e ≡ e.first) ⊎ (e.second ≡ Some (acting e))
+acting_is_action e = acts-at e.kind e.first e.second
 
 -- no line is among none
 none-among : (o : Option ℕ) → has_line [] o ≡ false
@@ -62,28 +62,28 @@ none-stands m lines a is = ap (λ (ls : List ℕ). stands_on m ls a) is ∙ none
 pub passes_no_line : (m : AtMachine) (lines : List ℕ) (e : Event) → lines ≡ [] → PassesBy m lines e
 passes_no_line m lines e is = record { first = none-stands m lines e.first is; second = λ a there. none-stands m lines a is }
 
--- neither the first side is on a line, nor a second
-pub passes_one_side : (m : AtMachine) (lines : List ℕ) (e : Event) → stands_on m lines e.first ≡ false → e.second ≡ None → PassesBy m lines e
-passes_one_side m lines e first none = record { first = first; second = λ a there. let no : None ≡ Some a = sym none ∙ there in absurd (cc) }
+-- neither the first action is on a line, nor a second
+pub passes_one_action : (m : AtMachine) (lines : List ℕ) (e : Event) → stands_on m lines e.first ≡ false → e.second ≡ None → PassesBy m lines e
+passes_one_action m lines e first none = record { first = first; second = λ a there. let no : None ≡ Some a = sym none ∙ there in absurd (cc) }
 
-pub passes_both_sides : (m : AtMachine) (lines : List ℕ) (e : Event) (b : Place) → stands_on m lines e.first ≡ false → e.second ≡ Some b →
+pub passes_both_actions : (m : AtMachine) (lines : List ℕ) (e : Event) (b : Place) → stands_on m lines e.first ≡ false → e.second ≡ Some b →
     stands_on m lines b ≡ false → PassesBy m lines e
-passes_both_sides m lines e b first some second = record {
+passes_both_actions m lines e b first some second = record {
   first = first;
   second = λ a there. let same : b ≡ a = cc in subst (λ (x : Place). stands_on m lines x ≡ false) same second;
 }
 
--- the event stops at the line of a side
+-- the event stops at the line of an action
 pub stops_first : (m : AtMachine) (lines : List ℕ) (e : Event) (line : ℕ) → IsAtLine m lines e.first line → StopsAt m lines e line
-stops_first m lines e line h = record { place = e.first; side = inl refl; there = h }
+stops_first m lines e line h = record { place = e.first; action = inl refl; there = h }
 
 pub stops_second : (m : AtMachine) (lines : List ℕ) (e : Event) (b : Place) (line : ℕ) → e.second ≡ Some b → IsAtLine m lines b line → StopsAt m lines e line
-stops_second m lines e b line some h = record { place = b; side = inr some; there = h }
+stops_second m lines e b line some h = record { place = b; action = inr some; there = h }
 
 pub stops_acting : (m : AtMachine) (lines : List ℕ) (e : Event) (a : Place) (line : ℕ) → a ≡ acting e → IsAtLine m lines a line → StopsAt m lines e line
 stops_acting m lines e a line is h = record {
   place = acting e;
-  side = acting_side e;
+  action = acting_is_action e;
   there = subst (λ (x : Place). IsAtLine m lines x line) is h;
 }
 
@@ -120,8 +120,8 @@ on_line m lines a line o is some on = (sym is ∙ some, on)
 
 pub ruleset on_lines = (off_line, beside_lines, on_line)
 
--- behind a first side on none of the lines, what a second tells
-pub second_side : (m : AtMachine) (lines : List ℕ) (e : Event) (b : Place) (r : Option (ℕ × ℕ)) → stands_on m lines e.first ≡ false → e.second ≡ Some b →
+-- behind a first action on none of the lines, what a second tells
+pub second_action : (m : AtMachine) (lines : List ℕ) (e : Event) (b : Place) (r : Option (ℕ × ℕ)) → stands_on m lines e.first ≡ false → e.second ≡ Some b →
     MatchOption r (stands_on m lines b ≡ false) (λ hit. IsAtLine m lines b hit.1) → MatchOption r (PassesBy m lines e) (λ hit. StopsAt m lines e hit.1)
-second_side m lines e b None first some h = passes_both_sides m lines e b first some h
-second_side m lines e b (Some hit) first some h = stops_second m lines e b hit.1 some h
+second_action m lines e b None first some h = passes_both_actions m lines e b first some h
+second_action m lines e b (Some hit) first some h = stops_second m lines e b hit.1 some h

@@ -35,7 +35,7 @@ use Rattle.dap_moves.specs.declared.run.Plan.{Plan}
 use Rattle.dap_moves.specs.declared.run.Turn.{Turn}
 use Rattle.dap_moves.specs.declared.seen.Watched.{Watched}
 use Rattle.dap_moves.specs.internal.Turning.{TakesOne, Took, TurnKeeps, any_goes, branch_for, goes, turn_of}
-use Rattle.dap_moves.proofs.Passing.{acting_side}
+use Rattle.dap_moves.proofs.Passing.{acting_is_action}
 
 -- what is asked where it stood nowhere may be asked wherever it stood
 may-widen : (d : AtDesk) (lines : List ℕ) (seen : List Choice) (command : Command) → MayAsk d lines [] command → MayAsk d lines seen command
@@ -207,7 +207,7 @@ flipped false h = absurd (cc)
 kept-stops : (m : AtMachine) (breaks : List ℕ) (e : Event) (line : ℕ) → line_of m e ≡ Some line → is_free m breaks e ≡ false → StopsAt m breaks e line
 kept-stops m breaks e line at kept = record {
   place = acting e;
-  side = acting_side e;
+  action = acting_is_action e;
   there = (at, flipped (is_in line breaks) (sym (ap (λ (o : Option ℕ). has_no_break breaks o) at) ∙ kept));
 }
 
@@ -369,7 +369,7 @@ keeps-nothing lines d (Ended.Watched branch ticket) kept none = none
 keeps-nothing lines d (Ended.Most branch) kept none = none
 keeps-nothing lines d (Ended.Refused branch why) kept none = none
 
--- branches on either side of one are all of them
+-- branches before and behind one are all of them
 pub all-idle : (d : AtDesk) (turn count : ℕ) → count ≡ branch_count d.machine.checked → ((k : ℕ) → turn ≤ k → k < count → IsIdle d k) →
     ((k : ℕ) → 0 ≤ k → k < turn → IsIdle d k) → NothingGoes d None
 all-idle d turn count is above below = λ k may. elim (cases_lt k turn) [

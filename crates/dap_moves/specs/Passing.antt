@@ -26,7 +26,7 @@ has_line lines (Some line) = is_in line lines
 abbrev pub stands_on : AtMachine → List ℕ → Place → Bool
 stands_on m lines a = has_line lines (line_after (events m.live) m.checked a)
 
--- no side of the event is on one of the lines
+-- no action of the event is on one of the lines
 pub record PassesBy (m : AtMachine) (lines : List ℕ) (e : Event) : Type 0 where
   pub first : stands_on m lines e.first ≡ false
   pub second : (a : Place) → e.second ≡ Some a → stands_on m lines a ≡ false
@@ -35,10 +35,10 @@ pub record PassesBy (m : AtMachine) (lines : List ℕ) (e : Event) : Type 0 wher
 abbrev pub IsAtLine : AtMachine → List ℕ → Place → ℕ → Type 0
 IsAtLine m lines a line = (line_after (events m.live) m.checked a ≡ Some line) × (is_in line lines ≡ true)
 
--- a side of the event is on this line, which is one of these
+-- an action of the event is on this line, which is one of these
 pub record StopsAt (m : AtMachine) (lines : List ℕ) (e : Event) (line : ℕ) : Type 0 where
   pub place : Place
-  pub side : (place ≡ e.first) ⊎ (e.second ≡ Some place)
+  pub action : (place ≡ e.first) ⊎ (e.second ≡ Some place)
   pub there : IsAtLine m lines place line
 
 -- the event may be taken now

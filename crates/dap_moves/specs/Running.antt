@@ -51,7 +51,7 @@ IsHeld d lines why =
     ⊎ ((seen : List Choice) × (command : Command) × MayAsk d lines seen command
     × Answers d quiet command (Reply.Refused why) d)
 
--- a ready event has a side on this line, which is one of these, or has a breakpoint of the adapter's own session
+-- a ready event has an action on this line, which is one of these, or has a breakpoint of the adapter's own session
 abbrev pub StandsBefore : AtDesk → List ℕ → ℕ → Type 0
 StandsBefore d lines line =
     (e : Event) × IsReady d e × (StopsAt d.machine lines e line ⊎ StopsAt d.machine (breaks_of d quiet) e line)

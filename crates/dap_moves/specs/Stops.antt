@@ -1,4 +1,4 @@
--- The lines on which a command stands that can be a side of an event.
+-- The lines on which a command stands that can be an action of an event.
 use Rattle.std.specs.Prelude.{ℕ, ◌==◌, ◌||◌, ◌≡◌, ◌≤◌, ◌<◌, ◌↔◌, Bool, true, false, List, Option, None, Some}
 use Rattle.syntax.specs.Lists.{In}
 use Rattle.system.specs.declared.command.Command.{Command}
@@ -7,7 +7,7 @@ use Rattle.system.specs.declared.command.Action.TheFolds.{fold-Command}
 use Rattle.system_places.specs.LinesBegun.{any_onto, last_of}
 
 -- whether a command does, or one within it, a line a form; `here` says that it has the line. A command that goes on,
--- one that halts, a sequence and a parallel are no side of an event
+-- one that halts, a sequence and a parallel are no action of an event
 abbrev pub stop_layer : Action-F (Bool → Bool) Bool Bool Bool Bool → Bool → Bool
 stop_layer Action-F.Continue here = false
 stop_layer Action-F.Halt here = false
@@ -37,7 +37,7 @@ stop_guarded a = a.body
 abbrev pub stop_labelled : Labelled-F (Bool → Bool) Bool Bool Bool Bool → Bool
 stop_labelled a = a.body
 
--- whether a command that has the line, or one within it, can be a side of an event
+-- whether a command that has the line, or one within it, can be an action of an event
 abbrev pub stops : ℕ → Command → Bool
 stops line =
     fold-Command (Bool → Bool) Bool Bool Bool Bool stop_layer stop_arm (stop_command line) stop_guarded stop_labelled

@@ -51,7 +51,7 @@ pub struct Plan<'a> {
 pub enum Ended {
     /// no step is ready
     Nothing,
-    /// a step that is about to happen has a side in this branch on this line, which has a breakpoint
+    /// a step that is about to happen has an action in this branch on this line, which has a breakpoint
     AtLine(u32, u64),
     /// the step of this ticket in this branch, which is watched, was taken
     Watched(u32, u64),
@@ -314,7 +314,7 @@ fn went(plan: &Plan<'_>, branch: u32, ticket: u64, event: &Event) -> Turn
     }
 }
 
-/// The next step in turn, unless a side of it is on a line with a breakpoint.
+/// The next step in turn, unless an action of it is on a line with a breakpoint.
 fn look_and_step(
     alloc: Global,
     desk: &mut Desk,
@@ -336,7 +336,7 @@ fn look_and_step(
     }
 }
 
-/// The next of these steps in turn, which are ready, unless a side of it is on a line with a breakpoint.
+/// The next of these steps in turn, which are ready, unless an action of it is on a line with a breakpoint.
 fn step_among(
     alloc: Global,
     desk: &mut Desk,
@@ -361,7 +361,7 @@ fn step_among(
     }
 }
 
-/// The step, unless a side of it is on a line with a breakpoint.
+/// The step, unless an action of it is on a line with a breakpoint.
 fn step_or_stop(
     alloc: Global,
     desk: &mut Desk,
@@ -382,15 +382,16 @@ fn step_or_stop(
         return step_past(alloc, desk, plan, seen, branch, event);
     }
     match line_among(desk.machine(), plan.lines, event) {
-        Some((side, line)) => {
+        Some((at, line)) => {
             keep(alloc, kept, event);
-            Turn::Ended(Ended::AtLine(side, line))
+            Turn::Ended(Ended::AtLine(at, line))
         }
         None => step_past(alloc, desk, plan, seen, branch, event),
     }
 }
 
-/// The step, which may be taken: no side of it is on a line with a breakpoint, or the run has stood before it already.
+/// The step, which may be taken: no action of it is on a line with a breakpoint, or the run has stood before it
+/// already.
 fn step_past(
     alloc: Global,
     desk: &mut Desk,
@@ -494,7 +495,7 @@ fn distance(turn: u32, branch: u32, count: u32) -> u64 {
     }
 }
 
-/// The branch and the line of a side of the event that is on one of these lines, the acting side before the other.
+/// The branch and the line of an action of the event that is on one of these lines, the one that acts before the other.
 pub(crate) fn line_among(machine: &Machine, lines: &[u64], event: &Event) -> Option<(u32, u64)>
     ensures { MatchOption result (PassesBy machine.now lines.now event.now) (λ hit.
         StopsAt machine.now lines.now event.now hit.1) }
@@ -504,12 +505,12 @@ pub(crate) fn line_among(machine: &Machine, lines: &[u64], event: &Event) -> Opt
     }
     match line_at(machine, lines, event.acting_place()) {
         Some(found) => Some(found),
-        None => line_of_sides(machine, lines, event),
+        None => line_of_actions(machine, lines, event),
     }
 }
 
-/// The branch and the line of the first side of the event, else of the second, where that is one of these.
-fn line_of_sides(machine: &Machine, lines: &[u64], event: &Event) -> Option<(u32, u64)>
+/// The branch and the line of the first action of the event, else of the second, where that is one of these.
+fn line_of_actions(machine: &Machine, lines: &[u64], event: &Event) -> Option<(u32, u64)>
     ensures { MatchOption result (PassesBy machine.now lines.now event.now) (λ hit.
         StopsAt machine.now lines.now event.now hit.1) }
 {

@@ -1,4 +1,4 @@
-// The lines on which a command stands that can be a side of an event.
+// The lines on which a command stands that can be an action of an event.
 ghost use Rattle.std.specs.Prelude.{◌≡◌, ◌≤◌, ◌+◌, ℕ, false, map, IfOk, OnOk};
 ghost use Rattle.std.specs.Option.{option_map};
 ghost use Rattle.system_places.specs.LinesBegun.{any_onto, last_of};
@@ -50,7 +50,7 @@ fn add_stop(system: &System, line: u64, lines: &mut Vec<u64>) -> Result<(), Allo
     Ok(())
 }
 
-/// Whether a command that has the line, or one within it, can be a side of an event.
+/// Whether a command that has the line, or one within it, can be an action of an event.
 #[cycle(stop)]
 fn stops(command: &Command, line: u64) -> bool
     ensures { result ≡ model.stops line command.now }

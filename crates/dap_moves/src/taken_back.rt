@@ -21,7 +21,7 @@ use system_places::branch_at;
 pub enum Rewound {
     /// no step is left that it could take back
     AtBeginning,
-    /// the step that was taken back last has a side in this branch on this line, which has a breakpoint
+    /// the step that was taken back last has an action in this branch on this line, which has a breakpoint
     AtLine(u32, u64),
     /// the step that was taken back last, of this ticket, which is watched, acted in this branch
     Watched(u32, u64),
@@ -244,9 +244,9 @@ fn stop_at(
         return Some(Rewound::Watched(branch.unwrap_or(0), ticket));
     }
     match line_among(machine, marks.lines, event) {
-        Some((side, line)) => {
+        Some((at, line)) => {
             keep(alloc, kept, event);
-            Some(Rewound::AtLine(side, line))
+            Some(Rewound::AtLine(at, line))
         }
         None => None,
     }
