@@ -5,6 +5,7 @@ ghost use Rattle.dap_moves.specs.Led.{Led};
 ghost use Rattle.dap_requests.specs.Reading.{reads};
 ghost use Rattle.dap_requests.specs.Typed.{KeepsSome, is_typed};
 
+use crate::hints::add_in_place;
 use crate::moves::{back_in, reverse_in};
 use crate::said::{stop, tell, words_of};
 use crate::typed::is_typed;
@@ -331,11 +332,12 @@ fn view_bytes(alloc: Global, desk: &Desk, program: &Program) -> Result<Vec<u8>, 
     )
 }
 
-/// Refuses what is no variable, no channel and no line.
+/// Refuses what is no variable, no channel and no line, and tells what serves in its place, where that is known.
 fn no_line(alloc: Global, line: &str, answer: &mut Answer) {
     let mut words = Words::of(alloc, "`");
     words.add(line);
     words.add("` is no variable, no channel, and no line that is answered here");
+    add_in_place(line, &mut words);
     answer.refuse(61, words.as_str());
 }
 

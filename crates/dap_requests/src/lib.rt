@@ -5,6 +5,7 @@ mod breakpoints;
 mod choices;
 mod completion;
 mod console;
+mod hints;
 mod moves;
 mod said;
 mod still;

@@ -7,7 +7,7 @@ use Rattle.runs.specs.Tests.{same_place}
 use Rattle.system.specs.declared.system.System.{System}
 use Rattle.system_places.specs.SystemBranches.{branch_at, branch_count}
 
--- whether both sides are there, at one place
+-- whether both actions are there, at one place
 abbrev pub are_together : Option LocalAction → Option LocalAction → Bool
 are_together (Some x) (Some y) = same_place x.place y.place
 are_together _ _ = false

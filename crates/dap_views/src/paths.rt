@@ -30,9 +30,9 @@ pub fn base_of(path: &str) -> &str {
     }
 }
 
-/// Whether both name one file, where the first may count from any folder. The signs `.` and `..` are followed, links are
-/// not. Where one begins with the letter of a drive, a `\` stands between folders too, and large letters are as small
-/// ones.
+/// Whether both name one file, where the first may count from any folder. The signs `.` and `..` are followed, links
+/// are not. Where one begins with the letter of a drive, a `\` stands between folders too, and large letters are as
+/// small ones.
 pub fn is_same_file(file: &str, path: &str) -> bool {
     let drives = has_drive(file) || has_drive(path);
     let (mut left, mut right) = (file.as_bytes(), path.as_bytes());
