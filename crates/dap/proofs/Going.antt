@@ -78,7 +78,7 @@ keeps_same b before = inr (inl refl)
 pub keeps_of : (d d' : AtDesk) (b : Answer) (before after : List Choice) → Remembers d d' b before after → KeepsSome b before after
 keeps_of d d' b before after h = elim h [
   | inl none ↦ inl none
-  | inr more ↦ elim more [ | inl same ↦ inr (inl same.0) | inr one ↦ inr (inr one) ]
+  | inr more ↦ elim more [ inl same ↦ inr (inl same.0) | inr one ↦ inr (inr one) ]
 ]
 
 -- a request to move sets nothing
@@ -210,7 +210,7 @@ begun-done : (l m : Launched) (a b : Answer) → (IsRefusal b.outcome × (b.note
     (m.desk ≡ l.desk) ⊎ (IsDone a.outcome → IsDone b.outcome)
 begun-done l m a b h = elim h [
   | inl refused ↦ inl (ap (λ (x : Launched). x.desk) refused.2)
-  | inr begins ↦ elim begins [ | inl stops ↦ inr stops.1.done | inr ends ↦ inr ends.done ]
+  | inr begins ↦ elim begins [ inl stops ↦ inr stops.1.done | inr ends ↦ inr ends.done ]
 ]
 
 pub begins_goes : (l m : Launched) (request : Request) (a b : Answer) → request.kind ≡ Kind.ConfigurationDone → l.program.ended ≡ false →

@@ -34,13 +34,16 @@ stops_once a b d d' goes empty done h = elim h [
 -- a program has begun
 pub begins_once : (a b : Answer) → Begins a b → BeginsOnce b
 begins_once a b h = elim h [
-  | inl stops ↦ inl (stops.0, record {
-    effect = stops.1.effect;
-    last = λ full. (
-      told_by a.notes.items ++ stops.1.outputs,
-      (stops.1.told full).1 ∙ sym (append_assoc (told_by a.notes.items) stops.1.outputs (Told.Stopped stops.0 ∷ [])),
-    );
-  })
+  | inl stops ↦ inl (
+    stops.0,
+    record {
+      effect = stops.1.effect;
+      last = λ full. (
+        told_by a.notes.items ++ stops.1.outputs,
+        (stops.1.told full).1 ∙ sym (append_assoc (told_by a.notes.items) stops.1.outputs (Told.Stopped stops.0 ∷ [])),
+      );
+    },
+  )
   | inr ends ↦ inr (record {
     effect = ends.effect;
     last = λ full. (
@@ -66,6 +69,6 @@ moves_stop (Some l) None request a b empty done is goes early = absurd goes
 moves_stop (Some l) (Some m) request a b empty done is goes early = elim goes [
   | inl anew ↦ absurd (no-move request.kind Kind.Restart is refl anew.0)
   | inr on ↦
-    stops_once a b l.desk m.desk
-    (λ (stop : Stop). Steps l.program l.memo.seen.items m.memo.seen.items l.desk request.kind request stop m.desk) empty done (on.moved is)
+      stops_once a b l.desk m.desk
+      (λ (stop : Stop). Steps l.program l.memo.seen.items m.memo.seen.items l.desk request.kind request stop m.desk) empty done (on.moved is)
 ]

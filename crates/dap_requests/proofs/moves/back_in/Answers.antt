@@ -8,9 +8,11 @@ use Rattle.dap_requests.proofs.Forward.{remembers_moved}
 use Rattle.dap_requests.proofs.moves.back_in.Goals as goal
 
 pub returns-clause-goes : goal.returns-clause-goes
-returns-clause-goes c =
-    (stop_back c.step_back-moved.result, c.tell_moved_back.ensures.stops,
-    (c.step_back-moved.result, c.step_back-moved.ensures.back, refl))
+returns-clause-goes c = (
+  stop_back c.step_back-moved.result,
+  c.tell_moved_back.ensures.stops,
+  (c.step_back-moved.result, c.step_back-moved.ensures.back, refl),
+)
 
 pub returns-clause-keeps : goal.returns-clause-keeps
 returns-clause-keeps c =
