@@ -162,3 +162,7 @@ quiet-writes (Err (Fault.BadCommand k)) n h = refl
 -- a failed write says nothing of the reader
 pub unput-reads : (fault : Fault) (q : Result (Unit {0}) Fault) (n : ℕ) → fault ≡ Fault.WriteFailed → q ≡ Err fault → after_reading q n ≡ n
 unput-reads fault q n failed is = ap (λ (x : Result (Unit {0}) Fault). after_reading x n) (is ∙ ap Err failed)
+
+-- so writing did not fail
+pub quiet-unwritten : (r : Result (Unit {0}) Fault) → EndsByNoDevice r → r ≡ Err Fault.WriteFailed → ⊥
+quiet-unwritten r h e = (subst EndsByNoDevice e h).1 refl

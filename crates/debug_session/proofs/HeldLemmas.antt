@@ -1,19 +1,25 @@
 -- Answers that are pending.
-use Rattle.std.proofs.Common.{◌≡◌, ℕ, List, [], ◌++◌, Option, Result, Ok, Err, MatchResult, sym, ap, ◌∙◌, subst, append_assoc, append-nil}
+use Rattle.std.proofs.Common.{◌≡◌, ◌⊎◌, ◌≤◌, ℕ, List, [], ◌++◌, Option, Result, Ok, Err, MatchResult, length, inl, inr, sym, ap, ◌∙◌, subst, append_assoc, append-nil}
 use Rattle.std.specs.Io.KnownBytes.{Appends}
 use Rattle.devices.proofs.public.KnownLemmas.{Appends-then}
 use Rattle.debug_session.specs.Counting.{WritingStops}
+use Rattle.debug_session.specs.Holding.{most_held}
 use Rattle.debug_session.specs.declared.fault.Fault.{Fault}
 
 -- what was pending is out
 abbrev pub IsPut : List ℕ → List ℕ → List ℕ → Type 0
 IsPut pending pending' given = (given ≡ pending) × (pending' ≡ [])
 
+-- the answer is pending, or all is out
+abbrev pub IsKept : List ℕ → List ℕ → List ℕ → List ℕ → Type 0
+IsKept pending pending' answer given =
+    ((given ≡ []) × (pending' ≡ pending ++ answer) × (length pending' ≤ most_held)) ⊎ ((given ≡ pending ++ answer) × (pending' ≡ []))
+
 -- what came of an answer
 abbrev pub HoldEnds : Option (List ℕ) → Option (List ℕ) → List ℕ → List ℕ → List ℕ → Result (Unit {0}) Fault → Type 0
 HoldEnds old new pending pending' answer r =
     (given : List ℕ) × Appends old new given
-    × MatchResult r (λ _. given ++ pending' ≡ pending ++ answer) (λ fault. WritingStops (pending ++ answer) given fault)
+    × MatchResult r (λ _. IsKept pending pending' answer given) (λ fault. WritingStops (pending ++ answer) given fault)
 
 -- what was pending could not be written
 pub hold-unput : (old new : Option (List ℕ)) (pending pending' answer : List ℕ) (fault : Fault) (r : Result (Unit {0}) Fault)
@@ -30,7 +36,7 @@ pub hold-put : (old mid new : Option (List ℕ)) (pending pending' answer : List
 hold-put old mid new pending pending' answer (Ok x) (one, gives, (all, none)) (two, more, whole) = (
   one ++ two,
   Appends-then old mid new one two gives more,
-  ap (λ t. (one ++ two) ++ t) none ∙ (append-nil (one ++ two) ∙ (ap (λ t. t ++ two) all ∙ ap (λ t. pending ++ t) whole)),
+  inr (ap (λ t. t ++ two) all ∙ ap (λ t. pending ++ t) whole, none),
 )
 hold-put old mid new pending pending' answer (Err fault) (one, gives, (all, none)) (two, more, (failed, (missing, e))) = (
   one ++ two,
@@ -40,3 +46,10 @@ hold-put old mid new pending pending' answer (Err fault) (one, gives, (all, none
     (missing, ap (λ t. pending ++ t) e ∙ (ap (λ t. t ++ (two ++ missing)) (sym all) ∙ sym (append_assoc one two missing))),
   ),
 )
+
+-- what is given and what is pending are what was pending and the answer
+pub pending-joins : (old new : Option (List ℕ)) (pending pending' answer : List ℕ)
+    → (given : List ℕ) × Appends old new given × IsKept pending pending' answer given
+    → (given : List ℕ) × Appends old new given × (given ++ pending' ≡ pending ++ answer)
+pending-joins old new pending pending' answer (given, gives, inl (none, all, few)) = (given, gives, ap (λ t. t ++ pending') none ∙ all)
+pending-joins old new pending pending' answer (given, gives, inr (all, none)) = (given, gives, ap (λ t. given ++ t) none ∙ append-nil given ∙ all)

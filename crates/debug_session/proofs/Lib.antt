@@ -4,6 +4,7 @@ mod AskLemmas
 mod CountLemmas
 mod EndLemmas
 mod HeldLemmas
+mod HoldingLemmas
 mod OneThingLemmas
 mod PieceLemmas
 mod SessionLemmas

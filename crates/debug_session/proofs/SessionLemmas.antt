@@ -31,12 +31,12 @@ transcript-push s o m o' (l ∷ lines) output line answer (first, rest, mid, a, 
 )
 
 -- each line of a longer list
-every-push : (lines : List (List ℕ)) (line : List ℕ) → Every IsLine lines → IsLine line → Every IsLine (lines ++ line ∷ [])
+pub every-push : (lines : List (List ℕ)) (line : List ℕ) → Every IsLine lines → IsLine line → Every IsLine (lines ++ line ∷ [])
 every-push [] line h k = (k, tt)
 every-push (l ∷ lines) line h k = (h.0, every-push lines line h.1 k)
 
 -- the bytes of a longer list
-joined-push : (lines : List (List ℕ)) (line : List ℕ) → flat_map with_end lines ++ with_end line ≡ flat_map with_end (lines ++ line ∷ [])
+pub joined-push : (lines : List (List ℕ)) (line : List ℕ) → flat_map with_end lines ++ with_end line ≡ flat_map with_end (lines ++ line ∷ [])
 joined-push lines line =
     sym (flat_map-append with_end lines (line ∷ []) ∙ ap (λ t. flat_map with_end lines ++ t) (append-nil (with_end line)))
 
@@ -323,7 +323,7 @@ stopped-by-line s t o m read left left' wrote contents contents' pending pending
     (subst (λ x. LineStops s x number fault) whole (subst (λ x. LineStops x text number fault) same stops)))
 
 -- an answer on the system and the line
-answered-here : (s t : System) (m o' : AtLine) (line text given : List ℕ) → t ≡ s → text ≡ line → LineAnswered t m text given o'
+pub answered-here : (s t : System) (m o' : AtLine) (line text given : List ℕ) → t ≡ s → text ≡ line → LineAnswered t m text given o'
     → LineAnswered s m line given o'
 answered-here s t m o' line text given same whole a =
     subst (λ x. LineAnswered s m x given o') whole (subst (λ x. LineAnswered x m text given o') same a)

@@ -2,6 +2,7 @@ pub mod Accepting
 pub mod AtLine
 pub mod Counting
 pub mod FaultNumbers
+pub mod Holding
 pub mod Lines
 pub mod OneThing
 pub mod Replaying

@@ -1,2 +1,3 @@
 pub mod NotAsked
 pub mod OneLine
+pub mod Owing

@@ -1,36 +1,39 @@
-ghost use Rattle.std.specs.Prelude.{◌≡◌, ◌≢◌, [], MatchBool, MatchResult, IfOk, OnErr};
-ghost use Rattle.std.specs.Io.Buffered.{reader_remaining};
-ghost use Rattle.devices.specs.Counting.{device, failures};
+ghost use Rattle.std.specs.Prelude.{◌≡◌, ◌≢◌, [], Err, MatchBool, MatchResult, IfOk, OnErr};
 ghost use Rattle.debug_session.specs.Counting.{after_reading, after_writing};
 ghost use Rattle.debug_session.specs.Lines.{SaysSession};
 ghost use Rattle.debug_session.specs.declared.line.Line.{Line};
 ghost use Rattle.debug_session.specs.internal.OneLine.{LineStops, EndsByDevice, EndsByNoDevice, EndsHolding};
+ghost use Rattle.debug_session.specs.Holding.{EndsWriting};
+ghost use Rattle.debug_session.specs.internal.Owing.{EndsOwing};
+ghost use Rattle.debug_session.specs.declared.fault.Fault.TheVariants.{WriteFailed};
 ghost use Rattle.debug_session.specs.Transcript.{SaidAnswered, LineAnswered, Ends};
 
 use crate::input::next_line;
 use crate::pending::{hold, put_out};
 use crate::script_state::ScriptState;
-use crate::{Counted, Fault, Line, read_command, write_answer, write_session};
+use crate::{Fault, Line, read_command, write_answer, write_session};
+use devices::{CountedLines, CountedWrite};
 use locked_execution::Command;
 use std::alloc::{AllocError, Global};
-use std::io::{BufReader, Read, Write};
 
 /// Answers each line of the reader. It ends where the reader is at its end, or at the first fault: then the answers of
 /// the lines before are out, and where writing failed a beginning of the answers. Before the reader asks its device for
 /// more, all answers are out: they are held back only while its buffer has another line. Each line is taken into
 /// `line`.
-pub(crate) fn answer_lines<R: Read, W: Write>(
+pub(crate) fn answer_lines<R: CountedLines, W: CountedWrite>(
     alloc: Global,
     script_state: &mut ScriptState<'_>,
-    reader: &mut Counted<BufReader<R>>,
-    writer: &mut Counted<W>,
+    reader: &mut R,
+    writer: &mut W,
     line: &mut Vec<u8>,
 ) -> Result<(), Fault>
     ensures ends { Ends script_state.old.desk.machine.checked script_state.old
-        (reader_remaining R.remaining (device reader.old)) (reader_remaining R.remaining (device reader.new))
-        (W.contents (device writer.old)) (W.contents (device writer.new)) result }
-    ensures read_failures { failures reader.new ≡ after_reading result (failures reader.old) }
-    ensures write_failures { failures writer.new ≡ after_writing result (failures writer.old) }
+        (R.remaining reader.old) (R.remaining reader.new) (W.contents writer.old) (W.contents writer.new) result }
+    ensures held_back { result ≡ Err WriteFailed
+        → EndsWriting R.buffered R.asked script_state.old.desk.machine.checked script_state.old reader.new
+        (R.remaining reader.old) (R.remaining reader.new) (W.contents writer.old) (W.contents writer.new) }
+    ensures read_failures { R.failed reader.new ≡ after_reading result (R.failed reader.old) }
+    ensures write_failures { W.failed writer.new ≡ after_writing result (W.failed writer.old) }
 {
     let mut pending = Vec::new(alloc);
     let ended = hold_answers(alloc, script_state, reader, writer, &mut pending, line);
@@ -49,20 +52,23 @@ fn has_failed(ended: &Result<(), Fault>) -> bool
 }
 
 /// Answers the lines; some of the answers may still be pending at the end.
-fn hold_answers<R: Read, W: Write>(
+fn hold_answers<R: CountedLines, W: CountedWrite>(
     alloc: Global,
     script_state: &mut ScriptState<'_>,
-    reader: &mut Counted<BufReader<R>>,
-    writer: &mut Counted<W>,
+    reader: &mut R,
+    writer: &mut W,
     pending: &mut Vec<u8>,
     line: &mut Vec<u8>,
 ) -> Result<(), Fault>
     requires { pending.old.items ≡ [] }
     ensures ends { EndsHolding script_state.old.desk.machine.checked script_state.old
-        (reader_remaining R.remaining (device reader.old)) (reader_remaining R.remaining (device reader.new))
-        (W.contents (device writer.old)) (W.contents (device writer.new)) pending.new.items result }
-    ensures read_failures { failures reader.new ≡ after_reading result (failures reader.old) }
-    ensures write_failures { failures writer.new ≡ after_writing result (failures writer.old) }
+        (R.remaining reader.old) (R.remaining reader.new) (W.contents writer.old) (W.contents writer.new)
+        pending.new.items result }
+    ensures owes { EndsOwing R.buffered R.asked script_state.old.desk.machine.checked script_state.old reader.new
+        (R.remaining reader.old) (R.remaining reader.new) (W.contents writer.old) (W.contents writer.new)
+        pending.new.items result }
+    ensures read_failures { R.failed reader.new ≡ after_reading result (R.failed reader.old) }
+    ensures write_failures { W.failed writer.new ≡ after_writing result (W.failed writer.old) }
 {
     for number in 1..u64::MAX {
         let is_complete = next_line(reader, writer, pending, line)?;

@@ -15,8 +15,9 @@ mod script_state;
 mod session;
 mod whole;
 
-pub use devices::Counted;
+pub use devices::{Counted, CountedLines, CountedWrite};
 pub use fault::Fault;
+pub use input::read_line;
 pub use laws::line_laws;
 pub use line::Line;
 pub use output::write_out;

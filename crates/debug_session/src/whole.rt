@@ -1,19 +1,18 @@
 ghost use Rattle.std.specs.Prelude.{◌≡◌, IfOk, IfErr};
-ghost use Rattle.std.specs.Io.Buffered.{reader_remaining};
 ghost use Rattle.debug_session.specs.Accepting.{AcceptedAs, IsRefused};
-ghost use Rattle.devices.specs.Counting.{device, failures};
 ghost use Rattle.debug_session.specs.Counting.{after_reading, after_writing};
+ghost use Rattle.debug_session.specs.Holding.{HoldsBack};
 ghost use Rattle.debug_session.specs.Transcript.{Debugged};
 ghost use Rattle.debug_session.specs.AtLine.{first_line};
 ghost use Rattle.system.specs.declared.system.System.{System};
 
+use crate::Fault;
 use crate::answer::answer_lines;
 use crate::script_state::ScriptState;
-use crate::{Counted, Fault};
+use devices::{CountedLines, CountedWrite};
 use locked_execution::Machine;
 use sharing_check::Checked;
 use std::alloc::Global;
-use std::io::{BufReader, Read, Write};
 
 /// The system that the source and the stimulus describe, or the first fault of the first pass that refuses them: the
 /// source is cut, parsed and typed, then the stimulus is read, then the system is made, and then the rule on sharing is
@@ -27,23 +26,24 @@ pub fn accept(alloc: Global, source: &[u8], stimulus: &[u8]) -> Result<Checked, 
 
 /// Answers the lines of `reader` on `writer`, over the system of source and stimulus.
 ///
-/// Source and stimulus are accepted before anything is read. Before the reader asks its device for more, the answers to
-/// all lines before are out and flushed; while its buffer has another line, answers may be held back, up to 16 KB.
-/// The buffer has to have room for a byte at least, or the script looks empty. At a fault the answers of the lines
-/// before are out, and where writing failed a beginning of the answers. `ReadFailed` and `WriteFailed` come exactly
-/// where reader and writer count a failure.
-pub fn debug<R: Read, W: Write>(
+/// Source and stimulus are accepted before anything is read. Before the reader asks for more, the answers to all lines
+/// before are out and flushed; while its buffer has another line whole, answers may be held back, 8 KB at most.
+/// Where a write fails no further line is taken. (A buffer has to have room for a byte at least, or the script looks
+/// empty.) At a fault the answers of the lines before are out, and where writing failed a beginning of the answers.
+/// `ReadFailed` and `WriteFailed` come exactly where reader and writer count a failure.
+pub fn debug<R: CountedLines, W: CountedWrite>(
     alloc: Global,
-    reader: &mut Counted<BufReader<R>>,
-    writer: &mut Counted<W>,
+    reader: &mut R,
+    writer: &mut W,
     source: &[u8],
     stimulus: &[u8],
 ) -> Result<(), Fault>
     ensures debugged { Debugged source.now stimulus.now ((reader.new ≡ reader.old) × (writer.new ≡ writer.old))
-        (reader_remaining R.remaining (device reader.old)) (reader_remaining R.remaining (device reader.new))
-        (W.contents (device writer.old)) (W.contents (device writer.new)) result }
-    ensures read_failures { failures reader.new ≡ after_reading result (failures reader.old) }
-    ensures write_failures { failures writer.new ≡ after_writing result (failures writer.old) }
+        (R.remaining reader.old) (R.remaining reader.new) (W.contents writer.old) (W.contents writer.new) result }
+    ensures held_back { HoldsBack R.buffered R.asked source.now stimulus.now reader.new
+        (R.remaining reader.old) (R.remaining reader.new) (W.contents writer.old) (W.contents writer.new) result }
+    ensures read_failures { R.failed reader.new ≡ after_reading result (R.failed reader.old) }
+    ensures write_failures { W.failed writer.new ≡ after_writing result (W.failed writer.old) }
 {
     let mut line = Vec::new(alloc);
     debug_keeping(alloc, reader, writer, source, stimulus, &mut line)
@@ -51,19 +51,20 @@ pub fn debug<R: Read, W: Write>(
 
 /// The same, where `line` has the last line that was taken, without its end, once it ends. So a line that says nothing
 /// can be shown: no reader has it any more. No clause speaks of `line`.
-pub fn debug_keeping<R: Read, W: Write>(
+pub fn debug_keeping<R: CountedLines, W: CountedWrite>(
     alloc: Global,
-    reader: &mut Counted<BufReader<R>>,
-    writer: &mut Counted<W>,
+    reader: &mut R,
+    writer: &mut W,
     source: &[u8],
     stimulus: &[u8],
     line: &mut Vec<u8>,
 ) -> Result<(), Fault>
     ensures debugged { Debugged source.now stimulus.now ((reader.new ≡ reader.old) × (writer.new ≡ writer.old))
-        (reader_remaining R.remaining (device reader.old)) (reader_remaining R.remaining (device reader.new))
-        (W.contents (device writer.old)) (W.contents (device writer.new)) result }
-    ensures read_failures { failures reader.new ≡ after_reading result (failures reader.old) }
-    ensures write_failures { failures writer.new ≡ after_writing result (failures writer.old) }
+        (R.remaining reader.old) (R.remaining reader.new) (W.contents writer.old) (W.contents writer.new) result }
+    ensures held_back { HoldsBack R.buffered R.asked source.now stimulus.now reader.new
+        (R.remaining reader.old) (R.remaining reader.new) (W.contents writer.old) (W.contents writer.new) result }
+    ensures read_failures { R.failed reader.new ≡ after_reading result (R.failed reader.old) }
+    ensures write_failures { W.failed writer.new ≡ after_writing result (W.failed writer.old) }
 {
     let mut script_state = begin(alloc, source, stimulus)?;
     answer_lines(alloc, &mut script_state, reader, writer, line)

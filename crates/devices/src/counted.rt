@@ -1,16 +1,15 @@
 //! Devices that count how often they failed.
 
-ghost use Rattle.std.specs.Prelude.{◌≡◌, ◌≢◌, ◌⊎◌, ◌++◌, ◌<◌, ◌+◌, ◌-◌, ◌^◌, ◌∷◌, vec_len, IfOk, IfErr, OnOk, OnErr, IfSome, MatchResult, MatchBool, [], false};
-ghost use Rattle.std.specs.List.{All};
+ghost use Rattle.std.specs.Prelude.{◌≡◌, ◌≢◌, ◌⊎◌, ◌++◌, ◌<◌, ◌+◌, ◌-◌, ◌^◌, ◌∷◌, vec_len, IfOk, IfErr, OnOk, IfSome, MatchResult, MatchBool, [], true, false};
 ghost use Rattle.std.specs.IoError.{error_kind};
 ghost use Rattle.std.specs.Io.{WritesAtMost, StopsAt, appended_bytes};
-ghost use Rattle.std.specs.Io.KnownBytes.{Consumes, Keeps, IsAtEnd, WriteAppends};
+ghost use Rattle.std.specs.Io.KnownBytes.{Consumes, Keeps, WriteAppends};
 ghost use Rattle.std.specs.Io.BufRead.{take_through, ends_with_byte, DropsThrough};
 ghost use Rattle.std.specs.Io.Buffered.{reader_buffer, reader_inner, reader_remaining};
-ghost use Rattle.devices.specs.Counting.{device, failures, patience, one_more, CountsIf, IsNoEnd, after_filling};
+ghost use Rattle.devices.specs.Counting.{device, failures, patience, one_more, CountsIf};
 ghost use Rattle.devices.specs.declared.failure.ReadFault.TheVariants.{Memory, Failed};
 
-use crate::ReadFault;
+use crate::{CountedLines, CountedRead, CountedWrite, ReadFault, WriteFailed};
 use memchr::memchr;
 use std::alloc::AllocError;
 use std::io;
@@ -74,16 +73,12 @@ impl<D> Counted<D> {
     }
 }
 
-impl<R: Read> Counted<R> {
-    /// Reads all that is left behind what is in `bytes`, and counts whether that failed.
-    pub(crate) fn fill(&mut self, bytes: &mut Vec<u8>) -> Result<(), ReadFault>
-        ensures bytes { OnOk result
-            (Consumes (R.remaining (device self.old)) (R.remaining (device self.new))
-            (appended_bytes bytes.old.items bytes.new.items)) }
-        ensures end { OnOk result (IsAtEnd (R.remaining (device self.new))) }
-        ensures failures { failures self.new ≡ after_filling result (failures self.old) }
-        ensures patience { patience self.new ≡ patience self.old }
-    {
+impl<R: Read> CountedRead for Counted<R> {
+    ghost remaining = { λ counted. R.remaining (device counted) };
+
+    ghost failed = { failures };
+
+    fn fill(&mut self, bytes: &mut Vec<u8>) -> Result<(), ReadFault> {
         match self.device.read_to_end(bytes) {
             Ok(_) => Ok(()),
             Err(error) => {
@@ -100,7 +95,7 @@ impl<R: Read> Counted<R> {
 impl<R: BufRead> Counted<R> {
     /// Reads behind the next byte 10, or to the end, and answers how many bytes it added to the line, which whoever
     /// asks empties first. It counts whether that failed; a failure behind a line that is there whole is none.
-    pub fn read_through(&mut self, line: &mut Vec<u8>) -> io::Result<usize>
+    fn read_through(&mut self, line: &mut Vec<u8>) -> io::Result<usize>
         ensures count { IfOk result (λ n. vec_len line.new ≡ vec_len line.old + n) }
         ensures stops { StopsAt (appended_bytes line.old.items line.new.items) 10 }
         ensures bytes { OnOk result
@@ -124,21 +119,18 @@ impl<R: BufRead> Counted<R> {
     }
 }
 
-impl<R: Read> Counted<BufReader<R>> {
-    /// Takes the next line into `line`, in place of what was there, without byte 10 at its end, where the buffer has it
-    /// whole, and tells whether it has. The device is asked for nothing.
-    pub fn take_line(&mut self, line: &mut Vec<u8>) -> Result<bool, AllocError>
-        ensures taken { IfOk result (λ is_whole. MatchBool is_whole
-            (All IsNoEnd line.new.items
-            × Consumes (reader_remaining R.remaining (device self.old))
-            (reader_remaining R.remaining (device self.new)) (line.new.items ++ 10 ∷ [])
-            × (reader_buffer (device self.old) ≡ line.new.items ++ 10 ∷ reader_buffer (device self.new))
-            × (reader_inner (device self.new) ≡ reader_inner (device self.old)))
-            (All IsNoEnd (reader_buffer (device self.old)) × (self.new ≡ self.old))) }
-        ensures memory { OnErr result (self.new ≡ self.old) }
-        ensures failures { failures self.new ≡ failures self.old }
-        ensures patience { patience self.new ≡ patience self.old }
-    {
+impl<R: Read> CountedLines for Counted<BufReader<R>> {
+    ghost remaining = { λ counted. reader_remaining R.remaining (device counted) };
+
+    ghost failed = { failures };
+
+    ghost buffered = { λ counted. reader_buffer (device counted) };
+
+    ghost Asked = { R };
+
+    ghost asked = { λ counted. reader_inner (device counted) };
+
+    fn take_line(&mut self, line: &mut Vec<u8>) -> Result<bool, AllocError> {
         let Some(end) = memchr(b'\n', self.device.buffer()) else {
             return Ok(false);
         };
@@ -146,6 +138,18 @@ impl<R: Read> Counted<BufReader<R>> {
         line.extend_from_slice(&self.device.buffer()[..end])?;
         self.device.consume(end + 1);
         Ok(true)
+    }
+
+    fn read_line(&mut self, line: &mut Vec<u8>) -> Result<bool, ReadFault> {
+        line.clear();
+        let read = self.read_through(line);
+        if strip_end(line) {
+            return Ok(true);
+        }
+        match read {
+            Ok(_) => Ok(false),
+            Err(error) => Err(fault_of(&error)),
+        }
     }
 }
 
@@ -185,6 +189,52 @@ impl<W: Write> Write for Counted<W> {
     }
 }
 
+impl<W: Write> CountedWrite for Counted<W> {
+    ghost contents = { λ counted. W.contents (device counted) };
+
+    ghost failed = { failures };
+
+    ghost tries = { patience };
+
+    fn write_some(&mut self, bytes: &[u8]) -> Result<usize, WriteFailed> {
+        match self.write(bytes) {
+            Ok(count) => taken(count),
+            Err(error) => failed(&error),
+        }
+    }
+
+    fn flush_out(&mut self) -> Result<(), WriteFailed> {
+        match self.flush() {
+            Ok(()) => Ok(()),
+            Err(_) => Err(WriteFailed),
+        }
+    }
+}
+
+/// What becomes of a write that took so many of some bytes: where it took none it would never end.
+fn taken(count: usize) -> Result<usize, WriteFailed>
+    ensures { MatchResult result (λ taken. (taken ≡ count) × (0 < count)) (λ _. count ≡ 0) }
+{
+    if count == 0 {
+        Err(WriteFailed)
+    } else {
+        Ok(count)
+    }
+}
+
+/// What becomes of a write that failed: where it was interrupted it took none, and is made again.
+fn failed(error: &Error) -> Result<usize, WriteFailed>
+    ensures { MatchResult result
+        (λ taken. (taken ≡ 0) × (error_kind error.now ≡ ErrorKind.Interrupted))
+        (λ _. error_kind error.now ≢ ErrorKind.Interrupted) }
+{
+    if error.kind() == ErrorKind::Interrupted {
+        Ok(0)
+    } else {
+        Err(WriteFailed)
+    }
+}
+
 /// What a failure to read all bytes is.
 fn fault_of(error: &Error) -> ReadFault
     ensures { ((result ≡ Memory) × (error_kind error.now ≡ ErrorKind.OutOfMemory))
@@ -197,8 +247,21 @@ fn fault_of(error: &Error) -> ReadFault
     }
 }
 
+/// Takes byte 10 off the end, and tells whether it was there.
+fn strip_end(line: &mut Vec<u8>) -> bool
+    ensures { MatchBool result
+        ((line.old.items ≡ line.new.items ++ 10 ∷ []) × (ends_with_byte 10 line.old.items ≡ true))
+        ((line.new.items ≡ line.old.items) × (ends_with_byte 10 line.old.items ≡ false)) }
+{
+    if !ends_line(line.as_slice()) {
+        return false;
+    }
+    let _end = line.pop();
+    true
+}
+
 /// Whether the last byte is 10, which ends a line.
-pub fn ends_line(line: &[u8]) -> bool
+fn ends_line(line: &[u8]) -> bool
     ensures { result ≡ ends_with_byte 10 line.now }
 {
     !line.is_empty() && line[line.len() - 1] == b'\n'

@@ -1,18 +1,15 @@
 ghost use Rattle.std.specs.Prelude.{◌≡◌, IfOk};
 ghost use Rattle.std.specs.Io.KnownBytes.{Consumes, IsAtEnd};
-ghost use Rattle.devices.specs.Counting.{device, failures, patience, after_filling};
+ghost use Rattle.devices.specs.Counting.{after_filling};
 
-use crate::{Counted, ReadFault};
+use crate::{CountedRead, ReadFault};
 use std::alloc::Global;
-use std::io::Read;
 
 /// All bytes that the reader has left. At a fault some of them were taken.
-pub fn read_all<R: Read>(alloc: Global, reader: &mut Counted<R>) -> Result<Vec<u8>, ReadFault>
-    ensures bytes { IfOk result (λ bytes.
-        Consumes (R.remaining (device reader.old)) (R.remaining (device reader.new)) bytes.items) }
-    ensures end { IfOk result (λ _. IsAtEnd (R.remaining (device reader.new))) }
-    ensures failures { failures reader.new ≡ after_filling result (failures reader.old) }
-    ensures patience { patience reader.new ≡ patience reader.old }
+pub fn read_all<R: CountedRead>(alloc: Global, reader: &mut R) -> Result<Vec<u8>, ReadFault>
+    ensures bytes { IfOk result (λ bytes. Consumes (R.remaining reader.old) (R.remaining reader.new) bytes.items) }
+    ensures end { IfOk result (λ _. IsAtEnd (R.remaining reader.new)) }
+    ensures failures { R.failed reader.new ≡ after_filling result (R.failed reader.old) }
 {
     let mut bytes = Vec::new(alloc);
     match reader.fill(&mut bytes) {

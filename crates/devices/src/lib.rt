@@ -5,8 +5,10 @@ mod counted;
 mod failure;
 mod input;
 mod output;
+mod traits;
 
-pub use counted::{Counted, ends_line};
+pub use counted::Counted;
 pub use failure::{ReadFault, WriteFailed};
 pub use input::read_all;
 pub use output::write_out;
+pub use traits::{CountedLines, CountedRead, CountedWrite};

@@ -2,12 +2,11 @@
 #![tactic(auto)]
 
 ghost use Rattle.std.specs.Prelude.{◌≡◌, IfOk, MatchResult};
-ghost use Rattle.devices.specs.Counting.{failures};
 ghost use Rattle.trace_file.specs.Loading.{IsRefused, after_writing};
 ghost use Rattle.picture_data.specs.Shown.{Shows};
 ghost use Rattle.picture.specs.Pictures.{AreData, IsPage, IsPictureBehind, IsPictureOf, IsPictured, IsShown};
 
-use devices::{Counted, write_out};
+use devices::{CountedWrite, write_out};
 use machine::Machine;
 use picture_data::{Picture, picture_of};
 use picture_drawing::drawing_text;
@@ -16,7 +15,6 @@ use picture_text::{data_text, page_text};
 use picture_waves::waves_text;
 use sharing_check::Checked;
 use std::alloc::{AllocError, Global};
-use std::io::Write;
 use trace_file::{Fault, load_text};
 use typed_source::typed_source;
 
@@ -80,16 +78,16 @@ pub fn run_picture(
 /// Writes the same; the lines where there is no such step, of which nothing is written. At `WriteFailed`, which comes
 /// exactly where the writer counts a failure, a beginning is out; at every other fault the writer was not asked for
 /// anything.
-pub fn write_picture<W: Write>(
+pub fn write_picture<W: CountedWrite>(
     alloc: Global,
     checked: Checked,
     source: &[u8],
     trace: &[u8],
     names: Names<'_>,
     drawing: Drawing,
-    writer: &mut Counted<W>,
+    writer: &mut W,
 ) -> Result<Option<Vec<u8>>, Fault>
-    ensures failures { failures writer.new ≡ after_writing result (failures writer.old) }
+    ensures failures { W.failed writer.new ≡ after_writing result (W.failed writer.old) }
 {
     match picture_text(alloc, checked, source, trace, names, drawing) {
         Ok(Pictured::Text(text)) => written(text.as_slice(), writer),
@@ -99,8 +97,8 @@ pub fn write_picture<W: Write>(
 }
 
 /// Writes the text.
-fn written<W: Write>(text: &[u8], writer: &mut Counted<W>) -> Result<Option<Vec<u8>>, Fault>
-    ensures failures { failures writer.new ≡ after_writing result (failures writer.old) }
+fn written<W: CountedWrite>(text: &[u8], writer: &mut W) -> Result<Option<Vec<u8>>, Fault>
+    ensures failures { W.failed writer.new ≡ after_writing result (W.failed writer.old) }
 {
     match write_out(writer, text) {
         Ok(()) => Ok(None),

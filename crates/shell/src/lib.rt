@@ -4,7 +4,6 @@
 
 mod answer;
 mod host;
-mod input;
 mod laws;
 mod lines;
 mod load;

@@ -6,10 +6,10 @@ ghost use Rattle.devices.specs.Counting.{device};
 ghost use Rattle.shell.specs.Taken.{EndsAt, IsPrompt, SessionEnds};
 ghost use Rattle.shell.specs.internal.Next.{Ended, GoesOn, NextEnds, TakenEnds};
 
-use crate::input::next_line;
 use crate::output::{write_answer, write_some, write_text};
 use crate::start::{begin, setting_of};
 use crate::{Answer, Counted, Fault, Host, Outcome, Session, Setting, Texts};
+use debug_session::read_line;
 use plain_words::Text;
 use shell_answers::greeting;
 use std::alloc::Global;
@@ -112,7 +112,7 @@ impl Session {
             Ok(()) => {}
             Err(fault) => return Err(fault),
         }
-        match next_line(reader, line) {
+        match read_line(reader, line) {
             Ok(is_complete) => {
                 let ends_prompt = is_left(is_terminal, is_complete, line.as_slice());
                 self.answer_taken(

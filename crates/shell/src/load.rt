@@ -31,7 +31,7 @@ impl Session {
             self.old.bench result.outcome self.new.bench }
     {
         let Some(name) = name_in(rest) else {
-            let words = self.load_usage(setting);
+            let words = self.load_usage(setting, rest);
             return spoken(setting.alloc, Outcome::NotLoaded, words);
         };
         match host.read(setting.alloc, name) {
@@ -66,13 +66,14 @@ impl Session {
         self.notes.begin_again(&machine);
         let last_line = count_lines(setting.texts.source);
         self.bench.turn_to(machine, last_line, &mut self.notes);
+        self.notes.turn_back(self.bench.session());
         let words = self.loaded_text(setting.alloc);
         spoken(setting.alloc, Outcome::Loaded, words)
     }
 
     /// How the word is written.
-    fn load_usage(&self, setting: &Setting<'_>) -> Text {
-        question_text(&self.scene(setting), Word::Load, b"")
+    fn load_usage(&self, setting: &Setting<'_>, rest: &[u8]) -> Text {
+        question_text(&self.scene(setting), Word::Load, rest)
     }
 
     /// How many steps were loaded.

@@ -84,6 +84,21 @@ impl Notes {
         shown.into_bytes().ok()
     }
 
+    /// Adds the line that names this session: its lines follow.
+    pub(crate) fn add_turn(&mut self, session: u32) {
+        let mut text = Text::new(self.alloc);
+        self.session = session;
+        add_session(&mut text, session);
+        self.keep(text);
+    }
+
+    /// Adds that line where the lines that came last are those of another session.
+    pub(crate) fn turn_back(&mut self, session: u32) {
+        if session != self.session {
+            self.add_turn(session);
+        }
+    }
+
     /// Adds a line of this session that asks for no command.
     pub(crate) fn add_line(&mut self, session: u32, line: &[u8]) {
         let mut text = self.begin_text(session);
@@ -112,7 +127,7 @@ impl Notes {
         let mut text = Text::new(self.alloc);
         if session != self.session {
             self.session = session;
-            text.add_counted(b"session ", u64::from(session), b"\n");
+            add_session(&mut text, session);
         }
         text
     }
@@ -166,6 +181,11 @@ fn is_done(reply: &Reply) -> bool {
 /// Whether a step was taken or taken back.
 fn is_step(reply: &Reply) -> bool {
     matches!(reply, Reply::Stepped(_, _) | Reply::Undone(_, _))
+}
+
+/// Adds the line that names a session.
+fn add_session(text: &mut Text, session: u32) {
+    text.add_counted(b"session ", u64::from(session), b"\n");
 }
 
 /// Adds the line of a command.

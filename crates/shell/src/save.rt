@@ -24,7 +24,8 @@ impl Session {
         ensures { SavesTrace (H.holds host.now) self.now.bench rest.now result.outcome }
     {
         let Some(name) = name_in(rest) else {
-            return self.answer_question(setting, Word::Save, b"");
+            let word = if over { Word::SaveOver } else { Word::Save };
+            return self.answer_question(setting, word, rest);
         };
         match write_trace(setting.alloc, self.bench.desk().machine()) {
             Ok(trace) => save_trace(setting.alloc, host, name, trace.as_slice(), over),
@@ -49,7 +50,8 @@ impl Session {
         ensures { result.outcome ≡ outcomes.Done }
     {
         let Some(name) = name_in(rest) else {
-            return self.answer_question(setting, Word::Script, b"");
+            let word = if over { Word::ScriptOver } else { Word::Script };
+            return self.answer_question(setting, word, rest);
         };
         let words = match self.notes.script() {
             Some(bytes) => write_file(setting.alloc, host, name, bytes, over, "script"),

@@ -64,6 +64,7 @@ impl Session {
             self.new.bench) }
     {
         let _done = self.bench.perform(&Deed::Turn(session), &mut self.notes);
+        self.notes.add_turn(session);
         let own = write_session(setting.alloc, session);
         answered(own, Text::new(setting.alloc))
     }

@@ -1,9 +1,9 @@
 // The first lines: what the circuit is, and what to type.
 use crate::Scene;
+use crate::ports::{Port, ports};
 use crate::steps::steps_word;
 use outline::{BranchEntry, Outline, Part, outline_of};
 use plain_words::{Text, root_name};
-use system::Branch;
 
 /// So many names are told at most.
 const MOST_NAMES: usize = 12;
@@ -25,35 +25,6 @@ pub fn greeting(scene: &Scene<'_>) -> Text {
     add_live(&mut text, scene);
     text.add(b"`help` lists what you can type.\n");
     text
-}
-
-/// What a port is for.
-#[derive(Clone, Copy, PartialEq, Eq)]
-enum Port {
-    Input,
-    Output,
-    Sync,
-}
-
-/// The channel of the environment's branch where its port is for this.
-fn channel_of(branch: &Branch, wanted: Port) -> Option<u32> {
-    match (branch, wanted) {
-        (Branch::Feed(channel, _, _), Port::Input) => Some(*channel),
-        (Branch::Drain(channel), Port::Output) => Some(*channel),
-        (Branch::Syncs(channel, _), Port::Sync) => Some(*channel),
-        _ => None,
-    }
-}
-
-/// The channels of the ports that are for this; fewer without memory.
-fn ports(scene: &Scene<'_>, wanted: Port) -> Vec<u32> {
-    let mut found = Vec::new(scene.alloc);
-    for branch in scene.system().environment.as_slice() {
-        if let Some(channel) = channel_of(branch, wanted) {
-            let _ = found.push(channel);
-        }
-    }
-    found
 }
 
 /// Adds the name of the procedure.

@@ -1,6 +1,6 @@
 // Help: all words on one screen, or one word with an example.
 use crate::Scene;
-use crate::mistakes::add_nearest;
+use crate::mistakes::add_unknown_word;
 use crate::usage::usage_of;
 use plain_words::Text;
 
@@ -45,6 +45,6 @@ pub(crate) fn add_help(text: &mut Text, scene: &Scene<'_>, rest: &[u8]) {
             text.add(usage.example.as_bytes());
             text.add(b"\n");
         }
-        None => add_nearest(text, scene.alloc, word),
+        None => add_unknown_word(text, scene.alloc, word, b""),
     }
 }

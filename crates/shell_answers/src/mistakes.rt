@@ -1,9 +1,10 @@
 // Lines that say nothing here.
 use crate::Scene;
 use crate::names::{add_given, add_unknown_name};
+use crate::program_words::{add_program_word, program_word};
 use crate::usage::{USAGES, add_usage, usage_of};
 use findings::Nearest;
-use line_text::cut_at_space;
+use line_text::{cut_at_space, read_ticket};
 use plain_words::Text;
 use std::alloc::Global;
 use std::str;
@@ -13,11 +14,13 @@ pub fn mistake_text(scene: &Scene<'_>, line: &[u8]) -> Text {
     let mut text = Text::new(scene.alloc);
     let (word, rest) = cut_at_space(line);
     if usage_of(word).is_none() {
-        add_nearest(&mut text, scene.alloc, word);
+        add_unknown_word(&mut text, scene.alloc, word, rest);
+    } else if word == b"step".as_slice() && read_ticket(rest).is_some() {
+        add_step_by_number(&mut text, rest);
     } else if names_variable(word) && is_one_field(rest) {
         add_unknown_name(&mut text, scene, rest.get(1..).unwrap_or(b""));
     } else {
-        add_usage(&mut text, word);
+        add_usage(&mut text, word, rest);
     }
     text
 }
@@ -35,8 +38,25 @@ fn is_one_field(rest: &[u8]) -> bool {
     }
 }
 
+/// Adds that a number is typed alone.
+fn add_step_by_number(text: &mut Text, rest: &[u8]) {
+    text.add(
+        b"  `step` takes a place, as `step /0.0/0`; the number of a step in `ready` is typed alone, as `",
+    );
+    text.add(rest.strip_prefix(b" ").unwrap_or(b""));
+    text.add(b"`\n");
+}
+
+/// Adds that this is no word here: a command of the program is told as one.
+pub(crate) fn add_unknown_word(text: &mut Text, alloc: Global, word: &[u8], rest: &[u8]) {
+    match program_word(word) {
+        Some(found) => add_program_word(text, &found, rest),
+        None => add_nearest(text, alloc, word),
+    }
+}
+
 /// Adds that this is no word, and the nearest one, if one is near.
-pub(crate) fn add_nearest(text: &mut Text, alloc: Global, word: &[u8]) {
+fn add_nearest(text: &mut Text, alloc: Global, word: &[u8]) {
     let given = str::from_utf8(word).unwrap_or("");
     if given.is_empty() || given.len() > 40 {
         text.add(b"  this says nothing here; `help` lists what you can type\n");

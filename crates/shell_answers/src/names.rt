@@ -1,5 +1,6 @@
 // Names that no variable has: which ones are meant.
 use crate::Scene;
+use crate::ports::{channel_named, is_sync, kind_of};
 use bstr::ByteSlice;
 use findings::Nearest;
 use plain_words::Text;
@@ -42,8 +43,30 @@ fn add_character(text: &mut Text, character: char) {
     }
 }
 
-/// Adds that no variable has this name, and those that end in it behind the number of a call, or the nearest one.
+/// Adds that no variable has this name: what has it, the names that end in it behind the number of a call, or the
+/// nearest one.
 pub(crate) fn add_unknown_name(text: &mut Text, scene: &Scene<'_>, given: &[u8]) {
+    match channel_named(scene.system(), given) {
+        Some(channel) => add_channel_asked(text, scene.system(), channel, given),
+        None => add_no_variable(text, scene, given),
+    }
+}
+
+/// Adds that the name is that of a channel, and what shows what passed there.
+fn add_channel_asked(text: &mut Text, system: &System, channel: u32, given: &[u8]) {
+    text.add(b"  `");
+    add_given(text, given);
+    text.add(b"` is ");
+    text.add(kind_of(system, channel));
+    text.add(b", and no variable; `live` lists the steps");
+    if !is_sync(system, channel) {
+        text.add(b" with each value on it");
+    }
+    text.add(b", and `why T` tells what led to step T\n");
+}
+
+/// Adds that nothing has this name, and which is meant.
+fn add_no_variable(text: &mut Text, scene: &Scene<'_>, given: &[u8]) {
     text.add(b"  no variable has the name `");
     add_given(text, given);
     text.add(b"`");

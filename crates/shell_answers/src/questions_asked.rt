@@ -25,7 +25,7 @@ pub fn question_text(scene: &Scene<'_>, word: Word, rest: &[u8]) -> Text {
         Word::Show => add_show(&mut text, scene, rest),
         Word::Why => add_why(&mut text, scene, rest),
         Word::Help => add_help(&mut text, scene, rest),
-        _ => add_usage(&mut text, word.spelling()),
+        _ => add_usage(&mut text, word.spelling(), rest),
     }
     text
 }
@@ -53,7 +53,7 @@ fn add_list(text: &mut Text, scene: &Scene<'_>, rest: &[u8]) {
     }
     match read_ticket(rest) {
         Some(line) => add_lines(text, scene, Some(line)),
-        None => add_usage(text, b"list"),
+        None => add_usage(text, b"list", rest),
     }
 }
 
@@ -61,14 +61,14 @@ fn add_list(text: &mut Text, scene: &Scene<'_>, rest: &[u8]) {
 fn add_show(text: &mut Text, scene: &Scene<'_>, rest: &[u8]) {
     match read_ticket(rest) {
         Some(ticket) => add_shown(text, scene, ticket),
-        None => add_usage(text, b"show"),
+        None => add_usage(text, b"show", rest),
     }
 }
 
 /// Adds why a variable has its value, or why a step could be taken.
 fn add_why(text: &mut Text, scene: &Scene<'_>, rest: &[u8]) {
     let Some(asked) = rest.strip_prefix(b" ") else {
-        return add_usage(text, b"why");
+        return add_usage(text, b"why", rest);
     };
     match asked.strip_suffix(b" all") {
         Some(subject) => add_reason_of(text, scene, subject, true),
@@ -79,7 +79,7 @@ fn add_why(text: &mut Text, scene: &Scene<'_>, rest: &[u8]) {
 /// Adds why the subject is so.
 fn add_reason_of(text: &mut Text, scene: &Scene<'_>, subject: &[u8], all: bool) {
     let Ok(name) = str::from_utf8(subject) else {
-        return add_usage(text, b"why");
+        return add_usage(text, b"why", subject);
     };
     match reason_of(scene.alloc, scene.machine(), name, all) {
         Ok(reason) => add_reason(text, scene, subject, &reason),

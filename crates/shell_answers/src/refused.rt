@@ -1,6 +1,7 @@
 // What is told of a command that was refused.
 use crate::Scene;
 use crate::steps::{add_numbers, add_step, steps_word};
+use address::Address;
 use locked_execution::Command;
 use plain_words::{Text, add_reason, consequences_of};
 use runs::Refusal;
@@ -11,12 +12,40 @@ pub(crate) fn add_refused(text: &mut Text, scene: &Scene<'_>, command: &Command,
         (Command::Undo(ticket), Refusal::NeededBy(other)) => add_needed(
             text, scene, *ticket, other,
         ),
-        _ => {
-            text.add(b"  ");
-            add_reason(text, why);
-            text.add(b"\n");
+        (Command::Step(choice), Refusal::NotReady) => add_not_ready(text, scene, &choice.place),
+        _ => add_plain_reason(text, why),
+    }
+}
+
+/// Adds why.
+fn add_plain_reason(text: &mut Text, why: Refusal) {
+    text.add(b"  ");
+    add_reason(text, why);
+    text.add(b"\n");
+}
+
+/// Adds that no step can be taken at the place: a live one was, or there is none.
+fn add_not_ready(text: &mut Text, scene: &Scene<'_>, place: &Address) {
+    match taken_at(scene, place) {
+        Some(ticket) => {
+            text.add(b"  it is taken, as ");
+            add_step(text, scene, ticket);
+            text.add(b"; `ready` numbers the steps that can be taken now\n");
+        }
+        None => add_plain_reason(text, Refusal::NotReady),
+    }
+}
+
+/// The ticket of the live step at the place, if there is one.
+fn taken_at(scene: &Scene<'_>, place: &Address) -> Option<u64> {
+    for index in 0..scene.machine().live_events().len() as u64 {
+        if let Some((ticket, event)) = scene.machine().live_at(index) {
+            if event.acting_place() == place {
+                return Some(ticket);
+            }
         }
     }
+    None
 }
 
 /// Adds that a step stays since another depends on it, and what a rollback of it takes back.

@@ -2,6 +2,7 @@
 use crate::Scene;
 use crate::numbers::add_numbered;
 use crate::refused::add_refused;
+use crate::sent_lines::add_sent_line;
 use crate::steps::{add_done, add_newest, add_step, add_step_lines, steps_word};
 use crate::values::add_valued;
 use locked_execution::{Command, Reply};
@@ -22,9 +23,16 @@ pub fn reply_text(scene: &Scene<'_>, command: &Command, reply: &Reply) -> Text {
         Reply::Idle => add_idle(&mut text, scene, command),
         Reply::Refused(why) => add_refused(&mut text, scene, command, *why),
         Reply::Live(steps) => add_newest(&mut text, scene, steps.len()),
-        Reply::Done => {}
+        Reply::Done => add_set(&mut text, scene, command),
     }
     text
+}
+
+/// Adds what is to be known of a breakpoint that was set.
+fn add_set(text: &mut Text, scene: &Scene<'_>, command: &Command) {
+    if let Command::Break(line) = command {
+        add_sent_line(text, scene, *line);
+    }
 }
 
 /// Adds how many steps were taken back and how many are left.

@@ -222,15 +222,53 @@ pub(crate) fn usage_of(word: &[u8]) -> Option<Usage> {
     None
 }
 
-/// Adds how the word is written, where it is known.
-pub(crate) fn add_usage(text: &mut Text, word: &[u8]) {
-    if let Some(usage) = usage_of(word) {
-        text.add(b"  it is written `");
-        text.add(usage.form.as_bytes());
-        text.add(b"`, as `");
-        text.add(usage.example.as_bytes());
-        text.add(b"`; it ");
-        text.add(usage.does.as_bytes());
-        text.add(b"\n");
+/// Adds why the line is none of this word with `rest` behind it, and how the word is written, where it is known.
+pub(crate) fn add_usage(text: &mut Text, word: &[u8], rest: &[u8]) {
+    let Some(usage) = usage_of(word) else {
+        return;
+    };
+    match usage.operand() {
+        Some(operand) => {
+            add_misfit(text, &usage, operand, rest);
+            text.add(b": write `");
+            text.add(usage.form.as_bytes());
+            text.add(b"`, as `");
+            text.add(usage.example.as_bytes());
+        }
+        None => {
+            text.add(b"  nothing stands behind `");
+            text.add(word);
+        }
+    }
+    text.add(b"`; it ");
+    text.add(usage.does.as_bytes());
+    text.add(b"\n");
+}
+
+/// Adds that the operand is missing, where nothing is given, or that what is given is none.
+fn add_misfit(text: &mut Text, usage: &Usage, operand: &str, rest: &[u8]) {
+    if rest.is_empty() {
+        text.add(b"  `");
+        text.add(usage.word.as_bytes());
+        text.add(b"` lacks ");
+        text.add(operand.as_bytes());
+    } else {
+        text.add(b"  that does not fit behind `");
+        text.add(usage.word.as_bytes());
+        text.add(b"`");
+    }
+}
+
+impl Usage {
+    /// What stands behind the word, as `LINE` of `break LINE`; `None` where nothing does.
+    fn operand(&self) -> Option<&'static str> {
+        let (_, behind) = self.form.split_once(' ')?;
+        if behind.starts_with("or ") {
+            return None;
+        }
+        match behind.split_once(' ') {
+            Some((first, _)) => Some(first),
+            None => Some(behind),
+        }
     }
 }

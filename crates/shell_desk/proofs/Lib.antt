@@ -1,3 +1,4 @@
 mod AgainLemmas
 mod DeedLemmas
+mod TidyLemmas
 mod WordLemmas

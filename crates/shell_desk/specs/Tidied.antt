@@ -1,5 +1,6 @@
 -- A line as people type it, made a line of fields.
-use Rattle.std.specs.Prelude.{ℕ, ◌+◌, List, [], ◌∷◌, ◌++◌, Bool, ◌==◌, ◌||◌, ◌&&◌, nat_le, if◌then◌else◌}
+use Rattle.std.specs.Prelude.{ℕ, ◌+◌, List, [], ◌∷◌, ◌++◌, Bool, ◌==◌, ◌||◌, ◌&&◌, nat_le, if◌then◌else◌, codes}
+use Rattle.std.specs.Str.{bytes_eq}
 use Rattle.shell_desk.specs.declared.tidy.Part.{Part}
 use Rattle.shell_desk.specs.declared.tidy.Part.TheVariants.{Start, Word, Gap, Field}
 
@@ -38,5 +39,47 @@ tidy_from part (byte ∷ bytes) =
     if is_blank byte then tidy_from (behind_blank part) bytes
     else (shown_in part byte ++ tidy_from (behind_byte part) bytes)
 
+-- the text without blanks before
+abbrev pub no_blanks_before : List ℕ → List ℕ
+no_blanks_before [] = []
+no_blanks_before (byte ∷ bytes) = if is_blank byte then no_blanks_before bytes else byte ∷ bytes
+
+-- a byte before others, or nothing where it is a blank before nothing
+abbrev pub kept_before : ℕ → List ℕ → List ℕ
+kept_before byte [] = if is_blank byte then [] else byte ∷ []
+kept_before byte (next ∷ bytes) = byte ∷ next ∷ bytes
+
+-- the text without blanks behind
+abbrev pub no_blanks_behind : List ℕ → List ℕ
+no_blanks_behind [] = []
+no_blanks_behind (byte ∷ bytes) = kept_before byte (no_blanks_behind bytes)
+
+-- the field with which a text begins, in small letters
+abbrev pub first_field : List ℕ → List ℕ
+first_field [] = []
+first_field (byte ∷ bytes) = if is_blank byte then [] else small_letter byte ∷ first_field bytes
+
+-- and what stands behind it
+abbrev pub behind_field : List ℕ → List ℕ
+behind_field [] = []
+behind_field (byte ∷ bytes) = if is_blank byte then byte ∷ bytes else behind_field bytes
+
+-- the words behind which the name of a file stands
+abbrev pub names_file : List ℕ → Bool
+names_file word =
+    bytes_eq word (codes "save") || (bytes_eq word (codes "save!") || (bytes_eq word (codes "load")
+    || (bytes_eq word (codes "script") || bytes_eq word (codes "script!"))))
+
+-- a name behind a word, where there is one
+abbrev pub name_behind : List ℕ → List ℕ
+name_behind [] = []
+name_behind (byte ∷ bytes) = 32 ∷ byte ∷ bytes
+
+-- the word of a file, and its name as it was typed but for blanks at its ends
+abbrev pub with_name : List ℕ → List ℕ
+with_name text = first_field text ++ name_behind (no_blanks_behind (no_blanks_before (behind_field text)))
+
+-- the line as it is read: the name of a file keeps its blanks
 abbrev pub tidied : List ℕ → List ℕ
-tidied line = tidy_from Start line
+tidied line =
+    if names_file (first_field (no_blanks_before line)) then with_name (no_blanks_before line) else tidy_from Start line

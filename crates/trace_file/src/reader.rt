@@ -1,5 +1,4 @@
 ghost use Rattle.std.specs.Prelude.{◌≡◌, [], MatchResult};
-ghost use Rattle.devices.specs.Counting.{device, failures};
 ghost use Rattle.trace_file.specs.TraceText.{HasSteps};
 ghost use Rattle.trace_file.specs.Loading.{IsLoaded, IsRefused, StepsStop, Loads, after_reading};
 ghost use Rattle.trace_file.specs.internal.Fields.{HasNone};
@@ -10,12 +9,11 @@ use crate::line::{cut_at, read_step};
 use crate::long::refuse_long;
 use crate::order::refuse_disorder;
 use crate::version::{Version, version_of};
-use devices::{Counted, ReadFault, read_all};
+use devices::{CountedRead, ReadFault, read_all};
 use machine::{Machine, Ticket};
 use runs::{Choice, Event, Refusal};
 use sharing_check::Checked;
 use std::alloc::Global;
-use std::io::Read;
 
 /// A machine that has taken the steps of the trace that the reader has left, which is read whole before the first step.
 ///
@@ -30,13 +28,13 @@ use std::io::Read;
 /// - else, for version 2, `NotCanonical` with the number of the first line that differs from the trace of the same
 /// events;
 /// - `Memory` without memory.
-pub fn load<R: Read>(
+pub fn load<R: CountedRead>(
     alloc: Global,
     checked: Checked,
-    reader: &mut Counted<R>,
+    reader: &mut R,
 ) -> Result<Machine, Fault>
-    ensures loads { Loads checked (R.remaining (device reader.old)) (R.remaining (device reader.new)) result }
-    ensures failures { failures reader.new ≡ after_reading result (failures reader.old) }
+    ensures loads { Loads checked (R.remaining reader.old) (R.remaining reader.new) result }
+    ensures failures { R.failed reader.new ≡ after_reading result (R.failed reader.old) }
 {
     match read_all(alloc, reader) {
         Ok(text) => load_text(alloc, checked, text.as_slice()),

@@ -10,7 +10,6 @@ ghost use Rattle.runs.specs.Live.{events};
 ghost use Rattle.system.specs.declared.system.System.{System};
 ghost use Rattle.runs.specs.Steps.{State, Run, opening};
 ghost use Rattle.runs.specs.declared.event.Event.{Event};
-ghost use Rattle.devices.specs.Counting.{device, failures};
 ghost use Rattle.trace_file.specs.TraceText.{event_line, IsTrace, IsWritable};
 ghost use Rattle.trace_file.specs.Loading.{Saves, after_writing};
 
@@ -19,29 +18,23 @@ use crate::version::SECOND;
 use address::{Address, Entry};
 use canonical_order::canonical_order;
 use dependence::{Live, LiveEvent};
-use devices::{Counted, write_out};
+use devices::{CountedWrite, write_out};
 use itoa::Buffer;
 use machine::Machine;
 use runs::Event;
 use std::alloc::{AllocError, Global};
-use std::io::Write;
 
 /// Writes the trace of the live events: a header, and a line for the choice of each, in canonical order. So two
 /// machines whose live events are the same but for the order of independent ones write equal bytes. At `Memory` the
 /// writer was not asked for anything, and at `WriteFailed`, which comes exactly where the writer counts a failure, a
 /// beginning is out.
-pub fn save<W: Write>(
-    alloc: Global,
-    machine: &Machine,
-    writer: &mut Counted<W>,
-) -> Result<(), Fault>
+pub fn save<W: CountedWrite>(alloc: Global, machine: &Machine, writer: &mut W) -> Result<(), Fault>
     ensures equal { (k : List Event) (other : List ℕ) → Respecting (events machine.now.live) k →
         Respecting k (events machine.now.live) → IsTrace k other
-        → OnOk result (Appends (W.contents (device writer.old)) (W.contents (device writer.new)) other) }
-    ensures saves { Saves (events machine.now.live) (W.contents (device writer.old)) (W.contents (device writer.new))
-        result }
+        → OnOk result (Appends (W.contents writer.old) (W.contents writer.new) other) }
+    ensures saves { Saves (events machine.now.live) (W.contents writer.old) (W.contents writer.new) result }
     ensures lines { OnOk result (Every (λ e. IsWritable (choice_of e)) (events machine.now.live)) }
-    ensures failures { failures writer.new ≡ after_writing result (failures writer.old) }
+    ensures failures { W.failed writer.new ≡ after_writing result (W.failed writer.old) }
     ensures untouched { result ≡ Err Fault.Memory → writer.new ≡ writer.old }
 {
     let text = write_trace(alloc, machine)?;

@@ -41,6 +41,8 @@ mod numbers;
 #[cfg(test)]
 mod one;
 #[cfg(test)]
+mod own_devices;
+#[cfg(test)]
 mod parsing;
 #[cfg(test)]
 mod passes;

@@ -75,7 +75,7 @@ const LINES: [(&[u8], &[u8], &[u8]); 29] = [
     (
         b"break x\n",
         b"",
-        b"  it is written `break LINE`, as `break 7`; it sets a breakpoint on a line\n",
+        b"  that does not fit behind `break`: write `break LINE`, as `break 7`; it sets a breakpoint on a line\n",
     ),
     (
         b"save old\n",
@@ -119,7 +119,11 @@ const LINES: [(&[u8], &[u8], &[u8]); 29] = [
         b"",
         b"  no step was taken back: none is live, or none was asked for\n",
     ),
-    (b"break 1\n", b"ok\n", b""),
+    (
+        b"break 1\n",
+        b"ok\n",
+        b"  a run stops at no send to an output port, since the environment takes that step; where nothing else is on this line, break on what comes before\n",
+    ),
     (b"load one\n", b"", b"  loaded 1 step\n"),
     (
         b"live\n",

@@ -69,7 +69,11 @@ class Deed:
 
 
 def tidied(line: bytes) -> bytes:
-    """The line with one space between its fields and small letters in the first."""
+    """The line with one space between its fields and small letters in the first. The name of a file keeps its blanks."""
+    text = line.strip(BLANKS)
+    word = text.replace(b"\t", b" ").replace(b"\r", b" ").partition(b" ")[0]
+    if word.lower() in (*SAVES, b"load"):
+        return b" ".join(one for one in (word.lower(), text[len(word) :].strip(BLANKS)) if one)
     for blank in BLANKS:
         line = line.replace(bytes([blank]), b" ")
     fields = [one for one in line.split(b" ") if one]

@@ -1,6 +1,5 @@
 use Rattle.std.proofs.Common.{◌≡◌}
-use Rattle.std.specs.Io.Buffered.{reader_remaining}
-use Rattle.devices.specs.Counting.{failures}
+use Rattle.debug_session.proofs.HoldingLemmas.{Holding}
 use Rattle.debug_session.proofs.SessionLemmas.{Progress}
 use Rattle.debug_session.proofs.answer.hold_answers.Given as goal
 
@@ -8,6 +7,9 @@ use Rattle.debug_session.proofs.answer.hold_answers.Given as goal
 abbrev pub invariant-loop-number : goal.invariant-loop-number
 invariant-loop-number g l =
     (l.script_state.desk.machine.checked ≡ l.initial.script_state.desk.machine.checked)
-    × Progress l.initial.script_state.desk.machine.checked l.initial.script_state (reader_remaining g.R.Read.remaining l.initial.reader.device) (reader_remaining g.R.Read.remaining l.reader.device)
-    (g.W.Write.contents l.initial.writer.device) (g.W.Write.contents l.writer.device) l.pending.items l.script_state l.number
-    × (failures l.reader ≡ failures l.initial.reader) × (failures l.writer ≡ failures l.initial.writer)
+    × Progress l.initial.script_state.desk.machine.checked l.initial.script_state (g.R.CountedLines.remaining l.initial.reader) (g.R.CountedLines.remaining l.reader)
+    (g.W.CountedWrite.contents l.initial.writer) (g.W.CountedWrite.contents l.writer) l.pending.items l.script_state l.number
+    × (g.R.CountedLines.failed l.reader ≡ g.R.CountedLines.failed l.initial.reader) × (g.W.CountedWrite.failed l.writer ≡ g.W.CountedWrite.failed l.initial.writer)
+    × Holding g.R.CountedLines.buffered g.R.CountedLines.asked l.initial.script_state.desk.machine.checked l.initial.script_state l.reader
+    (g.R.CountedLines.remaining l.initial.reader) (g.R.CountedLines.remaining l.reader) (g.W.CountedWrite.contents l.initial.writer)
+    (g.W.CountedWrite.contents l.writer) l.pending.items l.script_state

@@ -11,19 +11,19 @@ returns-in-Err g c =
     (reader_remaining g.R.Read.remaining c.args.reader.now.device) c.in-Err.fault (inr (inr c.in-Err.ensures))
 
 -- the reader stopped
-pub returns-in-Err-next_line : goal.returns-in-Err-next_line
-returns-in-Err-next_line g c =
+pub returns-in-Err-read_line : goal.returns-in-Err-read_line
+returns-in-Err-read_line g c =
     stopped-part (g.H.Host.holds c.args.host.now) c.args.setting.now.texts.source.now c.args.setting.now.texts.stimulus.now c.args.self.now.bench
-    (reader_remaining g.R.Read.remaining c.args.reader.now.device) (reader_remaining g.R.Read.remaining c.next_line.new.reader.device)
-    c.next_line.new.line.items c.in-Err-next_line.fault (stops-reading c.in-Err-next_line.fault c.in-Err-next_line.ensures.2) c.in-Err-next_line.ensures.0 c.in-Err-next_line.ensures.1
+    (reader_remaining g.R.Read.remaining c.args.reader.now.device) (reader_remaining g.R.Read.remaining c.read_line.new.reader.device)
+    c.read_line.new.line.items c.in-Err-read_line.fault (stops-reading c.in-Err-read_line.fault c.in-Err-read_line.ensures.2) c.in-Err-read_line.ensures.0 c.in-Err-read_line.ensures.1
 
 -- a line was taken
-pub returns-in-Ok-next_line : goal.returns-in-Ok-next_line
-returns-in-Ok-next_line g c =
+pub returns-in-Ok-read_line : goal.returns-in-Ok-read_line
+returns-in-Ok-read_line g c =
     next-ends (g.H.Host.holds c.args.host.now) c.args.setting.now.texts.source.now c.args.setting.now.texts.stimulus.now c.args.self.now.bench c.answer_taken.new.self.bench
-    (reader_remaining g.R.Read.remaining c.args.reader.now.device) (reader_remaining g.R.Read.remaining c.next_line.new.reader.device)
+    (reader_remaining g.R.Read.remaining c.args.reader.now.device) (reader_remaining g.R.Read.remaining c.read_line.new.reader.device)
     (g.O.Write.contents c.args.out.now.device) (g.O.Write.contents c.write_some.new.out.device) (g.O.Write.contents c.answer_taken.new.out.device)
-    c.next_line.new.line.items c.prompt.result.now c.in-Ok-next_line.is_complete c.answer_taken.result c.prompt.ensures c.in-Ok.ensures c.in-Ok-next_line.ensures
-    (subst (λ (t : List ℕ). TakenEnds (g.H.Host.holds c.args.host.now) c.args.setting.now.texts.source.now c.args.setting.now.texts.stimulus.now c.args.self.now.bench t c.in-Ok-next_line.is_complete
+    c.read_line.new.line.items c.prompt.result.now c.in-Ok-read_line.is_complete c.answer_taken.result c.prompt.ensures c.in-Ok.ensures c.in-Ok-read_line.ensures
+    (subst (λ (t : List ℕ). TakenEnds (g.H.Host.holds c.args.host.now) c.args.setting.now.texts.source.now c.args.setting.now.texts.stimulus.now c.args.self.now.bench t c.in-Ok-read_line.is_complete
     (g.O.Write.contents c.write_some.new.out.device) (g.O.Write.contents c.answer_taken.new.out.device) c.answer_taken.result c.answer_taken.new.self.bench)
-    c.as_slice-in-Ok-next_line.ensures.value c.answer_taken.ensures)
+    c.as_slice-in-Ok-read_line.ensures.value c.answer_taken.ensures)

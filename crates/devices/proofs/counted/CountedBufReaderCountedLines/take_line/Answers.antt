@@ -4,7 +4,7 @@ use Rattle.std.specs.Io.Buffered.{reader_buffer, reader_capacity, reader_inner}
 use Rattle.memchr.specs.Find.{is_byte, Passes, NoneBefore}
 use Rattle.devices.specs.Counting.{IsNoEnd}
 use Rattle.devices.proofs.BufferLemmas.{line-before, line-split, taken-front}
-use Rattle.devices.proofs.counted.Counted+BufReader+R.take_line.Goals as goal
+use Rattle.devices.proofs.counted.CountedBufReaderCountedLines.take_line.Goals as goal
 
 pub returns-clause-taken : goal.returns-clause-taken
 returns-clause-taken g c =

@@ -1,5 +1,5 @@
 -- One line taken from a reader.
-use Rattle.std.proofs.Common.{◌≡◌, ◌⊎◌, ℕ, ◌+◌, ◌-◌, ◌<◌, Bool, true, false, cond, ◌&&◌, eqb, ltb, List, [], ◌∷◌, ◌++◌, Option, Some, None, MatchBool, length, take, get_or, refl, sym, ap, ◌∙◌, subst, inl, inr, arith, eqb-true, length-append, length-take}
+use Rattle.std.proofs.Common.{◌≡◌, ℕ, ◌+◌, ◌-◌, ◌<◌, Bool, true, false, cond, ◌&&◌, eqb, ltb, List, [], ◌∷◌, ◌++◌, Option, Some, None, length, take, get_or, refl, sym, ap, ◌∙◌, subst, inl, inr, arith, eqb-true, length-append, length-take}
 use Rattle.std.specs.Option.{IfSome}
 use Rattle.std.specs.List.{All}
 use Rattle.std.specs.Io.{StopsAt, appended_bytes}
@@ -10,9 +10,11 @@ use Rattle.std.proofs.lemmas.List.{get_or-take, take_more, take_all}
 use Rattle.std.proofs.lemmas.List.Elements.{All-head, All-tail, All-from_get_or}
 use Rattle.std.proofs.Math.Seq.{take-append_seam}
 use Rattle.devices.specs.Counting.{IsNoEnd}
-use Rattle.debug_session.specs.Script.{IsLine}
-use Rattle.debug_session.specs.declared.fault.Fault.{Fault}
-use Rattle.debug_session.specs.internal.OneLine.{TakesLine, ReadingStops}
+use Rattle.devices.specs.Taking.{TakesLine, TakesPart}
+
+-- a line without its end
+abbrev IsLine : List ℕ → Type 0
+IsLine text = All IsNoEnd text
 
 -- both tests hold
 both : (a b : Bool) → (a && b) ≡ true → (a ≡ true) × (b ≡ true)
@@ -110,19 +112,11 @@ takes-last old new start read line none e stops takes bytes drops =
     )
 
 -- a part of a line behind which the reader failed
-pub takes-part : (old new : Option (List ℕ)) (start read line : List ℕ) (fault : Fault) → start ≡ []
+pub takes-part : (old new : Option (List ℕ)) (start read line : List ℕ) → start ≡ []
     → (line ≡ read) × (ends_with_byte 10 read ≡ false) → StopsAt (appended_bytes start read) 10
-    → Consumes old new (appended_bytes start read) → (fault ≡ Fault.Memory) ⊎ (fault ≡ Fault.ReadFailed)
-    → ReadingStops old new line fault
-takes-part old new start read line fault none e stops takes which =
+    → Consumes old new (appended_bytes start read) → TakesPart old new line
+takes-part old new start read line none e stops takes =
     let all : appended_bytes start read ≡ read = ap (λ t. appended_bytes t read) none in (
       subst (λ t. All IsNoEnd t) (sym e.0) (line-unended read (subst (λ t. StopsAt t 10) all stops) e.1),
       subst (Consumes old new) (all ∙ sym e.0) takes,
-      which,
     )
-
--- a line that was at hand
-pub taken-whole : (A B C : Type 0) (b : Bool) (old new : Option (List ℕ)) (line : List ℕ) → b ≡ true
-    → MatchBool b (IsLine line × Consumes old new (line ++ 10 ∷ []) × A × B) C → TakesLine old new line true
-taken-whole A B C true old new line e h = (h.0, h.1)
-taken-whole A B C false old new line e h = absurd (false≢true e)

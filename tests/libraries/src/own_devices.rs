@@ -1,0 +1,121 @@
+//! Sessions over a reader and a writer of one's own, which count their failures themselves.
+
+ghost use Rattle.std.specs.Prelude.{None, []};
+
+use crate::one::{FIVE, ONE};
+use debug_session::{CountedLines, CountedWrite, Fault, debug};
+use devices::{ReadFault, WriteFailed};
+use std::alloc::{AllocError, Global};
+use std::test::Fail;
+
+/// A reader that has all of its bytes at hand.
+#[derive(Drop)]
+struct Script<'a> {
+    rest: &'a [u8],
+}
+
+impl CountedLines for Script<'_> {
+    ghost remaining = { λ _. None };
+
+    ghost failed = { λ _. 0 };
+
+    ghost buffered = { λ _. [] };
+
+    ghost Asked = { Unit {0} };
+
+    ghost asked = { λ _. tt };
+
+    fn take_line(&mut self, line: &mut Vec<u8>) -> Result<bool, AllocError> {
+        let Some(end) = self.rest.iter().position(|byte| *byte == b'\n') else {
+            return Ok(false);
+        };
+        line.clear();
+        line.extend_from_slice(&self.rest[..end])?;
+        self.rest = &self.rest[end + 1..];
+        Ok(true)
+    }
+
+    fn read_line(&mut self, line: &mut Vec<u8>) -> Result<bool, ReadFault> {
+        line.clear();
+        if line.extend_from_slice(self.rest).is_err() {
+            return Err(ReadFault::Memory);
+        }
+        self.rest = b"";
+        Ok(false)
+    }
+}
+
+/// A writer that takes a byte at a time, and fails behind so many.
+#[derive(Drop)]
+struct Paper {
+    taken: Vec<u8>,
+    good: usize,
+}
+
+impl CountedWrite for Paper {
+    ghost contents = { λ _. None };
+
+    ghost failed = { λ _. 0 };
+
+    ghost tries = { λ _. 0 };
+
+    fn write_some(&mut self, bytes: &[u8]) -> Result<usize, WriteFailed> {
+        if self.taken.len() >= self.good || self.taken.extend_from_slice(&bytes[..1]).is_err() {
+            return Err(WriteFailed);
+        }
+        Ok(1)
+    }
+
+    fn flush_out(&mut self) -> Result<(), WriteFailed> {
+        Ok(())
+    }
+}
+
+/// How a session of these lines ends on the writer, and what is left of them.
+fn ended<'a>(
+    alloc: Global,
+    lines: &'a [u8],
+    paper: &mut Paper,
+) -> Result<(Result<(), Fault>, &'a [u8]), Fail> {
+    let mut script = Script { rest: lines };
+    match debug(alloc, &mut script, paper, ONE, FIVE) {
+        Err(Fault::Memory) => Err(Fail::from(Fault::Memory)),
+        ended => Ok((ended, script.rest)),
+    }
+}
+
+#[test]
+fn a_session_is_over_any_devices(rt: HostRuntime) -> Result<(), Fail> {
+    let lines = b"step /0.0\nlive";
+    let answers = b"step 1 meet i 5 /1.0.0 /0.0\nlive 1\n  1 meet i 5 /1.0.0 /0.0\n";
+    for good in 0..answers.len() + 1 {
+        let mut paper = Paper {
+            taken: Vec::with_capacity(rt.alloc(), 256)?,
+            good,
+        };
+        let (ended, _) = ended(rt.alloc(), lines, &mut paper)?;
+        assert_eq!(rt; ended.is_ok(), good == answers.len());
+        assert!(rt; paper.taken.as_slice() == &answers[..good]);
+    }
+    Ok(())
+}
+
+#[test]
+fn behind_a_failed_write_no_line_is_taken(rt: HostRuntime) -> Result<(), Fail> {
+    let mut lines = Vec::new(rt.alloc());
+    for _ in 0..5_000 {
+        lines.extend_from_slice(b"live\n")?;
+    }
+    // Answers of 7 bytes each are held up to 8,192 bytes: the line behind 1,170 of them is the last that is taken.
+    for (good, taken) in [(0, 1_171), (1_000, 1_171), (8_197, 2_342)] {
+        let mut paper = Paper {
+            taken: Vec::with_capacity(rt.alloc(), 16_384)?,
+            good,
+        };
+        let (ended, rest) = ended(rt.alloc(), lines.as_slice(), &mut paper)?;
+        assert!(rt; matches!(ended, Err(Fault::WriteFailed)));
+        assert_eq!(rt; paper.taken.len(), good);
+        assert_eq!(rt; rest.len(), lines.len() - 5 * taken);
+    }
+    Ok(())
+}
