@@ -146,12 +146,12 @@ fn roll_newest(
             kept.clear();
             Rolled::Ended(Rewound::Refused(why))
         }
-        None => rolled(stop, index),
+        None => outcome_of(stop, index),
     }
 }
 
 /// What came of the rollback of the step at this index, behind which a run back ends for this reason, if it does.
-fn rolled(stop: Option<Rewound>, index: usize) -> Rolled
+fn outcome_of(stop: Option<Rewound>, index: usize) -> Rolled
     ensures { (kept : List Kept) → MatchOption stop (kept ≡ []) (λ ended. KeepsBack ended kept) → RolledKeeps result kept }
 {
     match stop {

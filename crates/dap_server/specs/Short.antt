@@ -100,14 +100,16 @@ stop_head Stop.Stands = codes "\",\"body\":{\"reason\":\"pause\",\"threadId\":"
 stop_head Stop.AtLine = codes "\",\"body\":{\"reason\":\"breakpoint\",\"threadId\":"
 stop_head (Stop.Refused why) = codes "\",\"body\":{\"reason\":\"exception\",\"threadId\":"
 
+-- that a step was refused, for the reason of this number
+abbrev pub refused_words : ℕ → List ℕ
+refused_words why = codes "refused " ++ decimal why ++ codes "; there is no memory left to tell more\"}}"
+
 -- the same in words, and all that is left
 abbrev pub stop_rest : Stop → List ℕ
 stop_rest Stop.Stands = codes ",\"allThreadsStopped\":true,\"text\":\"stopped; there is no memory left to tell more\"}}"
 stop_rest Stop.AtLine =
     codes ",\"allThreadsStopped\":true,\"text\":\"stopped at a breakpoint; there is no memory left to tell more\"}}"
-stop_rest (Stop.Refused why) =
-    codes ",\"allThreadsStopped\":true,\"text\":\"refused " ++ decimal why
-    ++ codes "; there is no memory left to tell more\"}}"
+stop_rest (Stop.Refused why) = codes ",\"allThreadsStopped\":true,\"text\":\"" ++ refused_words why
 
 -- that nothing moves
 abbrev pub stopped_text : Stop → ℕ → List ℕ

@@ -2,6 +2,7 @@
 ghost use Rattle.std.specs.Prelude.{◌≡◌, ◌++◌, OnOk, codes, string_bytes};
 ghost use Rattle.std.specs.Fmt.{decimal};
 ghost use Rattle.dap_messages.specs.Messages.{event_name};
+ghost use Rattle.dap_messages.specs.declared.told.Stop as stops;
 ghost use Rattle.dap_server.specs.Short as model;
 
 use crate::gist::Gist;
@@ -256,11 +257,17 @@ fn add_stop_rest(body: &mut Vec<u8>, stop: Stop) -> Result<(), AllocError>
 
 /// Adds that a step was refused, for the reason of this number, and all that is left.
 fn add_refused(body: &mut Vec<u8>, why: u64) -> Result<(), AllocError>
-    ensures { OnOk result (body.new.items ≡ body.old.items
-        ++ (codes ",\"allThreadsStopped\":true,\"text\":\"refused " ++ decimal why
-        ++ codes "; there is no memory left to tell more\"}}")) }
+    ensures { OnOk result (body.new.items ≡ body.old.items ++ model.stop_rest (stops.Stop.Refused why)) }
 {
-    body.extend_from_slice(b",\"allThreadsStopped\":true,\"text\":\"refused ")?;
+    body.extend_from_slice(b",\"allThreadsStopped\":true,\"text\":\"")?;
+    add_refused_words(body, why)
+}
+
+/// Adds the words for a step that was refused, and all that is left.
+fn add_refused_words(body: &mut Vec<u8>, why: u64) -> Result<(), AllocError>
+    ensures { OnOk result (body.new.items ≡ body.old.items ++ model.refused_words why) }
+{
+    body.extend_from_slice(b"refused ")?;
     add_number(body, why)?;
     body.extend_from_slice(b"; there is no memory left to tell more\"}}")
 }
