@@ -43,12 +43,12 @@ past-end [] i h = refl
 past-end (x ∷ xs) zero h = absurd (omega (arith, h))
 past-end (x ∷ xs) (suc i) h = past-end xs i (omega (arith, h))
 
-bool-same : (l : List Bool) (i : ℕ) (v : Bool) → i < length l → slice_get (slice_set l i v) i ≡ Some v
+pub bool-same : (l : List Bool) (i : ℕ) (v : Bool) → i < length l → slice_get (slice_set l i v) i ≡ Some v
 bool-same [] i v h = absurd (omega (arith, h))
 bool-same (x ∷ l) zero v h = refl
 bool-same (x ∷ l) (suc i) v h = bool-same l i v (omega (arith, h))
 
-bool-other : (l : List Bool) (i j : ℕ) (v : Bool) → (i ≡ j → ⊥) → slice_get (slice_set l i v) j ≡ slice_get l j
+pub bool-other : (l : List Bool) (i j : ℕ) (v : Bool) → (i ≡ j → ⊥) → slice_get (slice_set l i v) j ≡ slice_get l j
 bool-other [] i j v h = refl
 bool-other (x ∷ l) zero zero v h = absurd (h refl)
 bool-other (x ∷ l) zero (suc j) v h = refl

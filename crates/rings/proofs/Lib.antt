@@ -1,6 +1,9 @@
+mod Chosen
+mod Counted
 mod Left
 mod Rows
 mod Ringed
 mod Marked
 mod Places
 mod Holding
+mod Summed

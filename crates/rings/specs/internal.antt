@@ -1,4 +1,6 @@
+pub mod Ends
 pub mod Loosened
 pub mod Loosening
+pub mod Placed
 pub mod Search
 pub mod Seen

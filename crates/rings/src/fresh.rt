@@ -1,138 +1,211 @@
-// The search in commands that have made no move.
-ghost use Rattle.std.specs.Prelude.{◌≡◌, None, map, IfOk};
-ghost use Rattle.std.specs.Option.{option_copied};
+// The walk through commands that have made no move.
+ghost use Rattle.std.specs.Prelude.{◌≡◌, ◌++◌, map, IfOk, OnOk};
 ghost use Rattle.process_tree.specs.Translation.{row_of};
-ghost use Rattle.process_tree.specs.View.{await_view, code_view, repeat_view};
-ghost use Rattle.rings.specs.Partners as model;
-ghost use Rattle.rings.specs.internal.Seen as walked;
-ghost use Rattle.rings.specs.internal.Seen.{standing};
+ghost use Rattle.process_tree.specs.View.{await_view, code_view, once_view, repeat_view, sender_view};
+ghost use Rattle.rings.specs.internal.Ends as model;
 
-use crate::found::{Found, after, ahead, at_arms, in_branch, in_turns, there, together};
+use crate::ends::{
+    End, Kind, Summary, add_both, add_here, after, beside, in_turns, none_here, one_here,
+};
 use crate::sought::Sought;
-use crate::way::{below, branch, ordered};
-use address::Entry;
-use process_tree::{Await, Code, Repeat};
+use crate::way::{branch, ordered};
+use process_tree::{Await, Code, Once, Repeat, Sender};
 use std::alloc::{AllocError, Global};
 
-/// Where it stands in the command; `own` is the way from there to the action that waits, if that stands within.
+/// The ends in the command on the channels that are wanted.
 #[cycle(look_fresh)]
-pub(crate) fn look_fresh(
-    alloc: Global,
-    code: &Code,
-    sought: Sought,
-    own: Option<&[Entry]>,
-) -> Result<Found, AllocError>
-    ensures { IfOk result (λ found.
-        standing found ≡ walked.code_seen sought (code_view code.now) (option_copied own.entry)) }
+pub(crate) fn look_fresh(alloc: Global, code: &Code, wanted: &[bool]) -> Result<Summary, AllocError>
+    ensures { IfOk result (λ found. model.sum_of found ≡ model.code_sum wanted.now (code_view code.now)) }
 {
     match code {
-        Code::Continue => Ok(Found::Over),
-        Code::Halt => Ok(Found::Never),
-        Code::Once(once) => Ok(there(own, sought.is_once(once.get()))),
-        Code::Sender(sender) => Ok(there(own, sought.is_sender(sender.get()))),
-        Code::Repeat(repeat) => look_again(alloc, repeat.get(), sought),
-        Code::Decide(decide) => {
-            let later = comes_in(alloc, decide.get().arms.as_slice(), sought)?;
-            Ok(ahead(alloc, later))
-        }
-        Code::Await(waiting) => look_arms(alloc, waiting.get(), sought, own),
-        Code::InTurn(row) => look_in_turn(alloc, row.get().codes.as_slice(), sought, own),
-        Code::SideBySide(row) => look_abreast(alloc, row.get().codes.as_slice(), sought, own),
-        Code::Drain(channel) => Ok(there(own, sought.is_receive(*channel))),
+        Code::Continue => Ok(Summary::Over),
+        Code::Halt => Ok(none_here(alloc, true)),
+        Code::Once(once) => look_unmade(alloc, once.get(), wanted),
+        Code::Sender(sender) => look_waiting(alloc, sender.get(), wanted),
+        Code::Repeat(repeat) => look_again(alloc, repeat.get(), wanted),
+        Code::Decide(decide) => look_tests(alloc, decide.get().arms.as_slice(), wanted),
+        Code::Await(waiting) => look_arms(alloc, waiting.get(), wanted),
+        Code::InTurn(row) => look_in_turn(alloc, row.get().codes.as_slice(), wanted),
+        Code::SideBySide(row) => look_abreast(alloc, row.get().codes.as_slice(), wanted),
+        Code::Drain(channel) => { one_here(alloc, wanted, *channel, Sought::Receiver(*channel)) }
     }
 }
 
-/// Where it stands in the turns of a loop that are still to come.
+/// The ends in what moves once, and has not.
+pub(crate) fn look_unmade(
+    alloc: Global,
+    once: &Once,
+    wanted: &[bool],
+) -> Result<Summary, AllocError>
+    ensures { IfOk result (λ found. model.sum_of found ≡ model.once_sum wanted.now (once_view once.now)) }
+{
+    match once {
+        Once::Receive(channel, _) => {
+            one_here(alloc, wanted, *channel, Sought::Receiver(*channel))
+        }
+        Once::Assign(_, _, _) => Ok(none_here(alloc, false)),
+    }
+}
+
+/// The ends that a send or sync is.
+pub(crate) fn look_waiting(
+    alloc: Global,
+    sender: &Sender,
+    wanted: &[bool],
+) -> Result<Summary, AllocError>
+    ensures { IfOk result (λ found. model.sum_of found ≡ model.sender_sum wanted.now (sender_view sender.now)) }
+{
+    match sender {
+        Sender::Send(channel, _, _) => {
+            one_here(alloc, wanted, *channel, Sought::Sender(*channel))
+        }
+        Sender::Sync(channel) => look_sync(alloc, *channel, wanted),
+    }
+}
+
+/// The ends that a sync is.
+fn look_sync(alloc: Global, channel: u32, wanted: &[bool]) -> Result<Summary, AllocError>
+    ensures { IfOk result (λ found. model.sum_of found ≡ model.sync_sum wanted.now channel) }
+{
+    let mut ends = Vec::new(alloc);
+    add_both(
+        alloc,
+        wanted,
+        channel,
+        Sought::Sender(channel),
+        Sought::Partner(channel),
+        &mut ends,
+    )?;
+    Ok(Summary::AtWork(false, ends))
+}
+
+/// The ends in the turns of a loop that are still to come.
 #[cycle(look_fresh)]
 pub(crate) fn look_again(
     alloc: Global,
     repeat: &Repeat,
-    sought: Sought,
-) -> Result<Found, AllocError>
+    wanted: &[bool],
+) -> Result<Summary, AllocError>
     ensures { IfOk result (λ found.
-        standing found ≡ walked.again_seen sought (repeat_view repeat.now).0 (repeat_view repeat.now).1) }
+        model.sum_of found
+        ≡ model.again_sum wanted.now (repeat_view repeat.now).0 (repeat_view repeat.now).1) }
 {
-    let found = look_fresh(alloc, &repeat.body, sought, None)?;
-    Ok(in_turns(alloc, repeat.guard.is_none(), found.is_found()))
+    let body = look_fresh(alloc, &repeat.body, wanted)?;
+    in_turns(alloc, repeat.guard.is_none(), &body)
 }
 
-/// Where it stands at arms that wait.
+/// The ends in the arms of a test.
+#[cycle(look_fresh)]
+pub(crate) fn look_tests(
+    alloc: Global,
+    arms: &[Code],
+    wanted: &[bool],
+) -> Result<Summary, AllocError>
+    ensures { IfOk result (λ found.
+        model.sum_of found ≡ model.tested (model.codes_sum wanted.now (row_of (map code_view arms.now)))) }
+{
+    let mut ends = Vec::new(alloc);
+    gather(alloc, arms, Kind::Within, wanted, &mut ends)?;
+    Ok(Summary::AtWork(false, ends))
+}
+
+/// The ends at arms that wait, and in them.
 #[cycle(look_fresh)]
 pub(crate) fn look_arms(
     alloc: Global,
     waiting: &Await,
-    sought: Sought,
-    own: Option<&[Entry]>,
-) -> Result<Found, AllocError>
+    wanted: &[bool],
+) -> Result<Summary, AllocError>
     ensures { IfOk result (λ found.
-        standing found
-        ≡ model.at_arms (option_copied own.entry) (model.is_arm sought (await_view waiting.now).0)
-        (walked.any_found (walked.codes_seen sought (await_view waiting.now).1))) }
+        model.sum_of found
+        ≡ model.armed wanted.now (await_view waiting.now).0
+        (model.codes_sum wanted.now (await_view waiting.now).1)) }
 {
-    let later = comes_in(alloc, waiting.arms.as_slice(), sought)?;
-    let one = sought.is_arm(waiting.channels.as_slice());
-    Ok(at_arms(alloc, own, one, later))
+    let mut ends = Vec::new(alloc);
+    gather(
+        alloc,
+        waiting.arms.as_slice(),
+        Kind::Later,
+        wanted,
+        &mut ends,
+    )?;
+    add_arms(alloc, waiting.channels.as_slice(), wanted, &mut ends)?;
+    Ok(Summary::AtWork(false, ends))
 }
 
-/// Whether it comes in one of the commands.
-#[cycle(look_fresh)]
-pub(crate) fn comes_in(alloc: Global, codes: &[Code], sought: Sought) -> Result<bool, AllocError>
-    ensures { IfOk result (λ comes.
-        comes ≡ walked.any_found (walked.codes_seen sought (row_of (map code_view codes.now)))) }
+/// Adds the ends that arms on these channels are.
+fn add_arms(
+    alloc: Global,
+    channels: &[u32],
+    wanted: &[bool],
+    ends: &mut Vec<End>,
+) -> Result<(), AllocError>
+    ensures { OnOk result (ends.new.items ≡ ends.old.items ++ model.arm_ends wanted.now channels.now) }
 {
-    for code in codes {
-        if look_fresh(alloc, code, sought, None)?.is_found() {
-            return Ok(true);
-        }
+    for channel in channels {
+        add_both(
+            alloc,
+            wanted,
+            *channel,
+            Sought::Receiver(*channel),
+            Sought::Partner(*channel),
+            ends,
+        )?;
     }
-    Ok(false)
+    Ok(())
 }
 
-/// Where it stands in commands one after another.
+/// Adds the ends in the commands as those that come from somewhere here.
 #[cycle(look_fresh)]
-fn look_in_turn(
+fn gather(
     alloc: Global,
     codes: &[Code],
-    sought: Sought,
-    own: Option<&[Entry]>,
-) -> Result<Found, AllocError>
-    ensures { IfOk result (λ found.
-        standing found
-        ≡ walked.walk_in_turn 0 (walked.codes_seen sought (row_of (map code_view codes.now)))
-        (option_copied own.entry)) }
+    kind: Kind,
+    wanted: &[bool],
+    ends: &mut Vec<End>,
+) -> Result<(), AllocError>
+    ensures { OnOk result (ends.new.items
+        ≡ ends.old.items ++ model.gathered kind (model.codes_sum wanted.now (row_of (map code_view codes.now)))) }
 {
-    let mut found = Found::Over;
+    for code in codes {
+        let part = look_fresh(alloc, code, wanted)?;
+        add_here(alloc, kind, &part, ends)?;
+    }
+    Ok(())
+}
+
+/// The ends in commands one after another.
+#[cycle(look_fresh)]
+fn look_in_turn(alloc: Global, codes: &[Code], wanted: &[bool]) -> Result<Summary, AllocError>
+    ensures { IfOk result (λ found.
+        model.sum_of found
+        ≡ model.sum_in_turn 0 (model.codes_sum wanted.now (row_of (map code_view codes.now)))) }
+{
+    let mut found = Summary::Over;
     let mut number = codes.len();
     'children: while number > 0 {
         number -= 1;
         let entry = ordered(number as u64)?;
-        let inside = below(own, entry);
-        let child = look_fresh(alloc, &codes[number], sought, inside)?;
-        found = after(alloc, entry, inside, child, found)?;
+        let child = look_fresh(alloc, &codes[number], wanted)?;
+        found = after(alloc, entry, child, found)?;
     }
     Ok(found)
 }
 
-/// Where it stands in commands side by side.
+/// The ends in commands side by side.
 #[cycle(look_fresh)]
-fn look_abreast(
-    alloc: Global,
-    codes: &[Code],
-    sought: Sought,
-    own: Option<&[Entry]>,
-) -> Result<Found, AllocError>
+fn look_abreast(alloc: Global, codes: &[Code], wanted: &[bool]) -> Result<Summary, AllocError>
     ensures { IfOk result (λ found.
-        standing found
-        ≡ walked.walk_abreast 0 (walked.codes_seen sought (row_of (map code_view codes.now)))
-        (option_copied own.entry)) }
+        model.sum_of found
+        ≡ model.sum_abreast 0 (model.codes_sum wanted.now (row_of (map code_view codes.now)))) }
 {
-    let mut found = Found::Over;
+    let mut found = Summary::Over;
     let mut number = codes.len();
     'children: while number > 0 {
         number -= 1;
         let entry = branch(number as u64)?;
-        let child = look_fresh(alloc, &codes[number], sought, below(own, entry))?;
-        found = together(in_branch(entry, child)?, found);
+        let child = look_fresh(alloc, &codes[number], wanted)?;
+        found = beside(alloc, entry, child, found)?;
     }
     Ok(found)
 }

@@ -2,14 +2,16 @@
 //! of actions of which each waits for the next one.
 #![tactic(auto)]
 
+mod among;
 mod deadlock;
-mod found;
+mod ends;
 mod fresh;
 mod look;
 mod partner;
 mod ring;
 mod sought;
 mod waits;
+mod wanted;
 mod way;
 
 pub use deadlock::deadlocked_among;

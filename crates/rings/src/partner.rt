@@ -1,14 +1,22 @@
 // What an action that waits waits for.
-ghost use Rattle.std.specs.Prelude.{◌≡◌, [], map, reverse, IfOk};
+ghost use Rattle.std.specs.Prelude.{◌≡◌, [], length, map, IfOk};
+ghost use Rattle.syntax.specs.Lists.{In};
+ghost use Rattle.system.specs.Expression.{Store};
 ghost use Rattle.process_tree.specs.Remaining.{remaining};
 ghost use Rattle.process_tree.specs.View.{tree_view};
-ghost use Rattle.rings.specs.Partners.{partner_in, partner_standing};
-ghost use Rattle.rings.specs.internal.Seen.{standing};
+ghost use Rattle.local_actions.specs.Actions.{Offered};
+ghost use Rattle.local_actions.specs.View.{state_of};
+ghost use Rattle.local_actions.specs.declared.action.LocalAction as any;
+ghost use Rattle.rings.specs.Partners.{partner_in};
+ghost use Rattle.rings.specs.internal.Ends as model;
 
-use crate::found::Found;
+use crate::among::among;
+use crate::ends::{End, Summary};
 use crate::look::look;
 use crate::sought::Sought;
-use address::{Address, Entry};
+use crate::wanted::{uses_of, wanted_by};
+use address::Address;
+use last_events::UseTable;
 use local_actions::LocalAction;
 use process_tree::Tree;
 use std::alloc::{AllocError, Global};
@@ -24,51 +32,68 @@ pub enum Partner {
     Open,
 }
 
-/// For each of the actions what has to go on before its partner can come, in the order of the actions. It is an error
-/// if there is no memory.
+/// For each of the actions, all of which the tree offers, what has to go on before its partner can come, in the order
+/// of the actions. It takes one walk through the tree. It is an error if there is no memory.
 pub fn partners_of(
     alloc: Global,
     tree: &Tree,
     actions: &[LocalAction],
 ) -> Result<Vec<Partner>, AllocError>
-    ensures { IfOk result (λ partners.
+    ensures count { IfOk result (λ partners. length partners.items ≡ length actions.now) }
+    ensures partners { (values : Store) →
+        ((x : any.LocalAction) → In x actions.now → Offered (state_of tree.now values) x) →
+        IfOk result (λ partners.
         partners.items ≡ map (partner_in (remaining [] (tree_view tree.now))) actions.now) }
+{
+    let wanted = wanted_by(alloc, actions)?;
+    let found = look(alloc, tree.root(), wanted.as_slice())?;
+    match &found {
+        Summary::Over => partners_among(alloc, &[], actions),
+        Summary::AtWork(_, ends) => partners_among(alloc, ends.as_slice(), actions),
+    }
+}
+
+/// For each of the actions its partner among the ends.
+fn partners_among(
+    alloc: Global,
+    ends: &[End],
+    actions: &[LocalAction],
+) -> Result<Vec<Partner>, AllocError>
+    ensures { IfOk result (λ partners. partners.items ≡ map (model.partner_from ends.now) actions.now) }
+{
+    let uses = uses_of(alloc, ends)?;
+    all_among(alloc, ends, &uses, actions)
+}
+
+/// The same with the numbers of the ends on each channel.
+fn all_among(
+    alloc: Global,
+    ends: &[End],
+    uses: &UseTable,
+    actions: &[LocalAction],
+) -> Result<Vec<Partner>, AllocError>
+    requires { model.HasEnds uses.now ends.now }
+    ensures { IfOk result (λ partners. partners.items ≡ map (model.partner_from ends.now) actions.now) }
 {
     let mut partners = Vec::with_capacity(alloc, actions.len())?;
     for action in actions {
-        partners.push(partner_of(alloc, tree, action)?)?;
+        partners.push(partner_of(alloc, ends, uses, action)?)?;
     }
     Ok(partners)
 }
 
-/// What has to go on before the partner of the action can come.
-fn partner_of(alloc: Global, tree: &Tree, offered: &LocalAction) -> Result<Partner, AllocError>
-    ensures { IfOk result (λ partner. partner ≡ partner_in (remaining [] (tree_view tree.now)) offered.now) }
+/// The partner of the action among the ends.
+fn partner_of(
+    alloc: Global,
+    ends: &[End],
+    uses: &UseTable,
+    offered: &LocalAction,
+) -> Result<Partner, AllocError>
+    requires { model.HasEnds uses.now ends.now }
+    ensures { IfOk result (λ partner. partner ≡ model.partner_from ends.now offered.now) }
 {
     match Sought::by(&offered.action) {
-        Some(sought) => {
-            let own = offered.place.entries();
-            Ok(as_partner(look(alloc, tree.root(), sought, Some(own))?))
-        }
+        Some(sought) => among(alloc, ends, uses, sought, offered.place.entries()),
         None => Ok(Partner::Open),
     }
-}
-
-/// The same with the way in the order of a place.
-fn as_partner(found: Found) -> Partner
-    ensures { result ≡ partner_standing (standing found) }
-{
-    match found {
-        Found::Over | Found::Nowhere | Found::Never => Partner::Gone,
-        Found::Behind(way) => Partner::Behind(turned(way)),
-        Found::Open => Partner::Open,
-    }
-}
-
-/// The place with these entries, of which the last comes first.
-fn turned(mut way: Vec<Entry>) -> Address
-    ensures { result ≡ reverse way.items }
-{
-    way.reverse();
-    Address::from_vec(way)
 }

@@ -1,11 +1,9 @@
 // The other end of a channel that an action waits for.
 ghost use Rattle.std.specs.Prelude.{◌≡◌};
-ghost use Rattle.process_tree.specs.View.{once_view, sender_view};
 ghost use Rattle.rings.specs.Partners as model;
-ghost use Rattle.rings.specs.internal.Seen as walked;
+ghost use Rattle.rings.specs.internal.Ends as ends;
 
 use local_actions::ActionKind;
-use process_tree::{Once, Sender};
 
 /// What could be the partner of an action that waits.
 #[derive(Clone, Copy)]
@@ -39,85 +37,28 @@ impl Sought {
         }
     }
 
-    /// Whether a receive on the channel is one.
-    pub(crate) fn is_receive(self, channel: u32) -> bool
-        ensures { result ≡ model.is_receive self channel }
+    /// Its channel.
+    pub(crate) fn channel(self) -> u32
+        ensures { result ≡ ends.channel_of self }
     {
         match self {
-            Sought::Receiver(sought) => sought == channel,
+            Sought::Receiver(channel)
+            | Sought::Sender(channel)
+            | Sought::Partner(channel)
+            | Sought::Close(channel) => { channel }
+        }
+    }
+
+    /// Whether both are one.
+    pub(crate) fn is_same(self, other: Sought) -> bool
+        ensures { result ≡ ends.same_sought self other }
+    {
+        match (self, other) {
+            (Sought::Receiver(one), Sought::Receiver(other)) => one == other,
+            (Sought::Sender(one), Sought::Sender(other)) => one == other,
+            (Sought::Partner(one), Sought::Partner(other)) => one == other,
+            (Sought::Close(one), Sought::Close(other)) => one == other,
             _ => false,
         }
     }
-
-    /// Whether what moves once is one.
-    pub(crate) fn is_once(self, once: &Once) -> bool
-        ensures { result ≡ walked.is_once self (once_view once.now) }
-    {
-        match once {
-            Once::Receive(channel, _) => self.is_receive(*channel),
-            Once::Assign(_, _, _) => false,
-        }
-    }
-
-    /// Whether a send or a sync is one.
-    pub(crate) fn is_sender(self, sender: &Sender) -> bool
-        ensures { result ≡ walked.is_sender self (sender_view sender.now) }
-    {
-        match sender {
-            Sender::Send(channel, _, _) => self.is_send(*channel),
-            Sender::Sync(channel) => self.is_sync(*channel),
-        }
-    }
-
-    /// Whether a send on the channel is one.
-    fn is_send(self, channel: u32) -> bool
-        ensures { result ≡ model.is_send self channel }
-    {
-        match self {
-            Sought::Sender(sought) => sought == channel,
-            _ => false,
-        }
-    }
-
-    /// Whether a sync on the channel is one.
-    fn is_sync(self, channel: u32) -> bool
-        ensures { result ≡ model.is_sync self channel }
-    {
-        match self {
-            Sought::Sender(sought) | Sought::Partner(sought) => sought == channel,
-            _ => false,
-        }
-    }
-
-    /// Whether one of the arms that wait on these channels is one.
-    pub(crate) fn is_arm(self, channels: &[u32]) -> bool
-        ensures { result ≡ model.is_arm self channels.now }
-    {
-        match self {
-            Sought::Receiver(sought) | Sought::Partner(sought) => has_channel(channels, sought),
-            _ => false,
-        }
-    }
-
-    /// Whether it is the close on this channel.
-    pub(crate) fn is_close(self, channel: u32) -> bool
-        ensures { result ≡ model.is_close self channel }
-    {
-        match self {
-            Sought::Close(sought) => sought == channel,
-            _ => false,
-        }
-    }
-}
-
-/// Whether the channel is one of these.
-fn has_channel(channels: &[u32], sought: u32) -> bool
-    ensures { result ≡ model.has_channel sought channels.now }
-{
-    for channel in channels {
-        if sought == *channel {
-            return true;
-        }
-    }
-    false
 }

@@ -1,34 +1,10 @@
-// The way from a place to the action that waits.
-ghost use Rattle.std.specs.Prelude.{◌≡◌, Some, IfOk};
-ghost use Rattle.std.specs.Option.{option_copied};
+// Entries of places.
+ghost use Rattle.std.specs.Prelude.{◌≡◌, IfOk};
 ghost use Rattle.address.specs.declared.Entry.TheVariants as entry;
 ghost use Rattle.runs.specs.Tests.{same_entry};
-ghost use Rattle.rings.specs.Partners as model;
 
 use address::Entry;
 use std::alloc::AllocError;
-
-/// The way on behind this entry, where the way goes there.
-pub(crate) fn below(own: Option<&[Entry]>, entry: Entry) -> Option<&[Entry]>
-    ensures { option_copied result ≡ model.below (option_copied own.entry) entry }
-{
-    match own {
-        Some(way) => below_here(way, entry),
-        None => None,
-    }
-}
-
-/// The same of a way that is at hand.
-fn below_here(way: &[Entry], entry: Entry) -> Option<&[Entry]>
-    ensures { option_copied result ≡ model.below (Some way.now) entry }
-{
-    let (first, rest) = way.split_first()?;
-    if is_same_entry(*first, entry) {
-        Some(rest)
-    } else {
-        None
-    }
-}
 
 /// Whether both entries are one.
 pub(crate) fn is_same_entry(one: Entry, other: Entry) -> bool

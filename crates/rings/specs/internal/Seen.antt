@@ -1,24 +1,14 @@
--- Where the other end stands in commands and in processes, as the code walks through them.
--- No reader has to believe it: `proofs/Left.antt` ties it to `stands` of what is left of them.
-use Rattle.std.specs.Prelude.{◌≡◌, ℕ, ◌+◌, ◌*◌, List, [], ◌∷◌, reverse, Bool, true, false, ◌||◌, Option, Some, None, is_none}
+-- Where the other end stands in commands and in processes, for one action at a time.
+-- No reader has to believe it: `proofs/Left.antt` ties it to `stands` of what is left of them, `proofs/Summed.antt` to
+-- what the code finds.
+use Rattle.std.specs.Prelude.{ℕ, ◌+◌, ◌*◌, List, [], ◌∷◌, Bool, true, false, ◌||◌, Option, None, is_none}
 use Rattle.address.specs.declared.Entry.TheVariants.{Ordered, Branch}
 use Rattle.runs.specs.Moves.{Place}
 use Rattle.system.specs.Expression.{Expression}
-use Rattle.process_tree.specs.Children.{proc_at}
 use Rattle.process_tree.specs.Code.{Once, assigning, receiving, Sender, sending, syncing, Code, continues, halts, moves_once, may_be_held, repeats, decides, awaits, in_turn, side_by_side, drains, Codes, no_code, code}
 use Rattle.process_tree.specs.Proc.{waiting, holding, past, Proc, idle, stopped, once, sender, fresh, turn, ended_at_once, ended, untested, skipped, took, unopened, entered, closed, sequence, parallel, drained, Procs, no_procs, proc}
-use Rattle.rings.specs.Partners.{is_receive, is_send, is_sync, is_close, is_arm, Standing, over, nowhere, never, behind, at_hand, is_found, below, there, ahead, in_turns, at_arms, after, in_branch, together}
-use Rattle.rings.specs.declared.found.Found.{Found}
-use Rattle.rings.specs.declared.found.Found.TheVariants as found
+use Rattle.rings.specs.Partners.{is_receive, is_send, is_sync, is_close, is_arm, Standing, over, nowhere, never, is_found, below, there, ahead, in_turns, at_arms, after, in_branch, together}
 use Rattle.rings.specs.declared.sought.Sought.{Sought}
-
--- what the code has found; its way is the last entry first
-abbrev pub standing : Found → Standing
-standing found.Over = over
-standing found.Nowhere = nowhere
-standing found.Never = never
-standing (found.Behind way) = behind (reverse way.items)
-standing found.Open = at_hand
 
 -- whether what moves once is what is sought
 abbrev pub is_once : Sought → Once → Bool
@@ -104,9 +94,3 @@ abbrev mutual
   pub procs_seen : Sought → Procs → List Walk
   procs_seen s no_procs = []
   procs_seen s (proc p ps) = seen s p ∷ procs_seen s ps
-
--- this is where it stands in child i of a sequence, or in what comes behind it
-abbrev pub SeenAt : Sought → Option Place → Procs → ℕ → Standing → Standing → Type 0
-SeenAt s own ps i rest x =
-    (p : Proc) → proc_at ps i ≡ Some p →
-    x ≡ after (Ordered i) (below own (Ordered i)) (seen s p (below own (Ordered i))) rest

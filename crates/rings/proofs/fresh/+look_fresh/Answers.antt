@@ -1,13 +1,13 @@
 -- Child by child, from the last.
 use Rattle.std.proofs.Common.{◌≡◌, ℕ, ◌+◌, ◌-◌, ◌<◌, ◌≤◌, length, arith}
-use Rattle.std.specs.Option.{option_copied}
+use Rattle.address.specs.declared.Entry.TheVariants.{Ordered, Branch}
 use Rattle.process_tree.specs.View.{code_view}
-use Rattle.rings.specs.internal.Seen.{code_seen, standing}
+use Rattle.rings.specs.internal.Ends.{code_sum, sum_of}
 use Rattle.rings.proofs.Rows.{turned, branched, fresh-turn, fresh-branch, fresh-end, fresh-last}
 use Rattle.rings.proofs.fresh.+look_fresh.Goals as goal
 
 pub look_in_turn-children-init : goal.look_in_turn-children-init
-look_in_turn-children-init t c = (omega arith, fresh-end c.args.sought (option_copied c.args.own) c.args.codes.now (length c.args.codes.now) (omega arith))
+look_in_turn-children-init t c = (omega arith, fresh-end c.args.wanted.now c.args.codes.now (length c.args.codes.now) (omega arith))
 
 pub look_in_turn-children-preserved : goal.look_in_turn-children-preserved
 look_in_turn-children-preserved t c =
@@ -16,14 +16,14 @@ look_in_turn-children-preserved t c =
     let next : c.children.number ≡ i + 1 = omega arith in
     let less : i < length c.args.codes.now = omega arith in (
       omega arith,
-      fresh-turn c.args.sought (option_copied c.args.own) c.args.codes.now i c.children.number c.index-codes-number.result (standing c.children.found) _ next less
+      fresh-turn c.args.wanted.now c.args.codes.now i c.children.number c.index-codes-number.result (sum_of c.children.found) _ next less
           c.index-codes-number.is c.children.invariant.1
-          (turned (code_seen c.args.sought (code_view c.index-codes-number.result)) (option_copied c.args.own) (option_copied c.below-inside.result) i c.in_ok-entry.entry
-          (standing c.in_ok-child.child) (standing c.children.found) _ c.in_ok-entry.ensures c.below-inside.ensures c.in_ok-child.ensures c.in_ok-found.ensures),
+          (turned (code_sum c.args.wanted.now (code_view c.index-codes-number.result)) (Ordered i) c.in_ok-entry.entry (sum_of c.in_ok-child.child) (sum_of c.children.found) _
+          c.in_ok-entry.ensures c.in_ok-child.ensures c.in_ok-found.ensures),
     )
 
 pub look_abreast-children-init : goal.look_abreast-children-init
-look_abreast-children-init t c = (omega arith, fresh-last c.args.sought (option_copied c.args.own) c.args.codes.now (length c.args.codes.now) (omega arith))
+look_abreast-children-init t c = (omega arith, fresh-last c.args.wanted.now c.args.codes.now (length c.args.codes.now) (omega arith))
 
 pub look_abreast-children-preserved : goal.look_abreast-children-preserved
 look_abreast-children-preserved t c =
@@ -32,9 +32,8 @@ look_abreast-children-preserved t c =
     let next : c.children.number ≡ i + 1 = omega arith in
     let less : i < length c.args.codes.now = omega arith in (
       omega arith,
-      fresh-branch c.args.sought (option_copied c.args.own) c.args.codes.now i c.children.number c.index-codes-number.result (standing c.children.found) _ next less
+      fresh-branch c.args.wanted.now c.args.codes.now i c.children.number c.index-codes-number.result (sum_of c.children.found) _ next less
           c.index-codes-number.is c.children.invariant.1
-          (branched (code_seen c.args.sought (code_view c.index-codes-number.result)) (option_copied c.args.own) (option_copied c.below.result) i c.in_ok-entry.entry
-          (standing c.in_ok-child.child) (standing c.in_ok-in_branch.field-0) (standing c.children.found) _ c.in_ok-entry.ensures c.below.ensures c.in_ok-child.ensures
-          c.in_ok-in_branch.ensures c.together-found.ensures),
+          (branched (code_sum c.args.wanted.now (code_view c.index-codes-number.result)) (Branch i) c.in_ok-entry.entry (sum_of c.in_ok-child.child) (sum_of c.children.found) _
+          c.in_ok-entry.ensures c.in_ok-child.ensures c.in_ok-found.ensures),
     )

@@ -1,21 +1,24 @@
 -- From the last child down to this one all is found.
-use Rattle.std.proofs.Common.{◌≡◌, ◌≤◌, drop, length}
-use Rattle.std.specs.Option.{option_copied}
-use Rattle.rings.specs.internal.Seen.{standing}
-use Rattle.rings.proofs.Rows.{fresh-in-turn, fresh-abreast, fresh-any}
+use Rattle.std.proofs.Common.{◌≡◌, ◌≤◌, ◌++◌, drop, length, map}
+use Rattle.process_tree.specs.Translation.{row_of}
+use Rattle.process_tree.specs.View.{code_view}
+use Rattle.rings.specs.internal.Ends.{codes_sum, gathered, sum_of}
+use Rattle.rings.proofs.Rows.{fresh-in-turn, fresh-abreast}
 use Rattle.rings.proofs.fresh.+look_fresh.Given as goal
 
 abbrev pub invariant-look_in_turn-children : goal.invariant-look_in_turn-children
-invariant-look_in_turn-children l = (l.number ≤ length l.codes) × (standing l.found ≡ fresh-in-turn l.sought (option_copied l.own) l.codes l.number)
+invariant-look_in_turn-children l = (l.number ≤ length l.codes) × (sum_of l.found ≡ fresh-in-turn l.wanted l.codes l.number)
 
 abbrev pub decreases-look_in_turn-children : goal.decreases-look_in_turn-children
 decreases-look_in_turn-children l = l.number
 
 abbrev pub invariant-look_abreast-children : goal.invariant-look_abreast-children
-invariant-look_abreast-children l = (l.number ≤ length l.codes) × (standing l.found ≡ fresh-abreast l.sought (option_copied l.own) l.codes l.number)
+invariant-look_abreast-children l = (l.number ≤ length l.codes) × (sum_of l.found ≡ fresh-abreast l.wanted l.codes l.number)
 
 abbrev pub decreases-look_abreast-children : goal.decreases-look_abreast-children
 decreases-look_abreast-children l = l.number
 
-abbrev pub invariant-comes_in-loop-code : goal.invariant-comes_in-loop-code
-invariant-comes_in-loop-code l = fresh-any l.sought (drop l.code-index l.codes) ≡ fresh-any l.sought l.codes
+abbrev pub invariant-gather-loop-code : goal.invariant-gather-loop-code
+invariant-gather-loop-code l =
+    l.ends.items ++ gathered l.kind (codes_sum l.wanted (row_of (map code_view (drop l.code-index l.codes))))
+    ≡ l.initial.ends.items ++ gathered l.kind (codes_sum l.wanted (row_of (map code_view l.codes)))

@@ -2,7 +2,8 @@ use Rattle.std.proofs.Common.{◌≡◌, ◌∙◌, List, Bool, map, sym, ap, ap
 use Rattle.runs.specs.Steps.{State}
 use Rattle.runs.specs.Ready.{ReadyList}
 use Rattle.runs.specs.declared.event.Event.{Event}
-use Rattle.local_actions.specs.Actions.{OffersExactly}
+use Rattle.syntax.specs.Lists.{In}
+use Rattle.local_actions.specs.Actions.{Offered, OffersExactly}
 use Rattle.local_actions.specs.View.{state_of}
 use Rattle.local_actions.specs.declared.action.LocalAction.{LocalAction}
 use Rattle.rings.specs.Partners.{partner_in}
@@ -35,8 +36,10 @@ returns c =
     let once : kept ≡ each_once (left_over events actions) = c.in_ok-actions-2.ensures ∙ ap each_once left in
     let waits : ListsWaiting S kept =
     subst (λ (xs : List LocalAction). ListsWaiting S xs) (sym once) (lists-waiting S actions events exact (c.in_ok-actions.ensures.in_order stands.tidy) list) in
+    let offered : (x : LocalAction) → In x c.as_slice-4.result.now → Offered S x =
+    λ x i. ((waits.exactly x).0 (subst (λ (xs : List LocalAction). In x xs) c.as_slice-4.ensures i)).offered in
     let partners : c.in_ok-partners.partners.items ≡ map (partner_in S.residual) kept =
-    c.in_ok-partners.ensures ∙ ap (λ (xs : List LocalAction). map (partner_in S.residual) xs) c.as_slice-4.ensures in
+    c.in_ok-partners.ensures.partners c.in_ok-state.state.store offered ∙ ap (λ (xs : List LocalAction). map (partner_in S.residual) xs) c.as_slice-4.ensures in
     let given : c.as_slice-6.result.now ≡ map (partner_in S.residual) c.as_slice-5.result.now =
     c.as_slice-6.ensures.value ∙ partners ∙ ap (λ (xs : List LocalAction). map (partner_in S.residual) xs) (sym c.as_slice-5.ensures) in
     let marks : List Bool = c.in_ok-deadlocked.deadlocked.items in

@@ -15,7 +15,7 @@ pub returns-in-Err-read_line : goal.returns-in-Err-read_line
 returns-in-Err-read_line g c =
     stopped-part (g.H.Host.holds c.args.host.now) c.args.setting.now.texts.source.now c.args.setting.now.texts.stimulus.now c.args.self.now.bench
     (reader_remaining g.R.Read.remaining c.args.reader.now.device) (reader_remaining g.R.Read.remaining c.read_line.new.reader.device)
-    c.read_line.new.line.items c.in-Err-read_line.fault (stops-reading c.in-Err-read_line.fault c.in-Err-read_line.ensures.2) c.in-Err-read_line.ensures.0 c.in-Err-read_line.ensures.1
+    c.read_line.new.line.items c.in-Err-read_line.fault (stops-reading c.in-Err-read_line.fault c.in-Err-read_line.ensures.line.2) c.in-Err-read_line.ensures.line.0 c.in-Err-read_line.ensures.line.1
 
 -- a line was taken
 pub returns-in-Ok-read_line : goal.returns-in-Ok-read_line
@@ -23,7 +23,7 @@ returns-in-Ok-read_line g c =
     next-ends (g.H.Host.holds c.args.host.now) c.args.setting.now.texts.source.now c.args.setting.now.texts.stimulus.now c.args.self.now.bench c.answer_taken.new.self.bench
     (reader_remaining g.R.Read.remaining c.args.reader.now.device) (reader_remaining g.R.Read.remaining c.read_line.new.reader.device)
     (g.O.Write.contents c.args.out.now.device) (g.O.Write.contents c.write_some.new.out.device) (g.O.Write.contents c.answer_taken.new.out.device)
-    c.read_line.new.line.items c.prompt.result.now c.in-Ok-read_line.is_complete c.answer_taken.result c.prompt.ensures c.in-Ok.ensures c.in-Ok-read_line.ensures
+    c.read_line.new.line.items c.prompt.result.now c.in-Ok-read_line.is_complete c.answer_taken.result c.prompt.ensures c.in-Ok.ensures c.in-Ok-read_line.ensures.line
     (subst (λ (t : List ℕ). TakenEnds (g.H.Host.holds c.args.host.now) c.args.setting.now.texts.source.now c.args.setting.now.texts.stimulus.now c.args.self.now.bench t c.in-Ok-read_line.is_complete
     (g.O.Write.contents c.write_some.new.out.device) (g.O.Write.contents c.answer_taken.new.out.device) c.answer_taken.result c.answer_taken.new.self.bench)
     c.as_slice-in-Ok-read_line.ensures.value c.answer_taken.ensures)

@@ -1,0 +1,780 @@
+-- What a walk finds for all that is sought at once tells of each action that is offered where its partner stands.
+use Rattle.std.proofs.Common.{◌≡◌, ◌⊎◌, inl, inr, ℕ, ◌+◌, ◌*◌, ◌<◌, ◌≤◌, List, [], ◌∷◌, ◌++◌, Bool, true, false, ◌||◌, cond, is_none, Option, Some, None, refl, sym, ap, ap₂, ◌∙◌, subst, ne_eqb, true≢false, arith}
+use Rattle.address.specs.declared.Entry.{Entry}
+use Rattle.address.specs.declared.Entry.TheVariants.{Ordered, Branch}
+use Rattle.system.specs.Expression.{Expression}
+use Rattle.system.specs.Residual.{Residual, done, halted, inside, beside, assign, send, receive, sync, held, loop, while, test, choose, closing, drain, within, along}
+use Rattle.runs.specs.Moves.{Place, Move, Local}
+use Rattle.runs.specs.Tests.{same_entry}
+use Rattle.process_tree.specs.Code.{Once, assigning, receiving, Sender, sending, syncing, Code, continues, halts, moves_once, may_be_held, repeats, decides, awaits, in_turn, side_by_side, drains, Codes, no_code, code}
+use Rattle.process_tree.specs.Remaining.{Received, with_value, puts, again, residual, remaining, remaining_sequence, remaining_parallel}
+use Rattle.process_tree.specs.Proc.{waiting, holding, past, Proc, idle, stopped, once, sender, fresh, turn, ended_at_once, ended, untested, skipped, took, unopened, entered, closed, sequence, parallel, drained, Procs, no_procs, proc, started, all_started}
+use Rattle.rings.specs.Partners as standing
+use Rattle.rings.specs.Partners.{Standing, over, nowhere, never, behind, at_hand, is_receive, is_sync, is_close, is_arm, has_channel, is_found, below, there, ahead, at_arms, in_branch, together, stands, partner_standing}
+use Rattle.rings.specs.declared.ends.Kind.{Kind}
+use Rattle.rings.specs.declared.ends.Kind.TheVariants.{There, Later, Within}
+use Rattle.rings.specs.declared.partner.Partner.{Partner}
+use Rattle.rings.specs.declared.partner.Partner.TheVariants as partner
+use Rattle.rings.specs.declared.sought.Sought.{Sought}
+use Rattle.rings.specs.declared.sought.Sought.TheVariants as sought
+use Rattle.rings.specs.internal.Ends as sums
+use Rattle.rings.specs.internal.Placed.{Placed}
+use Rattle.rings.specs.internal.Ends.{channel_of, same_sought, has, wants, or_end_if, counted, under, later, here, gathered, Sum, finished, working, after, in_turns, if_wanted, one, once_sum, sync_sum, sender_sum, arm, arm_ends, tested, armed, sum_in_turn, sum_abreast, code_sum, codes_sum, again_sum, proc_sum, procs_sum}
+use Rattle.rings.specs.internal.Seen.{Walk, is_once, is_sender, walk_in_turn, walk_abreast, any_found, code_seen, codes_seen, again_seen, seen, procs_seen}
+use Rattle.rings.proofs.Counted.{same-sought-true, none-counted, some-counted, gone_as, shown, shown-partner, found-has, pre, below-itself, counted-under, later-held, later-none, later-some, later-own, tog, StartsApart, AllApart, counted-beside, counted-apart, AllAt, here-at, gathered-at, has-append, has-here, here_if, within-all, later-all, open-more, later-here}
+use Rattle.rings.proofs.Left.{left-seen}
+
+abbrev pub is_over : Standing → Bool
+is_over over = true
+is_over nowhere = false
+is_over never = false
+is_over (behind a) = false
+is_over at_hand = false
+
+-- what is found is where it stands, for an action that stands elsewhere, and as far as its partner goes for one that is
+-- offered here
+abbrev pub Tells : Sum → Sought → Option Place → Standing → Type 0
+Tells finished s own y = y ≡ over
+Tells (working e es) s None y = y ≡ shown e (counted s None es)
+Tells (working e es) s (Some a) y = (partner_standing y ≡ counted s (Some a) es) × (is_over y ≡ false)
+
+abbrev pub Fits : (Place → Type 0) → Option Place → Type 0
+Fits F None = Unit {0}
+Fits F (Some a) = F a
+
+abbrev pub Walks : Type 0
+Walks = Sought → Walk
+
+-- ---- standings
+not-over : (e : Bool) (r : Partner) → is_over (shown e r) ≡ false
+not-over true partner.Gone = refl
+not-over false partner.Gone = refl
+not-over e (partner.Behind p) = refl
+not-over e partner.Open = refl
+
+over-shown : (e : Bool) (r : Partner) → shown e r ≡ over → ⊥
+over-shown e r h = true≢false (sym (ap is_over h) ∙ not-over e r)
+
+-- in the child, where the action stands there
+inner : (x : Entry) (b : Place) (y z : Standing) → is_over y ≡ false
+    → (partner_standing (standing.after x (Some b) y z) ≡ pre x (partner_standing y)) × (is_over (standing.after x (Some b) y z) ≡ false)
+inner x b over z h = cc
+inner x b nowhere z h = (refl, refl)
+inner x b never z h = (refl, refl)
+inner x b (behind a) z h = (refl, refl)
+inner x b at_hand z h = (refl, refl)
+
+after-endless : (x : Entry) (c : Partner) (z : Standing) → standing.after x None (shown true c) z ≡ shown true (pre x c)
+after-endless x partner.Gone z = refl
+after-endless x (partner.Behind p) z = refl
+after-endless x partner.Open z = refl
+
+after-last : (x : Entry) (c : Partner) → standing.after x None (shown false c) over ≡ shown false (pre x c)
+after-last x partner.Gone = refl
+after-last x (partner.Behind p) = refl
+after-last x partner.Open = refl
+
+after-held : (x : Entry) (f : Bool) (c : Partner) (z : Standing) → (c ≡ partner.Gone → ⊥) → standing.after x None (shown false c) z ≡ shown f (pre x c)
+after-held x f partner.Gone z h = absurd (h refl)
+after-held x f (partner.Behind p) z h = refl
+after-held x f partner.Open z h = refl
+
+after-none : (x : Entry) (f : Bool) → standing.later x None (gone_as f) ≡ gone_as f
+after-none x true = refl
+after-none x false = refl
+
+after-some : (x : Entry) (f : Bool) (r : Partner) → (r ≡ partner.Gone → ⊥) → standing.later x None (shown f r) ≡ behind (x ∷ [])
+after-some x f partner.Gone h = absurd (h refl)
+after-some x f (partner.Behind p) h = refl
+after-some x f partner.Open h = refl
+
+-- side by side
+tog-standing : (x : Entry) (y z : Standing) → partner_standing (together (in_branch x y) z) ≡ tog (pre x (partner_standing y)) (partner_standing z)
+tog-standing x over z = refl
+tog-standing x nowhere over = refl
+tog-standing x nowhere nowhere = refl
+tog-standing x nowhere never = refl
+tog-standing x nowhere (behind b) = refl
+tog-standing x nowhere at_hand = refl
+tog-standing x never over = refl
+tog-standing x never nowhere = refl
+tog-standing x never never = refl
+tog-standing x never (behind b) = refl
+tog-standing x never at_hand = refl
+tog-standing x (behind a) over = refl
+tog-standing x (behind a) nowhere = refl
+tog-standing x (behind a) never = refl
+tog-standing x (behind a) (behind b) = refl
+tog-standing x (behind a) at_hand = refl
+tog-standing x at_hand z = refl
+
+tog-over : (x : Entry) (y z : Standing) → is_over y ≡ false → is_over (together (in_branch x y) z) ≡ false
+tog-over x over z h = cc
+tog-over x nowhere over h = refl
+tog-over x nowhere nowhere h = refl
+tog-over x nowhere never h = refl
+tog-over x nowhere (behind b) h = refl
+tog-over x nowhere at_hand h = refl
+tog-over x never over h = refl
+tog-over x never nowhere h = refl
+tog-over x never never h = refl
+tog-over x never (behind b) h = refl
+tog-over x never at_hand h = refl
+tog-over x (behind a) over h = refl
+tog-over x (behind a) nowhere h = refl
+tog-over x (behind a) never h = refl
+tog-over x (behind a) (behind b) h = refl
+tog-over x (behind a) at_hand h = refl
+tog-over x at_hand z h = refl
+
+tog-last : (x : Entry) (e : Bool) (c : Partner) → together (in_branch x (shown e c)) over ≡ shown e (pre x c)
+tog-last x true partner.Gone = refl
+tog-last x false partner.Gone = refl
+tog-last x e (partner.Behind p) = refl
+tog-last x e partner.Open = refl
+
+tog-shown : (x : Entry) (e f : Bool) (c r : Partner) → together (in_branch x (shown e c)) (shown f r) ≡ shown (e || f) (tog (pre x c) r)
+tog-shown x true true partner.Gone partner.Gone = refl
+tog-shown x true false partner.Gone partner.Gone = refl
+tog-shown x false true partner.Gone partner.Gone = refl
+tog-shown x false false partner.Gone partner.Gone = refl
+tog-shown x true f partner.Gone (partner.Behind q) = refl
+tog-shown x false f partner.Gone (partner.Behind q) = refl
+tog-shown x true f partner.Gone partner.Open = refl
+tog-shown x false f partner.Gone partner.Open = refl
+tog-shown x e true (partner.Behind p) partner.Gone = refl
+tog-shown x e false (partner.Behind p) partner.Gone = refl
+tog-shown x e f (partner.Behind p) (partner.Behind q) = refl
+tog-shown x e f (partner.Behind p) partner.Open = refl
+tog-shown x e f partner.Open r = refl
+
+-- ---- what is over offers nothing
+after-over : (x : Entry) (own : Option Place) (y z : Standing) → standing.after x own y z ≡ over → y ≡ over
+after-over x own over z h = refl
+after-over x None nowhere over h = cc
+after-over x None nowhere nowhere h = cc
+after-over x None nowhere never h = cc
+after-over x None nowhere (behind a) h = cc
+after-over x None nowhere at_hand h = cc
+after-over x (Some b) nowhere z h = cc
+after-over x own never z h = cc
+after-over x own (behind a) z h = cc
+after-over x own at_hand z h = cc
+
+branch-over : (x : Entry) (y z : Standing) → together (in_branch x y) z ≡ over → (y ≡ over) × (z ≡ over)
+branch-over x over z h = (refl, h)
+branch-over x nowhere over h = cc
+branch-over x nowhere nowhere h = cc
+branch-over x nowhere never h = cc
+branch-over x nowhere (behind b) h = cc
+branch-over x nowhere at_hand h = cc
+branch-over x never over h = cc
+branch-over x never nowhere h = cc
+branch-over x never never h = cc
+branch-over x never (behind b) h = cc
+branch-over x never at_hand h = cc
+branch-over x (behind a) over h = cc
+branch-over x (behind a) nowhere h = cc
+branch-over x (behind a) never h = cc
+branch-over x (behind a) (behind b) h = cc
+branch-over x (behind a) at_hand h = cc
+branch-over x at_hand z h = cc
+
+there-over : (own : Option Place) (b : Bool) → there own b ≡ over → ⊥
+there-over None true h = cc
+there-over None false h = cc
+there-over (Some a) b h = cc
+
+ahead-over : (b : Bool) → ahead b ≡ over → ⊥
+ahead-over true h = cc
+ahead-over false h = cc
+
+turns-over : (e b : Bool) → standing.in_turns e b ≡ over → ⊥
+turns-over true true h = cc
+turns-over true false h = cc
+turns-over false b h = ahead-over b h
+
+arms-over : (own : Option Place) (o l : Bool) → at_arms own o l ≡ over → ⊥
+arms-over None true l h = cc
+arms-over None false l h = ahead-over l h
+arms-over (Some a) o l h = cc
+
+nothing-left : (s : Sought) (r : Residual) (own : Option Place) → stands s r own ≡ over → (a : Place) (m : Move) (q : Residual) → Local r a m q → ⊥
+nothing-left s done own h a m q l = absurd l
+nothing-left s halted own h a m q l = absurd l
+nothing-left s (inside i child next) own h a m q l =
+    nothing-left s child (below own (Ordered i)) (after-over (Ordered i) (below own (Ordered i)) (stands s child (below own (Ordered i))) (stands s next own) h) l.0 m l.1 l.3
+nothing-left s (beside k child rest) own h a m q l =
+    let both = branch-over (Branch k) (stands s child (below own (Branch k))) (stands s rest own) h in
+    elim l [
+      | inl here ↦ nothing-left s child (below own (Branch k)) both.0 here.0 m here.1 here.3
+      | inr other ↦ nothing-left s rest own both.1 a m other.0 other.1
+    ]
+nothing-left s (assign x w e) own h a m q l = cc
+nothing-left s (send c w e) own h a m q l = there-over own (standing.is_send s c) h
+nothing-left s (receive c x) own h a m q l = there-over own (is_receive s c) h
+nothing-left s (sync c) own h a m q l = there-over own (is_sync s c) h
+nothing-left s (held c) own h a m q l = cc
+nothing-left s (loop k body) own h a m q l = turns-over true (is_found (stands s body None)) h
+nothing-left s (while k e body) own h a m q l = turns-over false (is_found (stands s body None)) h
+nothing-left s (test d arms) own h a m q l = ahead-over (standing.in_arms s arms) h
+nothing-left s (choose cs arms) own h a m q l = arms-over own (is_arm s cs) (standing.in_arms s arms) h
+nothing-left s (closing c) own h a m q l = there-over own (is_close s c) h
+nothing-left s (drain c k) own h a m q l = there-over own (is_receive s c) h
+
+-- a move in a child or in what comes behind it
+within-local : (i : ℕ) (r q : Residual) (a : Place) (m : Move) (t : Residual) → Local (within i r q) a m t
+    → ((b : Place) × (u : Residual) × (a ≡ Ordered i ∷ b) × Local r b m u) ⊎ ((r ≡ done) × Local q a m t)
+within-local i done q a m t l = inr (refl, l)
+within-local i r q a m t l = inl (l.0, l.1, l.2, l.3)
+
+-- in a branch or beside it
+along-local : (k : ℕ) (r q : Residual) (a : Place) (m : Move) (t : Residual) → Local (along k r q) a m t
+    → ((b : Place) × (u : Residual) × (a ≡ Branch k ∷ b) × Local r b m u) ⊎ ((u : Residual) × Local q a m u)
+along-local k done q a m t l = inr (t, l)
+along-local k r q a m t l = elim l [
+  | inl here ↦ inl (here.0, here.1, here.2, here.3)
+  | inr other ↦ inr (other.0, other.1)
+]
+
+-- where a process, or some of them, offer something
+abbrev pub Fronts : Proc → Place → Type 0
+Fronts p a = (env : Received) × (m : Move) × (t : Residual) × Local (remaining env p) a m t
+
+abbrev FrontsInTurn : ℕ → Procs → Place → Type 0
+FrontsInTurn n ps a = (env : Received) × (m : Move) × (t : Residual) × Local (remaining_sequence env n ps) a m t
+
+abbrev FrontsAbreast : ℕ → Procs → Place → Type 0
+FrontsAbreast n ps a = (env : Received) × (m : Move) × (t : Residual) × Local (remaining_parallel env n ps) a m t
+
+alive : (p : Proc) (b : Place) → Fronts p b → (s : Sought) → seen s p (Some b) ≡ over → ⊥
+alive p b f s h = nothing-left s (remaining f.0 p) (Some b) (left-seen s p f.0 (Some b) ∙ h) b f.1 f.2 f.3
+
+done-over : (p : Proc) (env : Received) → remaining env p ≡ done → (s : Sought) (own : Option Place) → seen s p own ≡ over
+done-over p env is s own = sym (left-seen s p env own) ∙ ap (λ (r : Residual). stands s r own) is
+
+-- an action in a child, or in what comes behind it
+enter-child : (i : ℕ) (q : Proc) (a : Place) (env : Received) (m : Move) (r t : Residual) → Local (within i (remaining env q) r) a m t
+    → ((b : Place) × (a ≡ Ordered i ∷ b) × Fronts q b) ⊎ (((s : Sought) (own : Option Place) → seen s q own ≡ over) × Unit {0})
+enter-child i q a env m r t l = elim (within-local i (remaining env q) r a m t l) [
+  | inl child ↦ inl (child.0, child.2, (env, m, child.1, child.3))
+  | inr behind_it ↦ inr ((λ s own. done-over q env behind_it.0 s own), tt)
+]
+
+enter-turn : (n : ℕ) (p : Proc) (ps : Procs) (a : Place) → FrontsInTurn n (proc p ps) a
+    → ((b : Place) × (a ≡ Ordered n ∷ b) × Fronts p b) ⊎ (((s : Sought) (own : Option Place) → seen s p own ≡ over) × FrontsInTurn (n + 1) ps a)
+enter-turn n p ps a f = elim (within-local n (remaining f.0 p) (remaining_sequence f.0 (n + 1) ps) a f.1 f.2 f.3) [
+  | inl child ↦ inl (child.0, child.2, (f.0, f.1, child.1, child.3))
+  | inr behind_it ↦ inr ((λ s own. done-over p f.0 behind_it.0 s own), (f.0, f.1, f.2, behind_it.1))
+]
+
+-- branches have numbers of their own
+branch-apart : (n k : ℕ) → n < k → (same_entry (Branch n) (Branch k) ≡ false) × (same_entry (Branch k) (Branch n) ≡ false)
+branch-apart n k h = (ne_eqb n k (λ e. omega (arith, e, h)), ne_eqb k n (λ e. omega (arith, e, h)))
+
+abreast-elsewhere : (fs : List Walk) (k n : ℕ) (b : Place) → n < k → walk_abreast k fs (Some (Branch n ∷ b)) ≡ walk_abreast k fs None
+abreast-elsewhere [] k n b h = refl
+abreast-elsewhere (f ∷ fs) k n b h =
+    ap₂ (λ (o : Option Place) (z : Standing). together (in_branch (Branch k) (f o)) z)
+    (ap (λ (t : Bool). cond t (Some b) None) (branch-apart n k h).0) (abreast-elsewhere fs (k + 1) n b (omega (arith, h)))
+
+abreast-heads : (ps : Procs) (env : Received) (k : ℕ) (a : Place) (m : Move) (t : Residual) → Local (remaining_parallel env k ps) a m t
+    → (j : ℕ) × (b : Place) × (a ≡ Branch j ∷ b) × (k ≤ j)
+abreast-heads no_procs env k a m t l = absurd l
+abreast-heads (proc p ps) env k a m t l = elim (along-local k (remaining env p) (remaining_parallel env (k + 1) ps) a m t l) [
+  | inl child ↦ (k, child.0, child.2, omega arith)
+  | inr other ↦ let rest = abreast-heads ps env (k + 1) a m other.0 other.1 in (rest.0, rest.1, rest.2, omega (arith, rest.3))
+]
+
+enter-branch : (n : ℕ) (p : Proc) (ps : Procs) (a : Place) → FrontsAbreast n (proc p ps) a
+    → ((b : Place) × (a ≡ Branch n ∷ b) × Fronts p b × ((s : Sought) → walk_abreast (n + 1) (procs_seen s ps) (Some a) ≡ walk_abreast (n + 1) (procs_seen s ps) None))
+    ⊎ ((below (Some a) (Branch n) ≡ None) × FrontsAbreast (n + 1) ps a)
+enter-branch n p ps a f = elim (along-local n (remaining f.0 p) (remaining_parallel f.0 (n + 1) ps) a f.1 f.2 f.3) [
+  | inl child ↦ inl (
+    child.0,
+    child.2,
+    (f.0, f.1, child.1, child.3),
+    λ s. ap (λ (z : Place). walk_abreast (n + 1) (procs_seen s ps) (Some z)) child.2 ∙ abreast-elsewhere (procs_seen s ps) (n + 1) n child.0 (omega arith),
+  )
+  | inr other ↦
+      let head = abreast-heads ps f.0 (n + 1) a f.1 other.0 other.1 in
+      inr (ap (λ (z : Place). below (Some z) (Branch n)) head.2 ∙ ap (λ (t : Bool). cond t (Some head.1) None) (branch-apart n head.0 (omega (arith, head.3))).1, (f.0, f.1, other.0, other.1))
+]
+
+-- the ends in branches from number k on begin with the numbers of their branches
+abbrev From : ℕ → List Placed → Type 0
+From k [] = Unit {0}
+From k (e ∷ es) = ((j : ℕ) × (p : Place) × (e.place ≡ Branch j ∷ p) × (k ≤ j)) × From k es
+
+abbrev FromIn : ℕ → Sum → Type 0
+FromIn k finished = Unit {0}
+FromIn k (working e es) = From k es
+
+from-under : (k : ℕ) (es : List Placed) → From k (under (Branch k) es)
+from-under k [] = tt
+from-under k (e ∷ es) = ((k, e.place, refl, omega arith), from-under k es)
+
+from-less : (k : ℕ) (es fs : List Placed) → From (k + 1) es → From k fs → From k (es ++ fs)
+from-less k [] fs h g = g
+from-less k (e ∷ es) fs h g = ((h.0.0, h.0.1, h.0.2, omega (arith, h.0.3)), from-less k es fs h.1 g)
+
+from-fewer : (k : ℕ) (es : List Placed) → From (k + 1) es → From k es
+from-fewer k [] h = tt
+from-fewer k (e ∷ es) h = ((h.0.0, h.0.1, h.0.2, omega (arith, h.0.3)), from-fewer k es h.1)
+
+from-beside : (k : ℕ) (c r : Sum) → FromIn (k + 1) r → FromIn k (sums.beside (Branch k) c r)
+from-beside k finished finished h = tt
+from-beside k finished (working d rs) h = from-fewer k rs h
+from-beside k (working e es) finished h = from-under k es
+from-beside k (working e es) (working d rs) h = from-less k rs (under (Branch k) es) h (from-under k es)
+
+from-abreast : (k : ℕ) (xs : List Sum) → FromIn k (sum_abreast k xs)
+from-abreast k [] = tt
+from-abreast k (x ∷ xs) = from-beside k x (sum_abreast (k + 1) xs) (from-abreast (k + 1) xs)
+
+from-apart : (n : ℕ) (es : List Placed) → From (n + 1) es → AllApart (Branch n) es
+from-apart n [] h = tt
+from-apart n (e ∷ es) h =
+    (subst (λ (p : Place). StartsApart (Branch n) p) (sym h.0.2) (branch-apart n h.0.0 (omega (arith, h.0.3))), from-apart n es h.1)
+
+abbrev ApartIn : Entry → Sum → Type 0
+ApartIn x finished = Unit {0}
+ApartIn x (working d rs) = AllApart x rs
+
+apart-in : (n : ℕ) (r : Sum) → FromIn (n + 1) r → ApartIn (Branch n) r
+apart-in n finished h = tt
+apart-in n (working d rs) h = from-apart n rs h
+
+apart-abreast : (n : ℕ) (xs : List Sum) → ApartIn (Branch n) (sum_abreast (n + 1) xs)
+apart-abreast n xs = apart-in n (sum_abreast (n + 1) xs) (from-abreast (n + 1) xs)
+
+module _ (w : List Bool) where
+  -- what is found tells of each that is wanted where it stands
+  abbrev pub Sums : Sum → (Place → Type 0) → Walks → Type 0
+  Sums x F walk = (s : Sought) → wants w (channel_of s) ≡ true → (own : Option Place) → Fits F own → Tells x s own (walk s own)
+
+  -- ---- a child and what comes behind it
+  abbrev Enters : Entry → Walks → (Place → Type 0) → (Place → Type 0) → (Place → Type 0) → Type 0
+  Enters x f Fc Fr F =
+      (a : Place) → F a
+      → ((b : Place) × (a ≡ x ∷ b) × Fc b) ⊎ (((s : Sought) (own : Option Place) → f s own ≡ over) × Fr a)
+
+  abbrev Alive : Walks → (Place → Type 0) → Type 0
+  Alive f Fc = (b : Place) → Fc b → (s : Sought) → f s (Some b) ≡ over → ⊥
+
+  -- with what is found in the child, and perhaps more that does not count for an action there
+  held-after : (x : Entry) (f g : Walks) (Fc Fr F : Place → Type 0) (e d : Bool) (es all : List Placed) (s : Sought) (a : Place)
+      → Enters x f Fc Fr F → Sums (working e es) Fc f → wants w (channel_of s) ≡ true → F a
+      → ((b : Place) → counted s (Some (x ∷ b)) all ≡ counted s (Some (x ∷ b)) (under x es))
+      → Tells (working d all) s (Some a) (standing.after x (below (Some a) x) (f s (below (Some a) x)) (g s (Some a)))
+  held-after x f g Fc Fr F e d es all s a enters sc h fa same = elim (enters a fa) [
+    | inl in_child ↦
+        let b : Place = in_child.0 in
+        let tells = sc s h (Some b) in_child.2 in
+        let moved = inner x b (f s (Some b)) (g s (Some (x ∷ b))) tells.1 in
+        subst (λ (z : Place). Tells (working d all) s (Some z) (standing.after x (below (Some z) x) (f s (below (Some z) x)) (g s (Some z)))) (sym in_child.1)
+        (subst (λ (o : Option Place). (partner_standing (standing.after x o (f s o) (g s (Some (x ∷ b)))) ≡ counted s (Some (x ∷ b)) all)
+        × (is_over (standing.after x o (f s o) (g s (Some (x ∷ b)))) ≡ false)) (sym (below-itself x b))
+        (moved.0 ∙ ap (pre x) tells.0 ∙ ap (λ (o : Option Place). pre x (counted s o es)) (sym (below-itself x b)) ∙ sym (counted-under s x (Some (x ∷ b)) es) ∙ sym (same b), moved.1))
+    | inr passed ↦ absurd (over-shown e (counted s None es) (sym (sc s h None tt) ∙ passed.0 s None))
+  ]
+
+  two-after : (x : Entry) (s : Sought) (f : Bool) (es rs : List Placed) (y z : Standing) → y ≡ shown false (counted s None es) → z ≡ shown f (counted s None rs)
+      → standing.after x None y z ≡ shown f (counted s None (later x es rs ++ under x es))
+  two-after x s f es rs y z here there_too =
+      ap₂ (standing.after x None) here there_too ∙ pick (has s es) refl (has s rs) refl
+    where
+      C : Partner
+      C = counted s None es
+
+      pick : (b : Bool) → has s es ≡ b → (t : Bool) → has s rs ≡ t
+          → standing.after x None (shown false (counted s None es)) (shown f (counted s None rs)) ≡ shown f (counted s None (later x es rs ++ under x es))
+      pick true h t k =
+          after-held x f (counted s None es) (shown f (counted s None rs)) (some-counted s es h)
+          ∙ ap (shown f) (sym (later-held s x es (under x es) None rs h ∙ counted-under s x None es))
+      pick false h true k =
+          ap (λ (c : Partner). standing.after x None (shown false c) (shown f (counted s None rs))) (none-counted s None es h)
+          ∙ after-some x f (counted s None rs) (some-counted s rs k)
+          ∙ ap (shown f) (sym (later-some s x es (under x es) rs h (counted-under s x None es ∙ ap (pre x) (none-counted s None es h)) k))
+      pick false h false k =
+          ap₂ (λ (c r : Partner). standing.after x None (shown false c) (shown f r)) (none-counted s None es h) (none-counted s None rs k)
+          ∙ after-none x f
+          ∙ ap (shown f) (sym (later-none s x es (under x es) None rs k ∙ counted-under s x None es ∙ ap (pre x) (none-counted s None es h)))
+
+  after-sums : (x : Entry) (f g : Walks) (Fc Fr F : Place → Type 0) → Enters x f Fc Fr F → Alive f Fc → (c r : Sum) → Sums c Fc f → Sums r Fr g
+      → Sums (after x c r) F (λ s own. standing.after x (below own x) (f s (below own x)) (g s own))
+  after-sums x f g Fc Fr F enters alive finished r sc sr s h None fit =
+      subst (λ (z : Standing). Tells r s None (standing.after x None z (g s None))) (sym (sc s h None tt)) (sr s h None tt)
+  after-sums x f g Fc Fr F enters alive finished r sc sr s h (Some a) fit = elim (enters a fit) [
+    | inl in_child ↦ absurd (alive in_child.0 in_child.2 s (sc s h (Some in_child.0) in_child.2))
+    | inr passed ↦
+        subst (λ (z : Standing). Tells r s (Some a) (standing.after x (below (Some a) x) z (g s (Some a)))) (sym (passed.0 s (below (Some a) x))) (sr s h (Some a) passed.1)
+  ]
+  after-sums x f g Fc Fr F enters alive (working true es) r sc sr s h None fit =
+      ap (λ (z : Standing). standing.after x None z (g s None)) (sc s h None tt)
+      ∙ after-endless x (counted s None es) (g s None) ∙ ap (shown true) (sym (counted-under s x None es))
+  after-sums x f g Fc Fr F enters alive (working true es) r sc sr s h (Some a) fit =
+      held-after x f g Fc Fr F true true es (under x es) s a enters sc h fit (λ b. refl)
+  after-sums x f g Fc Fr F enters alive (working false es) finished sc sr s h None fit =
+      ap₂ (standing.after x None) (sc s h None tt) (sr s h None tt) ∙ after-last x (counted s None es) ∙ ap (shown false) (sym (counted-under s x None es))
+  after-sums x f g Fc Fr F enters alive (working false es) finished sc sr s h (Some a) fit =
+      held-after x f g Fc Fr F false false es (under x es) s a enters sc h fit (λ b. refl)
+  after-sums x f g Fc Fr F enters alive (working false es) (working d rs) sc sr s h None fit =
+      two-after x s d es rs (f s None) (g s None) (sc s h None tt) (sr s h None tt)
+  after-sums x f g Fc Fr F enters alive (working false es) (working d rs) sc sr s h (Some a) fit =
+      held-after x f g Fc Fr F false d es (later x es rs ++ under x es) s a enters sc h fit (λ b. later-own s x es (under x es) b rs)
+
+  -- ---- a branch and those beside it
+  abbrev EntersBranch : Entry → Walks → (Place → Type 0) → (Place → Type 0) → (Place → Type 0) → Type 0
+  EntersBranch x g Fc Fr F =
+      (a : Place) → F a
+      → ((b : Place) × (a ≡ x ∷ b) × Fc b × ((s : Sought) → g s (Some a) ≡ g s None)) ⊎ ((below (Some a) x ≡ None) × Fr a)
+
+  -- a part as one that waits sees it
+  seen-by : (e : Bool) (es : List Placed) (s : Sought) (y : Standing) → y ≡ shown e (counted s None es) → (partner_standing y ≡ counted s None es) × (is_over y ≡ false)
+  seen-by e es s y h = (ap partner_standing h ∙ shown-partner e (counted s None es), ap is_over h ∙ not-over e (counted s None es))
+
+  -- the child, for an action there or beside it
+  child-by : (x : Entry) (f g : Walks) (Fc Fr F : Place → Type 0) (e : Bool) (es : List Placed) (s : Sought) (a : Place)
+      → EntersBranch x g Fc Fr F → Sums (working e es) Fc f → wants w (channel_of s) ≡ true → F a
+      → (partner_standing (f s (below (Some a) x)) ≡ counted s (below (Some a) x) es) × (is_over (f s (below (Some a) x)) ≡ false)
+  child-by x f g Fc Fr F e es s a enters sc h fa = elim (enters a fa) [
+    | inl in_child ↦
+        subst (λ (z : Place). (partner_standing (f s (below (Some z) x)) ≡ counted s (below (Some z) x) es) × (is_over (f s (below (Some z) x)) ≡ false)) (sym in_child.1)
+        (subst (λ (o : Option Place). (partner_standing (f s o) ≡ counted s o es) × (is_over (f s o) ≡ false)) (sym (below-itself x in_child.0)) (sc s h (Some in_child.0) in_child.2))
+    | inr other ↦
+        subst (λ (o : Option Place). (partner_standing (f s o) ≡ counted s o es) × (is_over (f s o) ≡ false)) (sym other.0) (seen-by e es s (f s None) (sc s h None tt))
+  ]
+
+  -- those beside it, for either
+  rest-by : (x : Entry) (g : Walks) (Fc Fr F : Place → Type 0) (d : Bool) (rs : List Placed) (s : Sought) (a : Place)
+      → EntersBranch x g Fc Fr F → Sums (working d rs) Fr g → AllApart x rs → wants w (channel_of s) ≡ true → F a
+      → partner_standing (g s (Some a)) ≡ counted s (Some a) rs
+  rest-by x g Fc Fr F d rs s a enters sr apart h fa = elim (enters a fa) [
+    | inl in_child ↦
+        ap partner_standing (in_child.3 s) ∙ (seen-by d rs s (g s None) (sr s h None tt)).0 ∙ sym (counted-apart s x in_child.0 rs apart)
+        ∙ ap (λ (z : Place). counted s (Some z) rs) (sym in_child.1)
+    | inr other ↦ (sr s h (Some a) other.1).0
+  ]
+
+  rest-over : (x : Entry) (g : Walks) (Fc Fr F : Place → Type 0) (s : Sought) (a : Place) → EntersBranch x g Fc Fr F → Sums finished Fr g → wants w (channel_of s) ≡ true → F a
+      → g s (Some a) ≡ over
+  rest-over x g Fc Fr F s a enters sr h fa = elim (enters a fa) [
+    | inl in_child ↦ in_child.3 s ∙ sr s h None tt
+    | inr other ↦ sr s h (Some a) other.1
+  ]
+
+  gone-pre : (x : Entry) (c : Partner) → tog (pre x c) partner.Gone ≡ pre x c
+  gone-pre x partner.Gone = refl
+  gone-pre x (partner.Behind p) = refl
+  gone-pre x partner.Open = refl
+
+  beside-sums : (x : Entry) (f g : Walks) (Fc Fr F : Place → Type 0) → EntersBranch x g Fc Fr F → Alive f Fc → (c r : Sum) → ApartIn x r → Sums c Fc f → Sums r Fr g
+      → Sums (sums.beside x c r) F (λ s own. together (in_branch x (f s (below own x))) (g s own))
+  beside-sums x f g Fc Fr F enters alive finished r apart sc sr s h None fit =
+      subst (λ (z : Standing). Tells r s None (together (in_branch x z) (g s None))) (sym (sc s h None tt)) (sr s h None tt)
+  beside-sums x f g Fc Fr F enters alive finished r apart sc sr s h (Some a) fit = elim (enters a fit) [
+    | inl in_child ↦ absurd (alive in_child.0 in_child.2 s (sc s h (Some in_child.0) in_child.2))
+    | inr other ↦
+        subst (λ (z : Standing). Tells r s (Some a) (together (in_branch x z) (g s (Some a)))) (sym (ap (f s) other.0 ∙ sc s h None tt)) (sr s h (Some a) other.1)
+  ]
+  beside-sums x f g Fc Fr F enters alive (working e es) finished apart sc sr s h None fit =
+      ap₂ (λ (y z : Standing). together (in_branch x y) z) (sc s h None tt) (sr s h None tt)
+      ∙ tog-last x e (counted s None es) ∙ ap (shown e) (sym (counted-under s x None es))
+  beside-sums x f g Fc Fr F enters alive (working e es) finished apart sc sr s h (Some a) fit =
+      let child = child-by x f g Fc Fr F e es s a enters sc h fit in
+      let rest = rest-over x g Fc Fr F s a enters sr h fit in (
+        tog-standing x (f s (below (Some a) x)) (g s (Some a))
+            ∙ ap₂ (λ (c r : Partner). tog (pre x c) r) child.0 (ap partner_standing rest)
+            ∙ gone-pre x (counted s (below (Some a) x) es) ∙ sym (counted-under s x (Some a) es),
+        tog-over x (f s (below (Some a) x)) (g s (Some a)) child.1,
+      )
+  beside-sums x f g Fc Fr F enters alive (working e es) (working d rs) apart sc sr s h None fit =
+      ap₂ (λ (y z : Standing). together (in_branch x y) z) (sc s h None tt) (sr s h None tt)
+      ∙ tog-shown x e d (counted s None es) (counted s None rs) ∙ ap (shown (e || d)) (sym (counted-beside s x None es rs apart))
+  beside-sums x f g Fc Fr F enters alive (working e es) (working d rs) apart sc sr s h (Some a) fit =
+      let child = child-by x f g Fc Fr F e es s a enters sc h fit in
+      let rest = rest-by x g Fc Fr F d rs s a enters sr apart h fit in (
+        tog-standing x (f s (below (Some a) x)) (g s (Some a))
+            ∙ ap₂ (λ (c r : Partner). tog (pre x c) r) child.0 rest ∙ sym (counted-beside s x (Some a) es rs apart),
+        tog-over x (f s (below (Some a) x)) (g s (Some a)) child.1,
+      )
+
+  -- ---- leaves
+  abbrev Nowhere : Place → Type 0
+  Nowhere a = ⊥
+
+  not-wanted : (s t : Sought) (c : ℕ) → wants w (channel_of s) ≡ true → wants w c ≡ false → channel_of t ≡ c → same_sought s t ≡ false
+  not-wanted s t c h g is = pick (same_sought s t) refl
+    where
+      pick : (b : Bool) → same_sought s t ≡ b → b ≡ false
+      pick true k = absurd (true≢false (sym h ∙ ap (λ (z : Sought). wants w (channel_of z)) (same-sought-true s t k) ∙ ap (wants w) is ∙ g))
+      pick false k = refl
+
+  there-tells : (s t : Sought) (own : Option Place) (b : Bool) → same_sought s t ≡ b → Tells (working false (sums.there t ∷ [])) s own (there own b)
+  there-tells s t None true h = ap (λ (m : Bool). shown false (or_end_if m true There [] partner.Gone)) (sym h)
+  there-tells s t None false h = ap (λ (m : Bool). shown false (or_end_if m true There [] partner.Gone)) (sym h)
+  there-tells s t (Some a) b h = (sym (gone (same_sought s t)), refl)
+    where
+      gone : (m : Bool) → or_end_if m false There [] partner.Gone ≡ partner.Gone
+      gone true = refl
+      gone false = refl
+
+  nothing-tells : (s : Sought) (own : Option Place) → Tells (working false []) s own nowhere
+  nothing-tells s None = refl
+  nothing-tells s (Some a) = (refl, refl)
+
+  there-false : (own : Option Place) → there own false ≡ nowhere
+  there-false None = refl
+  there-false (Some a) = refl
+
+  one-sums : (F : Place → Type 0) (c : ℕ) (t : Sought) (f : Sought → Bool) → channel_of t ≡ c → ((s : Sought) → f s ≡ same_sought s t) → Sums (one w c t) F (λ s own. there own (f s))
+  one-sums F c t f is same s h own fit = pick (wants w c) refl
+    where
+      pick : (b : Bool) → wants w c ≡ b → Tells (working false (cond b (sums.there t ∷ []) [])) s own (there own (f s))
+      pick true k = there-tells s t own (f s) (sym (same s))
+      pick false k =
+          subst (λ (y : Standing). Tells (working false []) s own y) (sym (ap (there own) (same s ∙ not-wanted s t c h k is) ∙ there-false own)) (nothing-tells s own)
+
+  both-counted : (s : Sought) (c : ℕ) (l : Bool)
+      → or_end_if (same_sought s (sought.Sender c)) l There [] (or_end_if (same_sought s (sought.Partner c)) l There [] partner.Gone) ≡ or_end_if (is_sync s c) l There [] partner.Gone
+  both-counted (sought.Receiver d) c l = refl
+  both-counted (sought.Sender d) c l = refl
+  both-counted (sought.Partner d) c l = refl
+  both-counted (sought.Close d) c l = refl
+
+  sync-wanted : (s : Sought) (c : ℕ) → wants w (channel_of s) ≡ true → wants w c ≡ false → is_sync s c ≡ false
+  sync-wanted (sought.Receiver d) c h g = refl
+  sync-wanted (sought.Sender d) c h g = not-wanted (sought.Sender d) (sought.Sender c) c h g refl
+  sync-wanted (sought.Partner d) c h g = not-wanted (sought.Partner d) (sought.Partner c) c h g refl
+  sync-wanted (sought.Close d) c h g = refl
+
+  sync-tells : (s : Sought) (c : ℕ) (own : Option Place) (b : Bool) → is_sync s c ≡ b
+      → Tells (working false (sums.there (sought.Sender c) ∷ sums.there (sought.Partner c) ∷ [])) s own (there own b)
+  sync-tells s c None true h = ap (shown false) (sym (both-counted s c true ∙ ap (λ (m : Bool). or_end_if m true There [] partner.Gone) h))
+  sync-tells s c None false h = ap (shown false) (sym (both-counted s c true ∙ ap (λ (m : Bool). or_end_if m true There [] partner.Gone) h))
+  sync-tells s c (Some a) b h = (sym (both-counted s c false ∙ gone (is_sync s c)), refl)
+    where
+      gone : (m : Bool) → or_end_if m false There [] partner.Gone ≡ partner.Gone
+      gone true = refl
+      gone false = refl
+
+  sync-sums : (F : Place → Type 0) (c : ℕ) → Sums (sync_sum w c) F (λ s own. there own (is_sync s c))
+  sync-sums F c s h own fit = pick (wants w c) refl
+    where
+      pick : (b : Bool) → wants w c ≡ b → Tells (working false (cond b (sums.there (sought.Sender c) ∷ sums.there (sought.Partner c) ∷ []) [])) s own (there own (is_sync s c))
+      pick true k = sync-tells s c own (is_sync s c) refl
+      pick false k =
+          subst (λ (y : Standing). Tells (working false []) s own y) (sym (ap (there own) (sync-wanted s c h k) ∙ there-false own)) (nothing-tells s own)
+
+  once-sums : (F : Place → Type 0) (o : Once) → Sums (once_sum w o) F (λ s own. there own (is_once s o))
+  once-sums F (assigning x v e) s h own fit = subst (λ (y : Standing). Tells (working false []) s own y) (sym (there-false own)) (nothing-tells s own)
+  once-sums F (receiving c x) s h own fit = one-sums F c (sought.Receiver c) (λ t. is_receive t c) refl (λ t. refl) s h own fit
+
+  sender-sums : (F : Place → Type 0) (x : Sender) → Sums (sender_sum w x) F (λ s own. there own (is_sender s x))
+  sender-sums F (sending c v e) s h own fit = one-sums F c (sought.Sender c) (λ t. standing.is_send t c) refl (λ t. refl) s h own fit
+  sender-sums F (syncing c) s h own fit = sync-sums F c s h own fit
+
+  -- ---- loops, tests and arms
+  -- in such a part all that is found counts for each action
+  within-tells : (e : Bool) (es : List Placed) (s : Sought) (own : Option Place) (y : Standing) → AllAt Within es → y ≡ shown e (here_if (has s es)) → Tells (working e es) s own y
+  within-tells e es s None y all h = h ∙ ap (shown e) (sym (within-all s None es all))
+  within-tells e es s (Some a) y all h =
+      (ap partner_standing h ∙ shown-partner e (here_if (has s es)) ∙ sym (within-all s (Some a) es all), ap is_over h ∙ not-over e (here_if (has s es)))
+
+  has-sum : (x : Sum) (f : Walks) (s : Sought) (k : Kind) → Sums x Nowhere f → wants w (channel_of s) ≡ true → has s (here k x) ≡ is_found (f s None)
+  has-sum finished f s k sf h = sym (ap is_found (sf s h None tt))
+  has-sum (working e es) f s k sf h = has-here k s es ∙ found-has e s es ∙ sym (ap is_found (sf s h None tt))
+
+  turns-shown : (e b : Bool) → standing.in_turns e b ≡ shown e (here_if b)
+  turns-shown true true = refl
+  turns-shown true false = refl
+  turns-shown false true = refl
+  turns-shown false false = refl
+
+  turns-sums : (F : Place → Type 0) (e : Bool) (x : Sum) (f : Walks) → Sums x Nowhere f → Sums (in_turns e x) F (λ s own. standing.in_turns e (is_found (f s None)))
+  turns-sums F e x f sf s h own fit =
+      within-tells e (here Within x) s own (standing.in_turns e (is_found (f s None))) (here-at Within x)
+      (ap (standing.in_turns e) (sym (has-sum x f s Within sf h)) ∙ turns-shown e (has s (here Within x)))
+
+  ahead-shown : (b : Bool) → ahead b ≡ shown false (here_if b)
+  ahead-shown true = refl
+  ahead-shown false = refl
+
+  abbrev open_if : Bool → Partner
+  open_if true = partner.Open
+  open_if false = partner.Gone
+
+  or-open : (m b : Bool) → or_end_if m true There [] (open_if b) ≡ open_if (m || b)
+  or-open true b = refl
+  or-open false b = refl
+
+  or-gone : (m : Bool) (r : Partner) → or_end_if m false There [] r ≡ r
+  or-gone true r = refl
+  or-gone false r = refl
+
+  two-arms : (s : Sought) (d : ℕ) (ds : List ℕ) (r : Partner) → r ≡ open_if (is_arm s ds)
+      → or_end_if (same_sought s (sought.Receiver d)) true There [] (or_end_if (same_sought s (sought.Partner d)) true There [] r) ≡ open_if (is_arm s (d ∷ ds))
+  two-arms (sought.Receiver c) d ds r h = ap (or_end_if (is_receive (sought.Receiver c) d) true There []) h ∙ or-open (is_receive (sought.Receiver c) d) (has_channel c ds)
+  two-arms (sought.Sender c) d ds r h = h
+  two-arms (sought.Partner c) d ds r h = ap (or_end_if (same_sought (sought.Partner c) (sought.Partner d)) true There []) h ∙ or-open (same_sought (sought.Partner c) (sought.Partner d)) (has_channel c ds)
+  two-arms (sought.Close c) d ds r h = h
+
+  no-arms : (s : Sought) (d : ℕ) (ds : List ℕ) → wants w (channel_of s) ≡ true → wants w d ≡ false → is_arm s ds ≡ is_arm s (d ∷ ds)
+  no-arms (sought.Receiver c) d ds h g = sym (ap (λ (b : Bool). b || has_channel c ds) (not-wanted (sought.Receiver c) (sought.Receiver d) d h g refl))
+  no-arms (sought.Sender c) d ds h g = refl
+  no-arms (sought.Partner c) d ds h g = sym (ap (λ (b : Bool). b || has_channel c ds) (not-wanted (sought.Partner c) (sought.Partner d) d h g refl))
+  no-arms (sought.Close c) d ds h g = refl
+
+  arms-elsewhere : (s : Sought) (ds : List ℕ) → wants w (channel_of s) ≡ true → counted s None (arm_ends w ds) ≡ open_if (is_arm s ds)
+  arms-elsewhere (sought.Receiver c) [] h = refl
+  arms-elsewhere (sought.Sender c) [] h = refl
+  arms-elsewhere (sought.Partner c) [] h = refl
+  arms-elsewhere (sought.Close c) [] h = refl
+  arms-elsewhere s (d ∷ ds) h = pick (arms-elsewhere s ds h) (wants w d) refl
+    where
+      pick : counted s None (arm_ends w ds) ≡ open_if (is_arm s ds) → (b : Bool) → wants w d ≡ b → counted s None (cond b (sums.there (sought.Receiver d) ∷ sums.there (sought.Partner d) ∷ []) [] ++ arm_ends w ds) ≡ open_if (is_arm s (d ∷ ds))
+      pick rest true k = two-arms s d ds (counted s None (arm_ends w ds)) rest
+      pick rest false k = rest ∙ ap open_if (no-arms s d ds h k)
+
+  arms-there : (s : Sought) (a : Place) (ds : List ℕ) → counted s (Some a) (arm_ends w ds) ≡ partner.Gone
+  arms-there s a [] = refl
+  arms-there s a (d ∷ ds) = pick (arms-there s a ds) (wants w d)
+    where
+      pick : counted s (Some a) (arm_ends w ds) ≡ partner.Gone → (b : Bool) → counted s (Some a) (cond b (sums.there (sought.Receiver d) ∷ sums.there (sought.Partner d) ∷ []) [] ++ arm_ends w ds) ≡ partner.Gone
+      pick rest true =
+          or-gone (same_sought s (sought.Receiver d)) (or_end_if (same_sought s (sought.Partner d)) false There [] (counted s (Some a) (arm_ends w ds)))
+          ∙ or-gone (same_sought s (sought.Partner d)) (counted s (Some a) (arm_ends w ds)) ∙ rest
+      pick rest false = rest
+
+  armed-tells : (s : Sought) (own : Option Place) (es : List Placed) (ds : List ℕ) → AllAt Later es → wants w (channel_of s) ≡ true
+      → Tells (working false (es ++ arm_ends w ds)) s own (at_arms own (is_arm s ds) (has s es))
+  armed-tells s None es ds all h = pick (is_arm s ds) refl
+    where
+      pick : (b : Bool) → is_arm s ds ≡ b → at_arms None b (has s es) ≡ shown false (counted s None (es ++ arm_ends w ds))
+      pick true k = ap (shown false) (sym (open-more s None es (arm_ends w ds) (arms-elsewhere s ds h ∙ ap open_if k)))
+      pick false k = ahead-shown (has s es) ∙ ap (shown false) (sym (later-all s es (arm_ends w ds) all (arms-elsewhere s ds h ∙ ap open_if k)))
+  armed-tells s (Some a) es ds all h = (sym (later-here s a es (arm_ends w ds) all (arms-there s a ds)), refl)
+
+  within-gathered : (cs : Codes) (s : Sought) (own : Option Place) (b : Bool) → has s (gathered Within (codes_sum w cs)) ≡ b → Tells (tested (codes_sum w cs)) s own (ahead b)
+  within-gathered cs s own b h =
+      within-tells false (gathered Within (codes_sum w cs)) s own (ahead b) (gathered-at Within (codes_sum w cs))
+      (ap ahead (sym h) ∙ ahead-shown (has s (gathered Within (codes_sum w cs))))
+
+  later-gathered : (ds : List ℕ) (cs : Codes) (s : Sought) → wants w (channel_of s) ≡ true → (own : Option Place) (b : Bool) → has s (gathered Later (codes_sum w cs)) ≡ b
+      → Tells (armed w ds (codes_sum w cs)) s own (at_arms own (is_arm s ds) b)
+  later-gathered ds cs s h own b is =
+      subst (λ (t : Bool). Tells (armed w ds (codes_sum w cs)) s own (at_arms own (is_arm s ds) t)) is
+      (armed-tells s own (gathered Later (codes_sum w cs)) ds (gathered-at Later (codes_sum w cs)) h)
+
+  -- ---- commands
+  mutual
+    code-sums : (c : Code) → Sums (code_sum w c) Nowhere (λ s. code_seen s c)
+    code-sums continues s h own fit = refl
+    code-sums halts s h None fit = refl
+    code-sums halts s h (Some a) fit = absurd fit
+    code-sums (moves_once o) s h own fit = once-sums Nowhere o s h own fit
+    code-sums (may_be_held x) s h own fit = sender-sums Nowhere x s h own fit
+    code-sums (repeats g c) s h own fit = turns-sums Nowhere (is_none g) (code_sum w c) (λ t. code_seen t c) (code-sums c) s h own fit
+    code-sums (decides d cs) s h own fit = within-gathered cs s own (any_found (codes_seen s cs)) (gathered-has Within cs s h)
+    code-sums (awaits ds cs) s h own fit = later-gathered ds cs s h own (any_found (codes_seen s cs)) (gathered-has Later cs s h)
+    code-sums (in_turn cs) s h own fit = turn-codes cs 0 s h own fit
+    code-sums (side_by_side cs) s h own fit = abreast-codes cs 0 s h own fit
+    code-sums (drains c) s h own fit = one-sums Nowhere c (sought.Receiver c) (λ t. is_receive t c) refl (λ t. refl) s h own fit
+
+    gathered-has : (k : Kind) (cs : Codes) (s : Sought) → wants w (channel_of s) ≡ true → has s (gathered k (codes_sum w cs)) ≡ any_found (codes_seen s cs)
+    gathered-has k no_code s h = refl
+    gathered-has k (code c cs) s h =
+        has-append s (here k (code_sum w c)) (gathered k (codes_sum w cs))
+        ∙ ap₂ (λ (a b : Bool). a || b) (has-sum (code_sum w c) (λ t. code_seen t c) s k (code-sums c) h) (gathered-has k cs s h)
+
+    turn-codes : (cs : Codes) (n : ℕ) → Sums (sum_in_turn n (codes_sum w cs)) Nowhere (λ s. walk_in_turn n (codes_seen s cs))
+    turn-codes no_code n s h own fit = refl
+    turn-codes (code c cs) n s h own fit =
+        after-sums (Ordered n) (λ t. code_seen t c) (λ t. walk_in_turn (n + 1) (codes_seen t cs)) Nowhere Nowhere Nowhere (λ a f. absurd f) (λ b f t k. f)
+        (code_sum w c) (sum_in_turn (n + 1) (codes_sum w cs)) (code-sums c) (turn-codes cs (n + 1)) s h own fit
+
+    abreast-codes : (cs : Codes) (n : ℕ) → Sums (sum_abreast n (codes_sum w cs)) Nowhere (λ s. walk_abreast n (codes_seen s cs))
+    abreast-codes no_code n s h own fit = refl
+    abreast-codes (code c cs) n s h own fit =
+        beside-sums (Branch n) (λ t. code_seen t c) (λ t. walk_abreast (n + 1) (codes_seen t cs)) Nowhere Nowhere Nowhere (λ a f. absurd f) (λ b f t k. f)
+        (code_sum w c) (sum_abreast (n + 1) (codes_sum w cs)) (apart-abreast n (codes_sum w cs)) (code-sums c) (abreast-codes cs (n + 1)) s h own fit
+
+  tests-tell : (cs : Codes) (s : Sought) → wants w (channel_of s) ≡ true → (own : Option Place) → Tells (tested (codes_sum w cs)) s own (ahead (any_found (codes_seen s cs)))
+  tests-tell cs s h own = within-gathered cs s own (any_found (codes_seen s cs)) (gathered-has Within cs s h)
+
+  arms-tell : (ds : List ℕ) (cs : Codes) (s : Sought) → wants w (channel_of s) ≡ true → (own : Option Place)
+      → Tells (armed w ds (codes_sum w cs)) s own (at_arms own (is_arm s ds) (any_found (codes_seen s cs)))
+  arms-tell ds cs s h own = later-gathered ds cs s h own (any_found (codes_seen s cs)) (gathered-has Later cs s h)
+
+  again-sums : (g : Option Expression) (c : Code) (F : Place → Type 0) → Sums (again_sum w g c) F (λ s own. again_seen s g c)
+  again-sums g c F s h own fit = turns-sums F (is_none g) (code_sum w c) (λ t. code_seen t c) (code-sums c) s h own fit
+
+  abbrev Anywhere : Place → Type 0
+  Anywhere a = Unit {0}
+
+  over-sums : (F : Place → Type 0) → Sums finished F (λ s own. over)
+  over-sums F s h own fit = refl
+
+  -- ---- processes
+  mutual
+    pub proc-sums : (p : Proc) → Sums (proc_sum w p) (Fronts p) (λ s. seen s p)
+    proc-sums idle s h own fit = refl
+    proc-sums stopped s h None fit = refl
+    proc-sums stopped s h (Some a) fit = absurd fit.3
+    proc-sums (once o true) s h own fit = refl
+    proc-sums (once o false) s h own fit = once-sums (Fronts (once o false)) o s h own fit
+    proc-sums (sender x waiting) s h own fit = sender-sums (Fronts (sender x waiting)) x s h own fit
+    proc-sums (sender x holding) s h own fit = nothing-tells s own
+    proc-sums (sender x past) s h own fit = refl
+    proc-sums (fresh g c) s h own fit = again-sums g c (Fronts (fresh g c)) s h own fit
+    proc-sums (turn g c n q) s h own fit =
+        after-sums (Ordered (2 * n + 1)) (λ t. seen t q) (λ t o. again_seen t g c) (Fronts q) Anywhere (Fronts (turn g c n q))
+        (λ a f. enter-child (2 * n + 1) q a f.0 f.1 (puts f.0 (again (n + 1) g (residual c))) f.2 f.3) (alive q) (proc_sum w q) (again_sum w g c) (proc-sums q) (again-sums g c Anywhere) s h own fit
+    proc-sums (ended_at_once g c) s h own fit = refl
+    proc-sums (ended g c n q) s h own fit = refl
+    proc-sums (untested d cs) s h own fit = tests-tell cs s h own
+    proc-sums (skipped d cs) s h own fit = refl
+    proc-sums (took d cs j q) s h own fit =
+        after-sums (Ordered 1) (λ t. seen t q) (λ t o. over) (Fronts q) Anywhere (Fronts (took d cs j q))
+        (λ a f. enter-child 1 q a f.0 f.1 done f.2 f.3) (alive q) (proc_sum w q) finished (proc-sums q) (over-sums Anywhere) s h own fit
+    proc-sums (unopened ds cs) s h own fit = arms-tell ds cs s h own
+    proc-sums (entered ds cs c v q) s h own fit =
+        after-sums (Ordered 1) (λ t. seen t q) (λ t o. there o (is_close t c)) (Fronts q) Anywhere (Fronts (entered ds cs c v q))
+        (λ a f. enter-child 1 q a (with_value c v f.0) f.1 (closing c) f.2 f.3) (alive q) (proc_sum w q) (one w c (sought.Close c)) (proc-sums q)
+        (one-sums Anywhere c (sought.Close c) (λ t. is_close t c) refl (λ t. refl)) s h own fit
+    proc-sums (closed ds cs c v q) s h own fit = refl
+    proc-sums (sequence ps) s h own fit = turn-procs ps 0 s h own fit
+    proc-sums (parallel ps) s h own fit = abreast-procs ps 0 s h own fit
+    proc-sums (drained c n) s h own fit = one-sums (Fronts (drained c n)) c (sought.Receiver c) (λ t. is_receive t c) refl (λ t. refl) s h own fit
+
+    turn-procs : (ps : Procs) (n : ℕ) → Sums (sum_in_turn n (procs_sum w ps)) (FrontsInTurn n ps) (λ s. walk_in_turn n (procs_seen s ps))
+    turn-procs no_procs n s h own fit = refl
+    turn-procs (proc p ps) n s h own fit =
+        after-sums (Ordered n) (λ t. seen t p) (λ t. walk_in_turn (n + 1) (procs_seen t ps)) (Fronts p) (FrontsInTurn (n + 1) ps) (FrontsInTurn n (proc p ps))
+        (λ a f. enter-turn n p ps a f) (alive p) (proc_sum w p) (sum_in_turn (n + 1) (procs_sum w ps)) (proc-sums p) (turn-procs ps (n + 1)) s h own fit
+
+    abreast-procs : (ps : Procs) (n : ℕ) → Sums (sum_abreast n (procs_sum w ps)) (FrontsAbreast n ps) (λ s. walk_abreast n (procs_seen s ps))
+    abreast-procs no_procs n s h own fit = refl
+    abreast-procs (proc p ps) n s h own fit =
+        beside-sums (Branch n) (λ t. seen t p) (λ t. walk_abreast (n + 1) (procs_seen t ps)) (Fronts p) (FrontsAbreast (n + 1) ps) (FrontsAbreast n (proc p ps))
+        (λ a f. enter-branch n p ps a f) (alive p) (proc_sum w p) (sum_abreast (n + 1) (procs_sum w ps)) (apart-abreast n (procs_sum w ps)) (proc-sums p)
+        (abreast-procs ps (n + 1)) s h own fit
+
+-- before its first move the same is found in a process as in its command
+mutual
+  pub started-sum : (w : List Bool) (c : Code) → proc_sum w (started c) ≡ code_sum w c
+  started-sum w continues = refl
+  started-sum w halts = refl
+  started-sum w (moves_once o) = refl
+  started-sum w (may_be_held x) = refl
+  started-sum w (repeats g c) = refl
+  started-sum w (decides d cs) = refl
+  started-sum w (awaits ds cs) = refl
+  started-sum w (in_turn cs) = ap (sum_in_turn 0) (started-sums w cs)
+  started-sum w (side_by_side cs) = ap (sum_abreast 0) (started-sums w cs)
+  started-sum w (drains c) = refl
+
+  started-sums : (w : List Bool) (cs : Codes) → procs_sum w (all_started cs) ≡ codes_sum w cs
+  started-sums w no_code = refl
+  started-sums w (code c cs) = ap₂ (λ (x : Sum) (xs : List Sum). x ∷ xs) (started-sum w c) (started-sums w cs)
