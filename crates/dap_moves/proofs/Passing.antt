@@ -23,7 +23,7 @@ use Rattle.locked_execution.specs.declared.command.Command.{Command}
 use Rattle.locked_execution.specs.declared.command.Reply.{Reply}
 use Rattle.dap_moves.specs.Led.{Led}
 use Rattle.dap_moves.specs.Moves.{quiet}
-use Rattle.dap_moves.specs.Passing.{has_line, stands_on, IsAtLine, IsReady, MayAsk, PassesBy, PassesNone, StopsAt, Turned, Turns}
+use Rattle.dap_moves.specs.Passing.{has_line, stands_on, IsAtLine, IsReady, MayAsk, PassesBy, StopsAt, Turned, Turns}
 
 -- what stands at an index is in the list
 pub here_in : {X : Type 0} (xs : List X) (i : ℕ) (x : X) → i < length xs → x ≡ get_or xs i x → In x xs

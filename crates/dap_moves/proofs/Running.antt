@@ -58,7 +58,7 @@ takes-widen d lines seen t h = (h.0, may-widen d lines seen h.0 h.1, h.2)
 
 -- a turn that began nowhere
 pub takes-one-widen : (plan : Plan) (seen : List Choice) (d d' : AtDesk) (turn : Turn) → TakesOne plan [] d d' turn → TakesOne plan seen d d' turn
-takes-one-widen plan seen d d' (Turn.Went branch) h = (h.0, takes-widen d plan.lines.now seen h.0 h.1, h.2)
+takes-one-widen plan seen d d' (Turn.Went branch) h = (h.0, (takes-widen d plan.lines.now seen h.0 h.1.0, h.1.1))
 takes-one-widen plan seen d d' (Turn.Ended Ended.Nothing) h = h
 takes-one-widen plan seen d d' (Turn.Ended (Ended.AtLine branch line)) h = h
 takes-one-widen plan seen d d' (Turn.Ended (Ended.Watched branch ticket)) h = (h.0, (takes-widen d plan.lines.now seen h.0 h.1.0, h.1.1), h.2, h.3)
@@ -95,7 +95,7 @@ pub counted-more : (plan : Plan) (d m d' : AtDesk) (taken branch : ℕ) → Coun
     Counted d d' plan.lines.now (taken + 1)
 counted-more plan d m d' taken branch h k = record {
   turns = h.turns ++ k.0 ∷ [];
-  turned = turns-to d k.0.left d' plan.lines.now [] (h.turns ++ k.0 ∷ []) k.2 (turns-more d m plan.lines.now [] h.turns k.0 h.turned k.1);
+  turned = turns-to d k.0.left d' plan.lines.now [] (h.turns ++ k.0 ∷ []) k.1.1 (turns-more d m plan.lines.now [] h.turns k.0 h.turned k.1.0);
   count = let more = length-more h.turns k.0 in let before = h.count in omega arith;
 }
 
@@ -161,7 +161,7 @@ pub runs-then : (plan : Plan) (seen : List Choice) (d m d' : AtDesk) (branch : �
     RunsFrom 1 plan [] m d' ended → RunsFrom 0 plan seen d d' ended
 runs-then plan seen d m d' branch ended h k = record {
   turns = h.0 ∷ k.turns;
-  turned = (h.1, subst (λ (x : AtDesk). Turns x plan.lines.now [] k.turns d') (sym h.2) k.turned);
+  turned = (h.1.0, subst (λ (x : AtDesk). Turns x plan.lines.now [] k.turns d') (sym h.1.1) k.turned);
   truly = truly-more plan d' k.turns h.0 ended k.truly;
 }
 
@@ -225,7 +225,7 @@ took-stepped : (plan : Plan) (seen : List Choice) (d d' : AtDesk) (command : Com
 took-stepped plan seen d d' command branch t e true is may h =
     (record { ticket = t; event = e; left = d' }, ((command, may, h), refl), refl, is)
 took-stepped plan seen d d' command branch t e false is may h =
-    (record { ticket = t; event = e; left = d' }, (command, may, h), refl)
+    (record { ticket = t; event = e; left = d' }, ((command, may, h), refl))
 
 -- one that was refused
 took-refused : (plan : Plan) (seen : List Choice) (d d' : AtDesk) (command : Command) (branch : ℕ) (why : Refusal) → d' ≡ d →
@@ -298,7 +298,7 @@ idle-on : (d d' : AtDesk) (k : ℕ) (answer : BranchReply) → Reply.Idle ≡ br
     ReadyList T es → Branched d.machine (breaks_of d quiet) (in_branch d.machine k es) answer d'.machine → d'.breaks ≡ d.breaks → (d' ≡ d) × IsIdle d k
 idle-on d d' k (BranchReply.Stepped t e) is T es reaches list h breaks = absurd (cc)
 idle-on d d' k (BranchReply.Stopped line) is T es reaches list h breaks = absurd (cc)
-idle-on d d' k BranchReply.Idle is T es reaches list h breaks = (desk-same d d' h.1 breaks, T, es, reaches, list, h.0)
+idle-on d d' k BranchReply.Idle is T es reaches list h breaks = (desk-same d d' h.1 breaks, (T, es, reaches, list, h.0))
 idle-on d d' k (BranchReply.Refused why) is T es reaches list h breaks = absurd (cc)
 
 pub branch_idle : (d d' : AtDesk) (k : ℕ) (reply : Reply) → reply ≡ Reply.Idle → Answers d quiet (Command.Branch k) reply d' → (d' ≡ d) × IsIdle d k

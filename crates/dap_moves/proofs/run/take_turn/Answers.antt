@@ -3,8 +3,8 @@ use Rattle.dap_moves.proofs.Passing.{none_left}
 use Rattle.dap_moves.proofs.Running.{keeps-none, takes-one-widen}
 use Rattle.dap_moves.proofs.run.take_turn.Goals as goal
 
-pub step_freely-requires-free : goal.step_freely-requires-free
-step_freely-requires-free c = none_left c.args.plan.now.lines.now (sym c.is_empty.ensures ∙ c.if-is_empty.true)
+pub step_freely-requires-clause-free : goal.step_freely-requires-clause-free
+step_freely-requires-clause-free c = none_left c.args.plan.now.lines.now (sym c.is_empty.ensures ∙ c.if-is_empty.true)
 
 pub returns-then-is_empty-clause-takes : goal.returns-then-is_empty-clause-takes
 returns-then-is_empty-clause-takes c =
