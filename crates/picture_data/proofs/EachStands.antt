@@ -6,7 +6,7 @@ use Rattle.runs.specs.Live.{Live, events}
 use Rattle.runs.specs.declared.event.Event.{Event}
 use Rattle.dependence.proofs.public.ListPlaces.{take-next}
 use Rattle.machine.specs.AtMachine.{AtMachine}
-use Rattle.picture_data.specs.declared.lane.Lane.{Lane}
+use Rattle.picture_lanes.specs.declared.lane.Lane.{Lane}
 use Rattle.picture_data.specs.declared.actions.Actions.{Actions}
 use Rattle.picture_data.specs.Shown.{EachStandsIn, StandsIn}
 

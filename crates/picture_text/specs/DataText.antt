@@ -13,12 +13,13 @@ use Rattle.runs.specs.Events.{acting}
 use Rattle.runs.specs.Live.{Live}
 use Rattle.runs.specs.declared.event.Event.{Event}
 use Rattle.line_text.specs.EventText.{event_text}
+use Rattle.picture_lanes.specs.declared.lane.Feed.{Feed}
+use Rattle.picture_lanes.specs.declared.lane.Instance.{Instance}
+use Rattle.picture_lanes.specs.declared.lane.Lane.{Lane}
+use Rattle.picture_lanes.specs.declared.lane.LaneKind.{LaneKind}
 use Rattle.json_text.specs.Values.{list_text, member_text, object_text, optional_text, string_text}
+use Rattle.waiting.specs.declared.progress.Progress.{Progress}
 use Rattle.picture_data.specs.declared.end.End.{End}
-use Rattle.picture_data.specs.declared.ground.Feed.{Feed}
-use Rattle.picture_data.specs.declared.lane.Instance.{Instance}
-use Rattle.picture_data.specs.declared.lane.Lane.{Lane}
-use Rattle.picture_data.specs.declared.lane.LaneKind.{LaneKind}
 use Rattle.picture_data.specs.declared.picture.Picture.{Picture}
 use Rattle.picture_data.specs.declared.places.Place.{Place}
 use Rattle.picture_data.specs.declared.places.Role.{Role}
@@ -53,8 +54,8 @@ channel_text c = list_text (string_text c.name ∷ decimal (channel_width c.kind
 
 abbrev pub instance_text : Instance → List ℕ
 instance_text i =
-    list_text (string_text i.procedure.items ∷ string_text i.prefix.items ∷ optional_text i.parent ∷ decimal i.call_line
-    ∷ decimal i.line ∷ string_text i.arguments.items ∷ [])
+    list_text (string_text i.procedure ∷ string_text i.prefix ∷ optional_text i.parent ∷ decimal i.call_line
+    ∷ decimal i.line ∷ string_text i.arguments ∷ [])
 
 -- a slash before each number
 abbrev pub path_text : List ℕ → List ℕ
@@ -80,7 +81,7 @@ port_of (LaneKind.Body block) = None
 
 abbrev pub lane_text : Lane → List ℕ
 lane_text l =
-    list_text (string_text (path_text l.path.items) ∷ optional_text (block_of l.kind) ∷ decimal l.line
+    list_text (string_text (path_text l.path) ∷ optional_text (block_of l.kind) ∷ decimal l.line
     ∷ string_text (action_of l.kind) ∷ optional_text (port_of l.kind) ∷ [])
 
 -- a port's lane, and how much it has to give
@@ -181,6 +182,13 @@ abbrev pub rings_text : List ℕ → List ℕ
 rings_text [] = list_text []
 rings_text (i ∷ ring) = list_text (numbers_text (i ∷ ring) ∷ [])
 
+-- how the run stands; of one that is stuck, whether it lacks input
+abbrev pub progress_words : Progress → Bool → List ℕ
+progress_words Progress.GoesOn lacks = codes "goes on"
+progress_words Progress.Done lacks = codes "done"
+progress_words Progress.Stuck true = codes "out of input"
+progress_words Progress.Stuck false = codes "stuck"
+
 -- ---- all of it
 
 abbrev pub head_members : List ℕ → List ℕ → List ℕ → List ℕ → List (List ℕ)
@@ -207,6 +215,7 @@ run_members system l p =
     ∷ member_text (codes "ready") (list_text (ready_rows system p.end.ready_actions.items 0 p.end.ready))
     ∷ member_text (codes "places") (list_text (map place_row p.end.places.items))
     ∷ member_text (codes "rings") (rings_text p.end.ring.items)
+    ∷ member_text (codes "stands") (string_text (progress_words p.end.progress p.end.lacks_input))
     ∷ []
 
 -- of the run of these live events, with the source, and the names of the three files
