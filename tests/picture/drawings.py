@@ -47,12 +47,6 @@ class Drawer:
             raise RuntimeError(f"{' '.join(words)}: status {done.returncode}, {done.stderr[:200]!r}")
         return done.stdout
 
-    def stands(self) -> str:
-        """How the run stands, as `waiting` tells it."""
-        line = [self.program, "waiting", "c.balsa", "c.stimulus", "c.trace"]
-        told = subprocess.run(line, cwd=self.room, capture_output=True, check=True, timeout=300).stdout
-        return told.partition(b"\n")[0].decode()
-
     @cached_property
     def facts(self) -> Facts:
         return Facts(self.case)

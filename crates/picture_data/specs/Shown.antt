@@ -12,7 +12,6 @@ use Rattle.run_depths.specs.Races.{AreRaces}
 use Rattle.run_depths.specs.Since.{AreSince}
 use Rattle.typed.specs.declared.tree.Procedure.{Procedure}
 use Rattle.machine.specs.AtMachine.{AtMachine, object}
-use Rattle.waiting.specs.Input.{lacks_input}
 use Rattle.waiting.specs.Progress.{StandsLike}
 use Rattle.waiting.specs.Told.{TellsWaits}
 use Rattle.waiting.specs.declared.waiting.Waiting.{Waiting}
@@ -68,7 +67,6 @@ pub record ShowsWaits (m : AtMachine) (lanes : List Lane) (uses : List ChannelUs
     Type 0 where
   pub waiting : Waiting
   pub told : TellsWaits m waiting
-  pub lacks : end.lacks_input ≡ lacks_input m waiting
   pub places : AreSpots (seen_of m lanes uses waiting end.ready) waiting end.ready end.places.items
   pub since : Every (StandsSince (record { live = m.live; depths = depths })) end.places.items
   pub ring : (S : State) × Reaches (object m) S × ShowsRing m S end.places.items end.ring.items

@@ -1,6 +1,6 @@
 -- For which lanes an action waits: those of what stands at the place behind which its partner is, or below it; where
 -- that is nothing, those of all commands that could be its partner, but for its own.
-use Rattle.std.specs.Prelude.{ℕ, ◌+◌, ◌==◌, ◌&&◌, List, [], ◌∷◌, Bool, true, false, not, cond, Option, None, Some, nat_lt, slice_get}
+use Rattle.std.specs.Prelude.{ℕ, ◌+◌, ◌==◌, ◌&&◌, List, [], ◌∷◌, Bool, true, false, cond, length, Option, None, Some, nat_lt, slice_get}
 use Rattle.std.specs.List.{insert}
 use Rattle.runs.specs.Moves.{Place}
 use Rattle.runs.specs.declared.event.Event.{Event}
@@ -37,13 +37,13 @@ abbrev pub below : ℕ → List ℕ → ℕ
 below n [] = 0
 below n (k ∷ ks) = cond (nat_lt k n) (below n ks + 1) 0
 
-abbrev pub number_if_new : Option ℕ → ℕ → List ℕ → List ℕ
-number_if_new None n ks = insert ks (below n ks) n
-number_if_new (Some k) n ks = cond (k == n) ks (insert ks (below n ks) n)
+abbrev pub is_number : ℕ → Option ℕ → Bool
+is_number n None = false
+is_number n (Some k) = k == n
 
 -- with one more
 abbrev pub with_number : ℕ → List ℕ → List ℕ
-with_number n ks = number_if_new (slice_get ks (below n ks)) n ks
+with_number n ks = cond (is_number n (slice_get ks (below n ks))) ks (insert ks (below n ks) n)
 
 abbrev pub with_found : Option ℕ → List ℕ → List ℕ
 with_found None ks = ks
@@ -67,10 +67,14 @@ with_ready_below lanes a [] ks = ks
 with_ready_below lanes a (e ∷ es) ks =
     with_ready_below lanes a es (with_second_below lanes a e.second (with_under lanes a e.first ks))
 
+abbrev pub lanes_below : Around → Place → List ℕ
+lanes_below s a = with_ready_below s.lanes a s.ready (with_actions_below s.lanes a s.actions [])
+
 abbrev pub behind_lanes : Around → Option Partner → List ℕ
-behind_lanes s (Some (partner.Behind a)) =
-    with_ready_below s.lanes a s.ready (with_actions_below s.lanes a s.actions [])
-behind_lanes s _ = []
+behind_lanes s (Some (partner.Behind a)) = lanes_below s a
+behind_lanes s (Some partner.Gone) = []
+behind_lanes s (Some partner.Open) = []
+behind_lanes s None = []
 
 -- ---- all that could be its partner
 
@@ -126,10 +130,10 @@ with_uses lanes own c r (u ∷ us) ks = with_uses lanes own c r us (with_use lan
 
 -- ---- the lanes
 
-abbrev pub or_uses : List ℕ → List ℕ → List ℕ
-or_uses [] others = others
-or_uses (k ∷ ks) others = k ∷ ks
+-- where there are none, those of all uses
+abbrev pub or_uses : Around → Option ℕ → ℕ → Role → List ℕ → List ℕ
+or_uses s own c r ks = cond (length ks == 0) (with_uses s.lanes own c r s.uses ks) ks
 
 -- those for which an action of this role in the lane `own`, with this partner, waits on a channel
 abbrev pub wanted_lanes : Around → Option Partner → Option ℕ → ℕ → Role → List ℕ
-wanted_lanes s p own c r = or_uses (behind_lanes s p) (with_uses s.lanes own c r s.uses [])
+wanted_lanes s p own c r = or_uses s own c r (behind_lanes s p)

@@ -23,8 +23,6 @@ use waiting::{Progress, Waiting, who_waits};
 pub struct End {
     /// whether the run goes on, is done or is stuck
     pub progress: Progress,
-    /// whether more in the stimulus is all that a run lacks that is stuck
-    pub lacks_input: bool,
     /// the events that can be taken, in order
     pub ready: Items<Event>,
     /// where each of these stands
@@ -69,7 +67,6 @@ pub(crate) fn end_of(
     add_ready_places(alloc, machine, &now, events, &mut places)?;
     Ok(End {
         progress: waiting.progress,
-        lacks_input: waiting.lacks_input(machine),
         ready,
         ready_actions,
         places,

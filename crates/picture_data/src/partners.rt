@@ -1,5 +1,5 @@
 // The lanes from which the partner of an action that waits can come.
-ghost use Rattle.std.specs.Prelude.{◌≡◌, ◌≤◌, ◌==◌, [], length, slice_get, IfOk, OnOk};
+ghost use Rattle.std.specs.Prelude.{◌≡◌, ◌≤◌, ◌==◌, ◌&&◌, length, slice_get, IfOk, OnOk};
 ghost use Rattle.std.specs.Option.{option_copied};
 ghost use Rattle.local_actions.specs.internal.At as at;
 ghost use Rattle.runs.specs.Tests.{same_entry};
@@ -41,14 +41,46 @@ pub(crate) fn wanted_lanes(
     ensures { IfOk result (λ lanes.
         lanes.items ≡ model.wanted_lanes (around_in now.now) (option_copied partner.entry) own channel role) }
 {
-    let mut lanes = Vec::new(alloc);
-    if let Some(Partner::Behind(place)) = partner {
-        add_actions_below(alloc, now, place, &mut lanes)?;
-        add_ready_below(alloc, now, place, &mut lanes)?;
-    }
-    if lanes.is_empty() {
+    let mut lanes = lanes_behind(alloc, now, partner)?;
+    if is_none(lanes.as_slice()) {
         add_uses(now, own, channel, role, &mut lanes)?;
+        return Ok(lanes);
     }
+    Ok(lanes)
+}
+
+/// Whether there are none.
+fn is_none(lanes: &[usize]) -> bool
+    ensures { result ≡ (length lanes.now == 0) }
+{
+    lanes.is_empty()
+}
+
+/// The lanes of what stands at the place behind which the partner is, if it is behind one, or below it.
+fn lanes_behind(
+    alloc: Global,
+    now: &Now<'_>,
+    partner: Option<&Partner>,
+) -> Result<Vec<usize>, AllocError>
+    ensures { IfOk result (λ lanes.
+        lanes.items ≡ model.behind_lanes (around_in now.now) (option_copied partner.entry)) }
+{
+    match partner {
+        Some(Partner::Behind(place)) => {
+            let lanes = lanes_below(alloc, now, place)?;
+            Ok(lanes)
+        }
+        Some(Partner::Gone) | Some(Partner::Open) | None => Ok(Vec::new(alloc)),
+    }
+}
+
+/// The lanes of what stands at the place or below it.
+fn lanes_below(alloc: Global, now: &Now<'_>, place: &Address) -> Result<Vec<usize>, AllocError>
+    ensures { IfOk result (λ lanes. lanes.items ≡ model.lanes_below (around_in now.now) place.now) }
+{
+    let mut lanes = Vec::new(alloc);
+    add_actions_below(alloc, now, place, &mut lanes)?;
+    add_ready_below(alloc, now, place, &mut lanes)?;
     Ok(lanes)
 }
 
@@ -97,7 +129,10 @@ fn add_second_below(
         ≡ model.with_second_below now.now.table.now place.now event.now.second lanes.old.items) }
 {
     match &event.second {
-        Some(second) => add_under(alloc, now, place, second, lanes),
+        Some(second) => {
+            add_under(alloc, now, place, second, lanes)?;
+            Ok(())
+        }
         None => Ok(()),
     }
 }
@@ -114,10 +149,10 @@ fn add_under(
         ≡ model.with_under now.now.table.now place.now other.now lanes.old.items) }
 {
     if is_under(place.entries(), other.entries()) {
-        add_found(lane_at(alloc, now.table, other)?, lanes)
-    } else {
-        Ok(())
+        add_found(lane_at(alloc, now.table, other)?, lanes)?;
+        return Ok(());
     }
+    Ok(())
 }
 
 /// Whether the second place is the first or below it.
@@ -160,11 +195,35 @@ fn add_uses(
         ≡ model.with_uses now.now.table.now own channel role now.now.uses.now lanes.old.items) }
 {
     for used in now.uses {
-        if used.channel == channel && is_partner(role, used.way) {
-            add_other(own, now.table.find(used.path.as_slice()), lanes)?;
-        }
+        add_use(now, own, channel, role, used, lanes)?;
     }
     Ok(())
+}
+
+/// Adds the lane of a use, if it is one of the channel that could be its partner.
+fn add_use(
+    now: &Now<'_>,
+    own: Option<usize>,
+    channel: u32,
+    role: Role,
+    used: &ChannelUse,
+    lanes: &mut Vec<usize>,
+) -> Result<(), AllocError>
+    ensures { OnOk result (lanes.new.items
+        ≡ model.with_use now.now.table.now own channel role used.now lanes.old.items) }
+{
+    if is_wanted(channel, role, used) {
+        add_other(own, now.table.find(used.path.as_slice()), lanes)?;
+        return Ok(());
+    }
+    Ok(())
+}
+
+/// Whether it is a use of the channel that could be its partner.
+fn is_wanted(channel: u32, role: Role, used: &ChannelUse) -> bool
+    ensures { result ≡ ((used.now.channel == channel) && model.is_partner role used.now.way) }
+{
+    used.channel == channel && is_partner(role, used.way)
 }
 
 /// Adds the lane, if it is not its own.
@@ -176,10 +235,10 @@ fn add_other(
     ensures { OnOk result (lanes.new.items ≡ model.with_other own found lanes.old.items) }
 {
     if is_same_lane(found, own) {
-        Ok(())
-    } else {
-        add_found(found, lanes)
+        return Ok(());
     }
+    add_found(found, lanes)?;
+    Ok(())
 }
 
 /// Whether both lanes are one, or neither is there.
@@ -212,7 +271,10 @@ fn add_found(lane: Option<usize>, lanes: &mut Vec<usize>) -> Result<(), AllocErr
     ensures { OnOk result (lanes.new.items ≡ model.with_found lane lanes.old.items) }
 {
     match lane {
-        Some(lane) => add_number(lane, lanes),
+        Some(lane) => {
+            add_number(lane, lanes)?;
+            Ok(())
+        }
         None => Ok(()),
     }
 }
@@ -222,12 +284,20 @@ fn add_number(number: usize, numbers: &mut Vec<usize>) -> Result<(), AllocError>
     ensures { OnOk result (numbers.new.items ≡ model.with_number number numbers.old.items) }
 {
     let index = below(number, numbers.as_slice());
+    if holds_at(numbers.as_slice(), index, number) {
+        return Ok(());
+    }
+    numbers.insert(index, number)?;
+    Ok(())
+}
+
+/// Whether the number stands at the index.
+fn holds_at(numbers: &[usize], index: usize, number: usize) -> bool
+    ensures { result ≡ model.is_number number (slice_get numbers.now index) }
+{
     match numbers.get(index) {
-        Some(found) if *found == number => Ok(()),
-        _ => {
-            numbers.insert(index, number)?;
-            Ok(())
-        }
+        Some(found) => *found == number,
+        None => false,
     }
 }
 

@@ -30,12 +30,13 @@ pub fn picture_of(
 ) -> Result<Picture, AllocError>
     ensures { IfOk result (Shows machine.now procedures.now) }
 {
+    let ground = ground_of(alloc, procedures, machine.checked().system())?;
     let Ground {
         instances,
         table,
         uses,
         feeds,
-    } = ground_of(alloc, procedures, machine.checked().system())?;
+    } = ground;
     let steps = steps_of(alloc, machine, &table)?;
     let end = end_of(alloc, machine, &table, uses.as_slice(), steps.depths.as_slice())?;
     Ok(Picture {

@@ -330,7 +330,7 @@ fn add_event_places(
             event,
             second,
             second_role(event.kind),
-                places,
+            places,
         ),
         None => Ok(()),
     }

@@ -1,5 +1,5 @@
 -- Of one run there is one picture.
-use Rattle.std.proofs.Common.{◌≡◌, ℕ, ◌<◌, ◌≤◌, ◌&&◌, inl, inr, List, [], ◌++◌, length, Bool, true, false, true≢false, Option, None, Some, map, refl, sym, ◌∙◌, ap, subst, arith}
+use Rattle.std.proofs.Common.{◌≡◌, ℕ, ◌<◌, ◌≤◌, inl, inr, List, [], ◌++◌, length, Bool, true, false, true≢false, Option, None, Some, map, refl, sym, ◌∙◌, ap, subst, arith}
 use Rattle.std.specs.Prelude.{slice_get}
 use Rattle.std.proofs.lemmas.Bool.{cases_lt}
 use Rattle.std.proofs.lemmas.Option.{slice_get_past}
@@ -16,7 +16,6 @@ use Rattle.machine.specs.AtMachine.{AtMachine}
 use Rattle.local_actions.specs.declared.action.LocalAction.{LocalAction}
 use Rattle.rings.specs.Partners.{partner_in}
 use Rattle.rings.specs.declared.partner.Partner.{Partner}
-use Rattle.waiting.specs.Input.{all_settled, any_starved, is_stuck, lacks_input, none_deadlocked}
 use Rattle.waiting.specs.Progress.{StandsLike}
 use Rattle.waiting.specs.Rings.{NamesDeadlocked}
 use Rattle.waiting.specs.Told.{IsTold, TellsWaits}
@@ -96,15 +95,6 @@ same-wait m v w tells here there =
           (subst (λ (xs : List LocalAction). NamesDeadlocked m here.0 xs w.deadlocked.items) (sym one.0) told.deadlocked);
       ring = one.1;
     }
-
-same-lack : (m : AtMachine) (v w : Waiting) → SameWait v w → lacks_input m v ≡ lacks_input m w
-same-lack m v w same =
-    let made : Progress → List Bool → List Partner → List LocalAction → Bool =
-    λ p marks ps xs. is_stuck p && none_deadlocked marks && any_starved m ps 0 xs && all_settled ps 0 xs in
-    ap (λ (p : Progress). made p v.deadlocked.items v.partners.items v.actions) same.progress
-    ∙ ap (λ (marks : List Bool). made w.progress marks v.partners.items v.actions) same.deadlocked
-    ∙ ap (λ (ps : List Partner). made w.progress w.deadlocked.items ps v.actions) same.partners
-    ∙ ap (λ (xs : List LocalAction). made w.progress w.deadlocked.items w.partners.items xs) same.actions
 
 -- ---- what is drawn on
 
@@ -192,7 +182,6 @@ one-picture m procedures p q low next rising tells here there =
           here.end.actions
           (subst (λ (es : List Event). EachStandsIn m q.lanes.items es q.end.ready_actions.items) (sym ready) there.end.actions);
       progress = one-progress goes.0 p.end.progress q.end.progress goes.2 progress_here;
-      lacks_input = waits.lacks ∙ same-lack m waits.waiting waits2.waiting same ∙ sym waits2.lacks;
       places = places;
       places_since =
           places-since (record { live = m.live; depths = p.steps.depths.items }) p.end.places.items q.end.places.items places waits.since

@@ -92,7 +92,6 @@ pub record IsOnePicture (p q : Picture) : Type 0 where
   pub ready : p.end.ready ≡ q.end.ready
   pub ready_actions : p.end.ready_actions.items ≡ q.end.ready_actions.items
   pub progress : p.end.progress ≡ q.end.progress
-  pub lacks_input : p.end.lacks_input ≡ q.end.lacks_input
   pub places : map spot_of p.end.places.items ≡ map spot_of q.end.places.items
   pub places_since : map since_of p.end.places.items ≡ map since_of q.end.places.items
   pub ring : p.end.ring.items ≡ q.end.ring.items

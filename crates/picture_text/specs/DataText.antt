@@ -18,7 +18,6 @@ use Rattle.picture_lanes.specs.declared.lane.Instance.{Instance}
 use Rattle.picture_lanes.specs.declared.lane.Lane.{Lane}
 use Rattle.picture_lanes.specs.declared.lane.LaneKind.{LaneKind}
 use Rattle.json_text.specs.Values.{list_text, member_text, object_text, optional_text, string_text}
-use Rattle.waiting.specs.declared.progress.Progress.{Progress}
 use Rattle.picture_data.specs.declared.end.End.{End}
 use Rattle.picture_data.specs.declared.picture.Picture.{Picture}
 use Rattle.picture_data.specs.declared.places.Place.{Place}
@@ -182,13 +181,6 @@ abbrev pub rings_text : List ℕ → List ℕ
 rings_text [] = list_text []
 rings_text (i ∷ ring) = list_text (numbers_text (i ∷ ring) ∷ [])
 
--- how the run stands; of one that is stuck, whether it lacks input
-abbrev pub progress_words : Progress → Bool → List ℕ
-progress_words Progress.GoesOn lacks = codes "goes on"
-progress_words Progress.Done lacks = codes "done"
-progress_words Progress.Stuck true = codes "out of input"
-progress_words Progress.Stuck false = codes "stuck"
-
 -- ---- all of it
 
 abbrev pub head_members : List ℕ → List ℕ → List ℕ → List ℕ → List (List ℕ)
@@ -215,7 +207,6 @@ run_members system l p =
     ∷ member_text (codes "ready") (list_text (ready_rows system p.end.ready_actions.items 0 p.end.ready))
     ∷ member_text (codes "places") (list_text (map place_row p.end.places.items))
     ∷ member_text (codes "rings") (rings_text p.end.ring.items)
-    ∷ member_text (codes "stands") (string_text (progress_words p.end.progress p.end.lacks_input))
     ∷ []
 
 -- of the run of these live events, with the source, and the names of the three files

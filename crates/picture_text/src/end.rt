@@ -14,7 +14,6 @@ use runs::Event;
 use std::alloc::AllocError;
 use system::System;
 use text_parts::{Piece, add_pieces};
-use waiting::Progress;
 
 /// Adds the events that can be taken, each with the line of a script that takes it.
 pub(crate) fn add_ready(
@@ -183,31 +182,4 @@ fn add_rings(json: &mut Json, ring: &[usize]) -> Result<(), AllocError>
     json.open_list()?;
     add_indexes(json, ring)?;
     json.close_list()
-}
-
-/// Adds how the run stands: whether it goes on, is done, lacks input alone, or is stuck.
-#[tactic(auto, using(json_text::proofs::public::Growing::member_added))]
-pub(crate) fn add_progress(json: &mut Json, end: &End) -> Result<(), AllocError>
-    ensures { OnOk result (json.new ≡ with_value json.old
-        (member_text (codes "stands") (string_text (model.progress_words end.now.progress end.now.lacks_input)))) }
-{
-    json.name("stands")?;
-    json.text(progress_words(end.progress, end.lacks_input).as_bytes())
-}
-
-/// How a run stands, in words.
-fn progress_words(progress: Progress, lacks_input: bool) -> &'static str
-    ensures { result.now ≡ model.progress_words progress lacks_input }
-{
-    match progress {
-        Progress::GoesOn => "goes on",
-        Progress::Done => "done",
-        Progress::Stuck => {
-            if lacks_input {
-                "out of input"
-            } else {
-                "stuck"
-            }
-        }
-    }
 }

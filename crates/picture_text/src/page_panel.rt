@@ -94,19 +94,17 @@ function card() {
         `<div class="cmd">${copy(r[5].replace(/ 0$/,''))}<span class="m soft" style="font-size:11px">${esc(r[0].split(' /')[0])}</span>` +
           `</div>`
         ).join('');
-    else if (!ring) o += `<div><b>${STANDS[R.stands][0]}</b> ${STANDS[R.stands][1]}</div>`;
+    else if (!ring) o +=
+      `<div>` +
+        `<b>No step can be taken.</b> ` + (wait.length?
+        'What is left waits for more from the environment, or for a branch that has ended. There is no ring.':
+        'All is done.') + `</div>`;
     if (wait.length) o += `<h2>Waits</h2><table>` + wait.slice(0, 60).map(p =>
       `<tr><td>${esc(who(p[0]))}${lineLink(p[2])}<td>${waitText(p)}`).join('') + '</table>'
   }
   $('card').innerHTML = o
 }
-const STANDS = {
-    done: ['All is done.', 'Nothing is left to do but to take what comes out.'],
-    'out of input': ['Out of input.', 'No step can be taken before the stimulus has more. Nothing is deadlocked.'],
-    stuck: ['Stuck.', 'No step can be taken. What waits has no partner that can come, and there is no ring.'],
-    'goes on': ['', '']
-  },
-  VERB = {
+const VERB = {
     send: 'sends on',
     receive: 'receives on',
     sync: 'syncs on',
@@ -646,7 +644,7 @@ addEventListener('afterprint', () => $('sheets').innerHTML = '');
   document.title = (base || 'balsadbg') + ': picture of a run';
   const ring = R.rings.length,
     s = $('state');
-  s.textContent = ring ? 'deadlock' : R.ready.length ? R.ready.length + ' ready' : R.stands;
+  s.textContent = ring ? 'deadlock' : R.ready.length ? R.ready.length + ' ready' : 'no step left';
   s.className = 'chip' + (ring ? ' ring' : R.ready.length ? ' go' : '');
   const depth = E.reduce((m, e) => Math.max(m, e.depth), -1) + 1;
   $('sub').textContent = `${N} event${N===1?'':'s'}, depth ${depth}, ${L.length} lanes · ${R.files[2]}`;

@@ -18,7 +18,7 @@ returns c =
       waits = shows-waits-by c.args.machine.now c.args.table.now c.args.uses.now c.args.depths.now c.in_ok-waiting.waiting _
           c.in_ok-shown.shown.places.items c.in_ok-shown.shown.place_of_action.items c.as_slice-actions.result.now c.as_slice-events.result.now
           c.live_events-live.result.now.live c.as_slice-actions.ensures c.as_slice-events.ensures c.live_events-live.ensures c.in_ok-waiting.ensures
-          c.lacks_input.ensures c.in_ok-shown.ensures
+          c.in_ok-shown.ensures
           (subst (λ (es : List Event). AddsSpots _ c.in_ok-shown.shown.places.items c.add_ready_places.new.places.items (ready_spots _ es))
           c.as_slice-events.ensures c.in_ok-add_ready_places.ensures)
           (c.in_ok-ring.ensures
