@@ -122,9 +122,9 @@ same-system system p q one =
         ∷ member_text (codes "lanes") (list_text (map lane_text ls))
         ∷ member_text (codes "feeds") (list_text (map feed_text fs))
         ∷ [] in
-    ap (λ (is : List Instance). made is p.lanes.items p.feeds.items) one.ground.instances
-    ∙ ap (λ (ls : List Lane). made q.instances.items ls p.feeds.items) one.ground.lanes
-    ∙ ap (λ (fs : List Feed). made q.instances.items q.lanes.items fs) one.ground.feeds
+    ap (λ (is : List Instance). made is p.lanes.items p.feeds.items) one.run.ground.instances
+    ∙ ap (λ (ls : List Lane). made q.instances.items ls p.feeds.items) one.run.ground.lanes
+    ∙ ap (λ (fs : List Feed). made q.instances.items q.lanes.items fs) one.run.ground.feeds
 
 -- how the run stands, in one text
 ends : System → Live → List (List ℕ) → List Race → List Actions → List Event → List (List ℕ) → List ℕ → List (List ℕ)
@@ -139,17 +139,17 @@ ends system l rows races actions ready places ring =
 
 same-run : (system : System) (l : Live) (p q : Picture) → IsOnePicture p q → run_members system l p ≡ run_members system l q
 same-run system l p q one =
-    let rows = same-rows system p.steps q.steps 0 l one.actions one.depths one.ahead one.since in
+    let rows = same-rows system p.steps q.steps 0 l one.run.actions one.run.depths one.run.ahead one.run.since in
     let places = place-rows p.end.places.items q.end.places.items one.places in
     let a = event_rows system q.steps 0 l in
     let b = map place_row q.end.places.items in
     ap (λ (x : List (List ℕ)). ends system l x p.steps.races.items p.end.ready_actions.items p.end.ready (map place_row p.end.places.items)
     p.end.ring.items) rows
-    ∙ ap (λ (x : List Race). ends system l a x p.end.ready_actions.items p.end.ready (map place_row p.end.places.items) p.end.ring.items) one.races
+    ∙ ap (λ (x : List Race). ends system l a x p.end.ready_actions.items p.end.ready (map place_row p.end.places.items) p.end.ring.items) one.run.races
     ∙ ap (λ (x : List Actions). ends system l a q.steps.races.items x p.end.ready (map place_row p.end.places.items) p.end.ring.items)
-    one.ready_actions
+    one.run.ready_actions
     ∙ ap (λ (x : List Event). ends system l a q.steps.races.items q.end.ready_actions.items x (map place_row p.end.places.items) p.end.ring.items)
-    one.ready
+    one.run.ready
     ∙ ap (λ (x : List (List ℕ)). ends system l a q.steps.races.items q.end.ready_actions.items q.end.ready x p.end.ring.items) places
     ∙ ap (λ (x : List ℕ). ends system l a q.steps.races.items q.end.ready_actions.items q.end.ready b x) one.ring
 

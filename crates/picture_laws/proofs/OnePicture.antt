@@ -29,7 +29,7 @@ use Rattle.syntax.specs.Lists.{Every}
 use Rattle.picture_data.specs.Spots.{Spot, StandsSince, places_of_sides, ready_spots, ring_of, spot_of, waiting_spots, with_sides}
 use Rattle.picture_data.specs.Wanted.{Seen}
 use Rattle.picture_data.specs.declared.picture.Picture.{Picture}
-use Rattle.picture_laws.specs.EqualPictures.{IsOneGround, IsOnePicture, TellsOneWait}
+use Rattle.picture_laws.specs.EqualPictures.{IsOneGround, IsOnePicture, IsOneRun, TellsOneWait}
 use Rattle.picture_laws.proofs.OneOrder.{by-index}
 use Rattle.picture_laws.proofs.OneRun.{one-ahead, one-depths, one-progress, one-races}
 use Rattle.picture_laws.proofs.Standing.{one-sinces, one-stands, places-since}
@@ -140,9 +140,9 @@ same-ring s t v w seen same =
 
 -- ---- all of it
 
-pub one-picture : (m : AtMachine) (procedures : List Procedure) (p q : Picture) (low next : ℕ) → Rising low m.live next → TellsOneWait m →
-    Shows m procedures p → Shows m procedures q → IsOnePicture p q
-one-picture m procedures p q low next rising tells here there =
+pub one-run : (m : AtMachine) (procedures : List Procedure) (p q : Picture) (low next : ℕ) → Rising low m.live next → Shows m procedures p →
+    Shows m procedures q → IsOneRun p q
+one-run m procedures p q low next rising here there =
     let ground = one-ground m procedures p q here there in
     let depths : p.steps.depths.items ≡ q.steps.depths.items =
     one-depths m.live p.steps.depths.items q.steps.depths.items here.steps.depths there.steps.depths in
@@ -155,16 +155,6 @@ one-picture m procedures p q low next rising tells here there =
     let progress_here : StandsLike goes.0 q.end.progress =
     subst (λ (S : State). StandsLike S q.end.progress) (one_state m.checked (events m.live) goes2.0 goes.0 goes2.1 goes.1) goes2.2 in
     let ready : p.end.ready ≡ q.end.ready = ready-lists list.0 p.end.ready q.end.ready list.2 ready_here in
-    let waits = here.end.waits in
-    let waits2 = there.end.waits in
-    let same = same-wait m waits.waiting waits2.waiting tells waits.told waits2.told in
-    let uses = uses_of procedures m.checked in
-    let seen =
-    same-seen m p.lanes.items q.lanes.items uses waits.waiting waits2.waiting p.end.ready q.end.ready ground.lanes same.actions ready in
-    let s = seen_of m p.lanes.items uses waits.waiting p.end.ready in
-    let t = seen_of m q.lanes.items uses waits2.waiting q.end.ready in
-    let places : map spot_of p.end.places.items ≡ map spot_of q.end.places.items =
-    waits.places ∙ same-spots s t waits.waiting waits2.waiting p.end.ready q.end.ready seen same ready ∙ sym waits2.places in
     record {
       ground = ground;
       depths = depths;
@@ -182,9 +172,27 @@ one-picture m procedures p q low next rising tells here there =
           here.end.actions
           (subst (λ (es : List Event). EachStandsIn m q.lanes.items es q.end.ready_actions.items) (sym ready) there.end.actions);
       progress = one-progress goes.0 p.end.progress q.end.progress goes.2 progress_here;
+    }
+
+pub one-picture : (m : AtMachine) (procedures : List Procedure) (p q : Picture) (low next : ℕ) → Rising low m.live next → TellsOneWait m →
+    Shows m procedures p → Shows m procedures q → IsOnePicture p q
+one-picture m procedures p q low next rising tells here there =
+    let run = one-run m procedures p q low next rising here there in
+    let waits = here.end.waits in
+    let waits2 = there.end.waits in
+    let same = same-wait m waits.waiting waits2.waiting tells waits.told waits2.told in
+    let uses = uses_of procedures m.checked in
+    let seen =
+    same-seen m p.lanes.items q.lanes.items uses waits.waiting waits2.waiting p.end.ready q.end.ready run.ground.lanes same.actions run.ready in
+    let s = seen_of m p.lanes.items uses waits.waiting p.end.ready in
+    let t = seen_of m q.lanes.items uses waits2.waiting q.end.ready in
+    let places : map spot_of p.end.places.items ≡ map spot_of q.end.places.items =
+    waits.places ∙ same-spots s t waits.waiting waits2.waiting p.end.ready q.end.ready seen same run.ready ∙ sym waits2.places in
+    record {
+      run = run;
       places = places;
       places_since =
           places-since (record { live = m.live; depths = p.steps.depths.items }) p.end.places.items q.end.places.items places waits.since
-          (subst (λ (ds : List ℕ). Every (StandsSince (record { live = m.live; depths = ds })) q.end.places.items) (sym depths) waits2.since);
+          (subst (λ (ds : List ℕ). Every (StandsSince (record { live = m.live; depths = ds })) q.end.places.items) (sym run.depths) waits2.since);
       ring = waits.ring_told ∙ same-ring s t waits.waiting waits2.waiting seen same ∙ sym waits2.ring_told;
     }

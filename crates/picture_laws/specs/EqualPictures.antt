@@ -77,12 +77,8 @@ EqualRunsShowTheSame =
     AreEqualRuns m.checked m.live n.live → Shows m procedures p → Shows n procedures q →
     ShowTheSame m n procedures p q
 
--- the depth from which on something may stand at a place
-abbrev pub since_of : Shown → ℕ
-since_of p = p.since
-
--- all is the same, at each index
-pub record IsOnePicture (p q : Picture) : Type 0 where
+-- of the events, and of how the run stands, all is the same at each index
+pub record IsOneRun (p q : Picture) : Type 0 where
   pub ground : IsOneGround p q
   pub depths : p.steps.depths.items ≡ q.steps.depths.items
   pub ahead : p.steps.ahead ≡ q.steps.ahead
@@ -92,6 +88,20 @@ pub record IsOnePicture (p q : Picture) : Type 0 where
   pub ready : p.end.ready ≡ q.end.ready
   pub ready_actions : p.end.ready_actions.items ≡ q.end.ready_actions.items
   pub progress : p.end.progress ≡ q.end.progress
+
+-- of one run, event by event in one order, as a saved trace has it, pictures show the same, index by index
+abbrev pub OneRunShowsTheSame : Type 0
+OneRunShowsTheSame =
+    (m : AtMachine) (procedures : List Procedure) (p q : Picture) (low next : ℕ) → Rising low m.live next →
+    Shows m procedures p → Shows m procedures q → IsOneRun p q
+
+-- the depth from which on something may stand at a place
+abbrev pub since_of : Shown → ℕ
+since_of p = p.since
+
+-- and of who waits
+pub record IsOnePicture (p q : Picture) : Type 0 where
+  pub run : IsOneRun p q
   pub places : map spot_of p.end.places.items ≡ map spot_of q.end.places.items
   pub places_since : map since_of p.end.places.items ≡ map since_of q.end.places.items
   pub ring : p.end.ring.items ≡ q.end.ring.items
@@ -101,7 +111,7 @@ abbrev pub TellsOneWait : AtMachine → Type 0
 TellsOneWait m =
     (v w : Waiting) → TellsWaits m v → TellsWaits m w → (v.actions ≡ w.actions) × (v.ring.items ≡ w.ring.items)
 
--- of one run, event by event in one order, as a saved trace has it, there is one picture
+-- of one run, where it is told in one way who waits, there is one picture
 abbrev pub OneRunHasOnePicture : Type 0
 OneRunHasOnePicture =
     (m : AtMachine) (procedures : List Procedure) (p q : Picture) (low next : ℕ) → Rising low m.live next →

@@ -4,7 +4,7 @@
 #![tactic(auto)]
 
 ghost use Rattle.picture_laws.specs.EqualPages.{EqualRunsHaveOnePage};
-ghost use Rattle.picture_laws.specs.EqualPictures.{EqualRunsShowTheSame, OneRunHasOnePicture};
+ghost use Rattle.picture_laws.specs.EqualPictures.{EqualRunsShowTheSame, OneRunHasOnePicture, OneRunShowsTheSame};
 
 /// The pictures of two runs that differ only in the order of independent steps show the same of each event, and of the
 /// state that both reach.
@@ -12,12 +12,19 @@ pub fn equal_runs_show_the_same()
     ensures { EqualRunsShowTheSame }
 {}
 
-/// Two pictures of one run are one, index by index.
+/// Two pictures of one run have the same ground, depths, followers, lanes, lines, races, and events that can be taken,
+/// each at the same index.
+pub fn one_run_shows_the_same()
+    ensures { OneRunShowsTheSame }
+{}
+
+/// Where it is told in one way who waits, two pictures of one run are one.
 pub fn one_run_has_one_picture()
     ensures { OneRunHasOnePicture }
 {}
 
-/// Where the events of two such runs stand in the canonical order, the data and the page have the same bytes.
+/// Where the events of two such runs stand in the canonical order, and it is told in one way who waits, the data and the
+/// page have the same bytes.
 pub fn equal_runs_have_one_page()
     ensures { EqualRunsHaveOnePage }
 {}
