@@ -38,7 +38,13 @@ pub fn picture_of(
         feeds,
     } = ground;
     let steps = steps_of(alloc, machine, &table)?;
-    let end = end_of(alloc, machine, &table, uses.as_slice(), steps.depths.as_slice())?;
+    let end = end_of(
+        alloc,
+        machine,
+        &table,
+        uses.as_slice(),
+        steps.depths.as_slice(),
+    )?;
     Ok(Picture {
         instances: instances.into_vec(),
         lanes: table.into_lanes().into_vec(),

@@ -174,15 +174,7 @@ fn new_place(
 {
     let role = action_role(&action.action);
     let wanted = Vec::new(alloc);
-    let made = place_of(
-        alloc,
-        machine,
-        now,
-        &action.place,
-        role,
-        wanted,
-        false,
-    )?;
+    let made = place_of(alloc, machine, now, &action.place, role, wanted, false)?;
     Ok(made)
 }
 

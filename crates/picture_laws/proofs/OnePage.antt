@@ -63,15 +63,15 @@ same-row : (system : System) (s t : Steps) (n : ℕ) (e : Event) → s.actions.i
     s.since.items ≡ t.since.items → event_row system s n e ≡ event_row system t n e
 same-row system s t n e actions depths ahead since =
     let made : List Actions → List ℕ → List (List ℕ) → List (ℕ × ℕ) → List ℕ =
-    λ as ds rows ss.
-        list_text (string_text (event_text system e)
-        ∷ (action_texts (slice_get as n)
-        ++ optional_text (slice_get ds n)
-        ∷ optional_text e.written
-        ∷ numbers_text e.read
-        ∷ ahead_text (slice_get rows n)
-        ∷ since_texts e.second (slice_get ss n))) in
-    ap (λ (as : List Actions). made as s.depths.items s.ahead s.since.items) actions
+    λ ss ds rows ts.
+    list_text (string_text (event_text system e)
+    ∷ (action_texts (slice_get ss n)
+    ++ optional_text (slice_get ds n)
+    ∷ optional_text e.written
+    ∷ numbers_text e.read
+    ∷ ahead_text (slice_get rows n)
+    ∷ since_texts e.second (slice_get ts n))) in
+    ap (λ (ss : List Actions). made ss s.depths.items s.ahead s.since.items) actions
     ∙ ap (λ (ds : List ℕ). made t.actions.items ds s.ahead s.since.items) depths
     ∙ ap (λ (rows : List (List ℕ)). made t.actions.items t.depths.items rows s.since.items) ahead
     ∙ ap (λ (ss : List (ℕ × ℕ)). made t.actions.items t.depths.items t.ahead ss) since
@@ -116,12 +116,12 @@ same-system : (system : System) (p q : Picture) → IsOnePicture p q → system_
 same-system system p q one =
     let made : List Instance → List Lane → List Feed → List (List ℕ) =
     λ is ls fs.
-        member_text (codes "variables") (list_text (map variable_text system.variables))
-        ∷ member_text (codes "channels") (list_text (map channel_text system.channels))
-        ∷ member_text (codes "instances") (list_text (map instance_text is))
-        ∷ member_text (codes "lanes") (list_text (map lane_text ls))
-        ∷ member_text (codes "feeds") (list_text (map feed_text fs))
-        ∷ [] in
+    member_text (codes "variables") (list_text (map variable_text system.variables))
+    ∷ member_text (codes "channels") (list_text (map channel_text system.channels))
+    ∷ member_text (codes "instances") (list_text (map instance_text is))
+    ∷ member_text (codes "lanes") (list_text (map lane_text ls))
+    ∷ member_text (codes "feeds") (list_text (map feed_text fs))
+    ∷ [] in
     ap (λ (is : List Instance). made is p.lanes.items p.feeds.items) one.run.ground.instances
     ∙ ap (λ (ls : List Lane). made q.instances.items ls p.feeds.items) one.run.ground.lanes
     ∙ ap (λ (fs : List Feed). made q.instances.items q.lanes.items fs) one.run.ground.feeds
@@ -171,8 +171,8 @@ one-page m n procedures p q one equal order other tells here there =
     (subst (λ (x : AtMachine). Shows x procedures q) (sym is) there) in
     let text : (source file stimulus trace : List ℕ) → data_text m.checked m.live p source file stimulus trace ≡ data_text n.checked n.live q source file stimulus trace =
     λ source file stimulus trace.
-        one-text m.checked m.live p q source file stimulus trace picture
-        ∙ ap (λ (x : AtMachine). data_text x.checked x.live q source file stimulus trace) is in
+    one-text m.checked m.live p q source file stimulus trace picture
+    ∙ ap (λ (x : AtMachine). data_text x.checked x.live q source file stimulus trace) is in
     record {
       picture = picture;
       data_of = text;
