@@ -24,18 +24,20 @@ none-differs a b off is = true≢false (sym (on-one a b is) ∙ off)
 no-some : (n : ℕ) → Some n ≡ None → ⊥
 no-some n e = cc
 
+none-step : (t : Bool) (n : ℕ) (lane : Lane) (lanes : List Lane) (path : List ℕ) → same_path lane.path path ≡ t →
+    index_from n (lane ∷ lanes) path ≡ None → (index_from (n + 1) lanes path ≡ None → NoneHas lanes path) → NoneHas (lane ∷ lanes) path
+none-step true n lane lanes path on none rest =
+    absurd (no-some n (sym (ap (λ (b : Bool). cond b (Some n) (index_from (n + 1) lanes path)) on) ∙ none))
+none-step false n lane lanes path off none rest = (
+  none-differs lane.path path off,
+  rest (sym (ap (λ (b : Bool). cond b (Some n) (index_from (n + 1) lanes path)) off) ∙ none),
+)
+
 -- where none is found, none has the path
 none-has : (n : ℕ) (lanes : List Lane) (path : List ℕ) → index_from n lanes path ≡ None → NoneHas lanes path
 none-has n [] path none = tt
-none-has n (lane ∷ lanes) path none = by (same_path lane.path path) refl
-  where
-    by : (t : Bool) → same_path lane.path path ≡ t → NoneHas (lane ∷ lanes) path
-    by true on =
-        absurd (no-some n (sym (ap (λ (b : Bool). cond b (Some n) (index_from (n + 1) lanes path)) on) ∙ none))
-    by false off = (
-      none-differs lane.path path off,
-      none-has (n + 1) lanes path (sym (ap (λ (b : Bool). cond b (Some n) (index_from (n + 1) lanes path)) off) ∙ none),
-    )
+none-has n (lane ∷ lanes) path none =
+    none-step (same_path lane.path path) n lane lanes path refl none (λ rest. none-has (n + 1) lanes path rest)
 
 none-append : (lanes : List Lane) (lane : Lane) (path : List ℕ) → NoneHas lanes path → (lane.path ≡ path → ⊥) → NoneHas (lanes ++ lane ∷ []) path
 none-append [] lane path none other = (other, tt)
@@ -80,4 +82,5 @@ found-from n (x ∷ lanes) path (suc k) each has =
     ∙ ap (λ (i : ℕ). Some i) at
 
 pub found_at : (lanes : List Lane) (path : List ℕ) (k : ℕ) → EachOnce lanes → HasPath lanes k path → lane_index lanes path ≡ Some k
-found_at lanes path k each has = found-from 0 lanes path k each has
+found_at lanes path k each has =
+    let at : 0 + k ≡ k = omega arith in found-from 0 lanes path k each has ∙ ap (λ (i : ℕ). Some i) at

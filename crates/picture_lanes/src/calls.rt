@@ -97,11 +97,7 @@ fn instance_of(
 }
 
 /// What stands before the names that the next call of the block makes.
-fn next_prefix(
-    alloc: Global,
-    instances: &[Instance],
-    block: usize,
-) -> Result<Items<u8>, AllocError>
+fn next_prefix(alloc: Global, instances: &[Instance], block: usize) -> Result<Items<u8>, AllocError>
     ensures { IfOk result (λ prefix. prefix ≡ model.next_prefix instances.now block) }
 {
     let Some(around) = instances.get(block) else {

@@ -52,11 +52,7 @@ pub fn ground_of(
 }
 
 /// What there is in the body.
-fn found_in(
-    alloc: Global,
-    procedures: &[Procedure],
-    system: &System,
-) -> Result<Found, AllocError>
+fn found_in(alloc: Global, procedures: &[Procedure], system: &System) -> Result<Found, AllocError>
     ensures { IfOk result (λ found. found ≡ model.found_in procedures.now system.now) }
 {
     let mut found = Found {
@@ -67,9 +63,7 @@ fn found_in(
     let Some(root) = procedures.last() else {
         return Ok(found);
     };
-    found
-        .instances
-        .push(root_instance(alloc, root, procedures.len().saturating_sub(1))?)?;
+    found.instances.push(root_instance(alloc, root, procedures.len().saturating_sub(1))?)?;
     walk(
         &system.main,
         alloc,

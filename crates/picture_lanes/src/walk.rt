@@ -60,8 +60,7 @@ pub(crate) fn walk(
     ensures { OnOk result (found.new
         ≡ model.walked procedures.now made.now written.now path.now block found.old) }
 {
-    let (written, block) =
-        behind_calls(alloc, procedures, written, block, &mut found.instances)?;
+    let (written, block) = behind_calls(alloc, procedures, written, block, &mut found.instances)?;
     let line = made.line;
     match made.action.get() {
         Action::Continue => Ok(()),
@@ -80,33 +79,105 @@ pub(crate) fn walk(
         }
         Action::Loop(body) | Action::While(_, body) => {
             add_stop(alloc, path, line, block, found)?;
-            walk_if_written(body, alloc, procedures, part(written, 0), path, block, found)
+            walk_if_written(
+                body,
+                alloc,
+                procedures,
+                part(written, 0),
+                path,
+                block,
+                found,
+            )
         }
         Action::If(arms, last) => {
             add_stop(alloc, path, line, block, found)?;
-            walk_guarded(arms.as_slice(), alloc, procedures, written, path, block, found)?;
-            walk_last(last, alloc, procedures, last_part(written), path, block, found)
+            walk_guarded(
+                arms.as_slice(),
+                alloc,
+                procedures,
+                written,
+                path,
+                block,
+                found,
+            )?;
+            walk_last(
+                last,
+                alloc,
+                procedures,
+                last_part(written),
+                path,
+                block,
+                found,
+            )
         }
         Action::Case(_, arms, last) => {
             add_stop(alloc, path, line, block, found)?;
-            walk_labelled(arms.as_slice(), alloc, procedures, written, path, block, found)?;
-            walk_last(last, alloc, procedures, last_part(written), path, block, found)
+            walk_labelled(
+                arms.as_slice(),
+                alloc,
+                procedures,
+                written,
+                path,
+                block,
+                found,
+            )?;
+            walk_last(
+                last,
+                alloc,
+                procedures,
+                last_part(written),
+                path,
+                block,
+                found,
+            )
         }
         Action::Input(channel, body) => {
             add_stop(alloc, path, line, block, found)?;
             add_use(alloc, channel.number, Way::Opens, path, found)?;
-            walk_if_written(body, alloc, procedures, part(written, 0), path, block, found)
+            walk_if_written(
+                body,
+                alloc,
+                procedures,
+                part(written, 0),
+                path,
+                block,
+                found,
+            )
         }
         Action::Select(arms) | Action::Arbitrate(arms) => {
             add_stop(alloc, path, line, block, found)?;
-            walk_arms(arms.as_slice(), alloc, procedures, written, path, block, found)
+            walk_arms(
+                arms.as_slice(),
+                alloc,
+                procedures,
+                written,
+                path,
+                block,
+                found,
+            )
         }
         Action::Sequence(children) => {
             add_stop(alloc, path, line, block, found)?;
-            walk_children(children.as_slice(), alloc, procedures, written, path, block, found)
+            walk_children(
+                children.as_slice(),
+                alloc,
+                procedures,
+                written,
+                path,
+                block,
+                found,
+            )
         }
         Action::Parallel(children) => {
-            walk_branches(children.as_slice(), alloc, procedures, written, path, block, found)
+            walk_branches(
+                children.as_slice(),
+                alloc,
+                procedures,
+                written,
+                path,
+                block,
+                found,
+            )
         }
     }
 }
@@ -167,7 +238,15 @@ fn walk_guarded(
         ≡ model.in_turn 0 (map (parts.walked_guarded procedures.now) made.now) written.now path.now block found.old) }
 {
     for (number, arm) in made.iter().enumerate() {
-        walk_if_written(&arm.body, alloc, procedures, part(written, number), path, block, found)?;
+        walk_if_written(
+            &arm.body,
+            alloc,
+            procedures,
+            part(written, number),
+            path,
+            block,
+            found,
+        )?;
     }
     Ok(())
 }
@@ -187,7 +266,15 @@ fn walk_labelled(
         ≡ model.in_turn 0 (map (parts.walked_labelled procedures.now) made.now) written.now path.now block found.old) }
 {
     for (number, arm) in made.iter().enumerate() {
-        walk_if_written(&arm.body, alloc, procedures, part(written, number), path, block, found)?;
+        walk_if_written(
+            &arm.body,
+            alloc,
+            procedures,
+            part(written, number),
+            path,
+            block,
+            found,
+        )?;
     }
     Ok(())
 }
@@ -208,7 +295,15 @@ fn walk_arms(
 {
     for (number, arm) in made.iter().enumerate() {
         add_use(alloc, arm.channel.number, Way::Opens, path, found)?;
-        walk_if_written(&arm.body, alloc, procedures, part(written, number), path, block, found)?;
+        walk_if_written(
+            &arm.body,
+            alloc,
+            procedures,
+            part(written, number),
+            path,
+            block,
+            found,
+        )?;
     }
     Ok(())
 }
@@ -228,7 +323,15 @@ fn walk_children(
         ≡ model.in_turn 0 (map (model.walked procedures.now) made.now) written.now path.now block found.old) }
 {
     for (number, child) in made.iter().enumerate() {
-        walk_if_written(child, alloc, procedures, part(written, number), path, block, found)?;
+        walk_if_written(
+            child,
+            alloc,
+            procedures,
+            part(written, number),
+            path,
+            block,
+            found,
+        )?;
     }
     Ok(())
 }
@@ -250,7 +353,15 @@ fn walk_branches(
     for (number, child) in made.iter().enumerate() {
         let inner = branch_path(alloc, path, number)?;
         let written = part(written, number);
-        walk_if_written(child, alloc, procedures, written, inner.as_slice(), block, found)?;
+        walk_if_written(
+            child,
+            alloc,
+            procedures,
+            written,
+            inner.as_slice(),
+            block,
+            found,
+        )?;
     }
     Ok(())
 }
