@@ -20,7 +20,7 @@ use Rattle.rings.specs.Rings.{places_at}
 use Rattle.rings.specs.declared.partner.Partner.{Partner}
 use Rattle.waiting.specs.Rings.{NamesRing}
 use Rattle.run_depths.specs.Since.{IsSince}
-use Rattle.picture_data.specs.Spots.{Deep, ShowsRing, Spot, StandsSince, Want, event_spots, first_role, made_spot, on_channel, place_at, places_of_sides, ready_spot, ready_spots, ring_of, role_of, second_role, second_spots, spot_at, spot_of, waiting_on, waiting_with, want_of, with_side, with_sides}
+use Rattle.picture_data.specs.Spots.{Deep, ShowsRing, Spot, StandsSince, Want, event_spots, first_role, made_spot, on_channel, place_at, places_of_sides, ready_spot, ready_spots, role_of, second_role, second_spots, spot_at, spot_of, waiting_with, want_of, with_side, with_sides}
 use Rattle.picture_data.specs.Wanted.{Seen}
 use Rattle.picture_data.specs.declared.places.Place.{Place as Shown}
 use Rattle.picture_data.specs.declared.places.Role.{Role}

@@ -1,5 +1,5 @@
 -- What the picture of a run shows.
-use Rattle.std.specs.Prelude.{◌≡◌, ℕ, List, [], ◌∷◌, Bool, Option, None, Some}
+use Rattle.std.specs.Prelude.{◌≡◌, ℕ, List, [], ◌∷◌, Option, None, Some}
 use Rattle.syntax.specs.Lists.{Every}
 use Rattle.runs.specs.Live.{Live, events}
 use Rattle.runs.specs.Moves.{Place}

@@ -1,5 +1,5 @@
 -- Equal runs in the canonical order have one page.
-use Rattle.std.proofs.Common.{◌≡◌, ℕ, suc, ◌+◌, List, [], ◌∷◌, ◌++◌, length, Bool, Option, map, refl, sym, ◌∙◌, ap, subst}
+use Rattle.std.proofs.Common.{◌≡◌, ℕ, suc, ◌+◌, List, [], ◌∷◌, ◌++◌, length, map, refl, sym, ◌∙◌, ap, subst}
 use Rattle.std.specs.Prelude.{codes, slice_get}
 use Rattle.std.specs.Fmt.{decimal}
 use Rattle.address.specs.Text.{text_of}
@@ -9,7 +9,6 @@ use Rattle.system.specs.declared.system.System.{System}
 use Rattle.runs.specs.Live.{Live, events}
 use Rattle.runs.specs.declared.event.Event.{Event}
 use Rattle.line_text.specs.EventText.{event_text}
-use Rattle.canonical_order.specs.Canonical.{IsCanonicalOrder}
 use Rattle.canonical_order.proofs.public.Canonicals.{orders-agree}
 use Rattle.depth_laws.specs.Laws.{AreEqualRuns}
 use Rattle.typed.specs.declared.tree.Procedure.{Procedure}

@@ -1,9 +1,9 @@
 -- Of one run there is one picture.
-use Rattle.std.proofs.Common.{◌≡◌, ℕ, ◌<◌, ◌≤◌, inl, inr, List, [], ◌++◌, length, Bool, true, false, true≢false, Option, None, Some, map, refl, sym, ◌∙◌, ap, subst, arith}
+use Rattle.std.proofs.Common.{◌≡◌, ℕ, ◌<◌, ◌≤◌, inl, inr, List, [], ◌++◌, length, Bool, true, false, Some, map, refl, sym, ◌∙◌, ap, subst, arith}
 use Rattle.std.specs.Prelude.{slice_get}
 use Rattle.std.proofs.lemmas.Bool.{cases_lt}
 use Rattle.std.proofs.lemmas.Option.{slice_get_past}
-use Rattle.runs.specs.Live.{Live, Rising, events}
+use Rattle.runs.specs.Live.{Rising, events}
 use Rattle.runs.specs.Ready.{ReadyList}
 use Rattle.runs.specs.Steps.{State}
 use Rattle.runs.specs.declared.event.Event.{Event}
@@ -19,7 +19,6 @@ use Rattle.rings.specs.declared.partner.Partner.{Partner}
 use Rattle.waiting.specs.Progress.{StandsLike}
 use Rattle.waiting.specs.Rings.{NamesDeadlocked}
 use Rattle.waiting.specs.Told.{IsTold, TellsWaits}
-use Rattle.waiting.specs.declared.progress.Progress.{Progress}
 use Rattle.waiting.specs.declared.waiting.Waiting.{Waiting}
 use Rattle.picture_lanes.specs.Ground.{uses_of, with_feeds}
 use Rattle.picture_lanes.specs.declared.lane.Lane.{Lane}

@@ -1,13 +1,12 @@
 -- Pictures of equal runs show the same.
 use Rattle.std.proofs.Common.{◌≡◌, ℕ, zero, suc, ◌+◌, ◌||◌, ◌&&◌, Bool, List, [], ◌∷◌, Option, None, Some, refl, sym, ◌∙◌, ap, ap₂, subst, arith}
 use Rattle.std.proofs.Math.Path.{fun_ext}
-use Rattle.std.specs.Prelude.{is_some, slice_get, slice_index}
+use Rattle.std.specs.Prelude.{is_some, slice_get}
 use Rattle.syntax.specs.Lists.{In}
 use Rattle.sharing_check.specs.declared.checked.Checked.{Checked}
-use Rattle.runs.specs.Live.{Live, LiveAt, Rising, events}
+use Rattle.runs.specs.Live.{Live, events}
 use Rattle.runs.specs.Moves.{Place}
 use Rattle.runs.specs.Object.{Reaches}
-use Rattle.runs.specs.Ready.{ReadyList}
 use Rattle.runs.specs.Steps.{Run, State, opening}
 use Rattle.runs.specs.declared.event.Event.{Event}
 use Rattle.runs.proofs.public.FromOpening.{one_state, respecting_orders}
@@ -31,10 +30,8 @@ use Rattle.waiting.specs.Input.{fed_channel, helped_in, is_starved, takes_input}
 use Rattle.waiting.specs.Progress.{StandsLike, is_outlet}
 use Rattle.waiting.specs.Told.{IsTold}
 use Rattle.waiting.specs.Waits.{Waits}
-use Rattle.waiting.specs.declared.progress.Progress.{Progress}
 use Rattle.waiting.specs.declared.waiting.Waiting.{Waiting}
 use Rattle.picture_lanes.specs.Ground.{found_in, lanes_of, uses_of, with_feeds}
-use Rattle.picture_lanes.specs.declared.lane.Instance.{Instance}
 use Rattle.picture_lanes.specs.declared.lane.Lane.{Lane}
 use Rattle.picture_lanes.specs.declared.walk.ChannelUse.{ChannelUse}
 use Rattle.picture_data.specs.Lines.{line_of, line_or_zero}

@@ -1,7 +1,6 @@
-use Rattle.std.proofs.Common.{◌≡◌, ◌∙◌, ℕ, List, ap, subst, sym}
-use Rattle.runs.specs.Live.{Live}
+use Rattle.std.proofs.Common.{◌∙◌, ℕ, List, ap, subst}
 use Rattle.runs.specs.declared.event.Event.{Event}
-use Rattle.picture_data.specs.Shown.{EachStandsIn, HasDepths}
+use Rattle.picture_data.specs.Shown.{EachStandsIn}
 use Rattle.picture_data.specs.Spots.{ready_spots, ring_of}
 use Rattle.picture_data.specs.internal.SpotsSoFar.{AddsSpots}
 use Rattle.picture_data.proofs.WaitLaws.{shows-waits-by}

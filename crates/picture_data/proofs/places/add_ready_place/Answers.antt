@@ -1,4 +1,3 @@
-use Rattle.std.proofs.Common.{◌∙◌, ap}
 use Rattle.picture_data.specs.internal.SpotsSoFar.{deep_in, seen_in}
 use Rattle.picture_data.proofs.SpotLaws.{adds-one, ready-made}
 use Rattle.picture_data.proofs.places.add_ready_place.Goals as goal
