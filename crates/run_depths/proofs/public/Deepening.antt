@@ -5,7 +5,7 @@ use Rattle.std.proofs.lemmas.Bool.{cases_lt}
 use Rattle.std.proofs.lemmas.Option.{slice_get-get_or, slice_get_within}
 use Rattle.syntax.specs.Lists.{In}
 use Rattle.runs.specs.InOrder.{InOrder}
-use Rattle.runs.specs.Live.{Live, Rising, LiveAt, IsLive}
+use Rattle.runs.specs.Live.{Live, Rising}
 use Rattle.runs.specs.declared.event.Event.{Event}
 use Rattle.dependence.specs.Followers.{Follower, ListsFollowers, ListsLeads}
 use Rattle.dependence.proofs.public.ListPlaces.{at-one, in-order-more, in-read, take-next, take-all}
@@ -120,10 +120,10 @@ pub item-at : (l k : Live) (i : ℕ) (x : ℕ × Event) → k ≡ l → i < leng
 item-at l k i x is less here = subst (λ (m : Live). slice_get m i ≡ Some x) is (slice_get-get_or k i x less ∙ ap (λ (y : ℕ × Event). Some y) (sym here))
 
 -- the first numbers of a list, one more of them
-next-of : (xs : List ℕ) (i : ℕ) → i < length xs → take (i + 1) xs ≡ take i xs ++ get_or xs i 0 ∷ []
+pub next-of : (xs : List ℕ) (i : ℕ) → i < length xs → take (i + 1) xs ≡ take i xs ++ get_or xs i 0 ∷ []
 next-of xs i h = ap (λ (k : ℕ). take k xs) (add-one i) ∙ take-next xs i (get_or xs i 0) (slice_get-get_or xs i 0 h)
 
-in-next : (xs : List ℕ) (i t : ℕ) → i < length xs → In t (take (i + 1) xs) → In t (take i xs) ⊎ (t ≡ get_or xs i 0)
+pub in-next : (xs : List ℕ) (i t : ℕ) → i < length xs → In t (take (i + 1) xs) → In t (take i xs) ⊎ (t ≡ get_or xs i 0)
 in-next xs i t h within =
     elim (in-parts t (take i xs) (get_or xs i 0 ∷ []) (subst (λ (ys : List ℕ). In t ys) (next-of xs i h) within)) [
       | inl before ↦ inl before
@@ -131,10 +131,10 @@ in-next xs i t h within =
       | inr (inr none) ↦ absurd none
     ]
 
-in-still : (xs : List ℕ) (i t : ℕ) → i < length xs → In t (take i xs) → In t (take (i + 1) xs)
+pub in-still : (xs : List ℕ) (i t : ℕ) → i < length xs → In t (take i xs) → In t (take (i + 1) xs)
 in-still xs i t h before = subst (λ (ys : List ℕ). In t ys) (sym (next-of xs i h)) (in-left t (take i xs) (get_or xs i 0 ∷ []) before)
 
-in-here : (xs : List ℕ) (i : ℕ) → i < length xs → In (get_or xs i 0) (take (i + 1) xs)
+pub in-here : (xs : List ℕ) (i : ℕ) → i < length xs → In (get_or xs i 0) (take (i + 1) xs)
 in-here xs i h = subst (λ (ys : List ℕ). In (get_or xs i 0) ys) (sym (next-of xs i h)) (in-right (get_or xs i 0) (take i xs) (get_or xs i 0 ∷ []) (inl refl))
 
 -- d is one more than the greatest depth of these events, and 0 where there are none

@@ -1,6 +1,6 @@
-use Rattle.std.proofs.Common.{◌≡◌, ℕ, ◌<◌, ◌∙◌, length, ap, arith}
+use Rattle.std.proofs.Common.{◌≡◌, length, ap, arith}
 use Rattle.runs.specs.Live.{Live}
-use Rattle.run_depths.proofs.public.Deepening.{item-at, rows-all, rows-next, rows-none}
+use Rattle.run_depths.proofs.public.Deepening.{item-at, rows-all, rows-next}
 use Rattle.run_depths.proofs.ahead.all_ahead.Goals as goal
 
 pub ahead_of-requires : goal.ahead_of-requires

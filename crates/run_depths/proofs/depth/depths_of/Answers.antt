@@ -1,4 +1,4 @@
-use Rattle.std.proofs.Common.{◌≡◌, ℕ, ◌<◌, ◌∙◌, List, length, ap, arith}
+use Rattle.std.proofs.Common.{◌≡◌, ℕ, ◌<◌, List, length, ap, arith}
 use Rattle.runs.specs.Live.{Live}
 use Rattle.dependence.proofs.public.ListPlaces.{in-at}
 use Rattle.run_depths.proofs.public.Deepening.{all-known, item-at, known-pushed, lead-before}
@@ -36,9 +36,12 @@ loop-entry-preserved c =
     )
     c.as_slice.ensures.value c.in_ok-push.ensures.items c.depth_of-depth.ensures.depth c.depth_of-depth.ensures.small
 
-pub returns : goal.returns
-returns c =
+pub returns-clause-depths : goal.returns-clause-depths
+returns-clause-depths c =
     let size : length c.as_slice-entry-items.result.now ≡ length c.args.live.now.live = ap (λ (l : Live). length l) c.as_slice-entry-items.ensures in
     let upto = c.loop-entry.auto.entry-index-end in
     let past = c.loop-entry-test.false in
     all-known c.args.live.now.live c.loop-entry.depths.items c.loop-entry.entry-index c.loop-entry.invariant (omega arith)
+
+pub returns-clause-small : goal.returns-clause-small
+returns-clause-small c = c.loop-entry.invariant.small

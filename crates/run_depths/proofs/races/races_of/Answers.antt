@@ -1,4 +1,4 @@
-use Rattle.std.proofs.Common.{◌≡◌, ◌≤◌, length, ap, arith}
+use Rattle.std.proofs.Common.{◌≡◌, length, ap, arith}
 use Rattle.runs.specs.Live.{Live}
 use Rattle.run_depths.proofs.RaceLaws.{all-races}
 use Rattle.run_depths.proofs.races.races_of.Goals as goal
