@@ -265,7 +265,12 @@ waits. Then comes each end of a channel that waits, with its place, its line,
 and the place behind which the end that it waits for stands. Where each of some
 waits for the next, they are told as a ring. Before each place stands its
 branch, by the number that `branch` takes; `outline` names them. A refusal is
-told in words too. A trace is what the script line `trace` answers.
+told in words too.
+
+A trace is a file with the steps of a run, as the script line `trace` answers.
+This writes one, of 100 steps at most, and in the shell the line `save TRACE`:
+  printf 'run 100\\ntrace\\n' | balsadbg debug FILE STIMULUS |
+    sed -n '/^balsadbg trace 2$/,$p' > TRACE
 
 Example:
   balsadbg waiting examples/mutex.balsa examples/mutex.stimulus \\

@@ -6,7 +6,7 @@ ghost use Rattle.command_words.specs.internal.Building.{Finds, IsCommand, Refuse
 
 use crate::asked::chosen;
 use crate::commands::balsadbg;
-use crate::hint::ask_explain;
+use crate::hint::subject_of;
 use crate::unasked::why_unasked;
 use crate::{Request, Unasked, help};
 use clap::error::ErrorKind;
@@ -63,6 +63,6 @@ pub fn requested<'a, S: AsStr>(alloc: Global, words: &'a [S]) -> Result<Request<
 {
     match read(alloc, words) {
         Ok(request) => Ok(request),
-        Err(error) => Err(why_unasked(alloc, &error, ask_explain(words))),
+        Err(error) => Err(why_unasked(alloc, &error, subject_of(words))),
     }
 }

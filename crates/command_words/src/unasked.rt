@@ -3,7 +3,7 @@ ghost use Rattle.clap.specs.Words.{kind_of};
 ghost use Rattle.clap.specs.declared.error.kind.ErrorKind.TheVariants.{OutOfMemory};
 ghost use Rattle.command_words.specs.internal.Building.{TellsError};
 
-use crate::hint::hint_for;
+use crate::hint::{Subject, hint_for};
 use clap::Error;
 use clap::error::ErrorKind;
 use std::alloc::{AllocError, Global};
@@ -34,11 +34,11 @@ fn text_of(alloc: Global, error: &Error, hint: &str) -> Result<String, AllocErro
     Ok(text)
 }
 
-/// Why there is nothing to do, of this error. `asks_explain` is whether the page of a refusal is asked for.
-pub fn why_unasked(alloc: Global, error: &Error, asks_explain: bool) -> Unasked
+/// Why there is nothing to do, of this error in words about a subject.
+pub fn why_unasked(alloc: Global, error: &Error, subject: Subject) -> Unasked
     ensures { TellsError (kind_of error.now) result }
 {
-    let Ok(text) = text_of(alloc, error, hint_for(error, asks_explain)) else {
+    let Ok(text) = text_of(alloc, error, hint_for(error, subject)) else {
         return Unasked::Memory;
     };
     if error.use_stderr() {

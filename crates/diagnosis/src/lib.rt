@@ -1,18 +1,23 @@
 //! What people are told of a fault: where it is, the line with a mark under it, what is wrong and what helps.
 //!
-//! A fault is a number and what stands behind it, as the fault line has them. The texts are tested and not proved; the
-//! lines and columns are those of `source_places`.
+//! A fault is a number and what stands behind it, as the fault line has them. That the text begins with the place of the
+//! fault is proved, and that the use is marked which clashes with one; other words are tested.
 #![tactic(auto)]
 
+ghost use Rattle.std.specs.Prelude.{IfOk, string_bytes};
+ghost use Rattle.diagnosis.specs.Told.{TellsFault, TellsOffset};
+
+mod clash;
 mod described;
 mod fields;
 mod grammar;
 mod hints;
 mod lines;
+mod misspelled;
 mod opened;
 mod script;
 mod sharing;
-mod stimulus;
+mod stimulus_line;
 mod told;
 mod trace;
 mod variables;
@@ -24,28 +29,32 @@ use std::alloc::{AllocError, Global};
 pub use told::{Inputs, Unread, UnreadFile};
 
 /// What is told of a fault behind its line: nothing, or lines that each have their end. `number` and `field` are those
-/// of the fault. Where the text in which it is is not at hand, the page of the refusal alone is named.
+/// of the fault. The first line has the place of the fault. Where the text in which it is is not at hand, the page of
+/// the refusal alone is named. It is an error if there is no memory.
 pub fn explain(
     alloc: Global,
     number: u32,
     field: Option<u64>,
     inputs: &Inputs<'_>,
-) -> Result<String, AllocError> {
+) -> Result<String, AllocError>
+    ensures { IfOk result (λ told. TellsFault number field inputs.now (string_bytes told)) }
+{
     match (number, field) {
-        (2..=13 | 15..=17, Some(offset)) => explain_source(alloc, number, offset, inputs),
-        (31..=34 | 51 | 61, line) => lines::explain(alloc, number, line, inputs),
+        (2..=13 | 15..=17, Some(offset)) => explain_source(alloc, number, offset, inputs.source),
+        (31..=34 | 51 | 61, line) => lines::explain(alloc, number, line.unwrap_or(1), inputs),
         _ => told::explain_plain(alloc, number, inputs),
     }
 }
 
-/// What is told of a fault in the source.
+/// What is told of a fault in the source. Whatever is found of it, its place is the offset.
 fn explain_source(
     alloc: Global,
     number: u32,
     offset: u64,
-    inputs: &Inputs<'_>,
-) -> Result<String, AllocError> {
-    let source = inputs.source;
+    source: Input<'_>,
+) -> Result<String, AllocError>
+    ensures { IfOk result (λ told. TellsOffset source.entry offset (string_bytes told)) }
+{
     let offset = offset.min(source.bytes.len() as u64);
     let mut finding = Finding::new(alloc, offset, offset);
     match number {
@@ -53,5 +62,6 @@ fn explain_source(
         5 | 6 => grammar::find(source.bytes, number, &mut finding)?,
         _ => described::find(source.bytes, number, &mut finding)?,
     }
+    finding.start = offset;
     finding.text(source, false)
 }

@@ -51,7 +51,7 @@ pub static NEEDED_BY: Page = Page {
     line: "the step with the ticket that is named depends on this one",
     meaning: "\
 A live step depends on this one; the least of them is named. Take that one
-back first, or roll back, which takes all of them.",
+back first, or take this one and all that depend on it back by `roll T`.",
     source: "",
     told: "\
 > step /0.0

@@ -1,0 +1,47 @@
+-- What is told of a fault begins with its place, and marks it.
+use Rattle.std.specs.Prelude.{◌≡◌, ℕ, ◌+◌, ◌<◌, ◌≤◌, Bool, ◌||◌, ◌&&◌, ◌==◌, nat_le, if◌then◌else◌, List, length, Option, None, Some, IsTrue}
+use Rattle.findings.specs.Marking.{TellsMarked}
+use Rattle.findings.specs.declared.finding.Finding.{Finding}
+use Rattle.findings.specs.declared.finding.Input.{Input}
+use Rattle.source_places.specs.Places.{ends_before, within}
+use Rattle.diagnosis.specs.declared.told.Inputs.{Inputs}
+
+-- refusals at an offset of the source
+abbrev pub is_at_offset : ℕ → Bool
+is_at_offset number = (nat_le 2 number && nat_le number 13) || (nat_le 15 number && nat_le number 17)
+
+-- refusals of a line of a trace, of the stimulus or of a script
+abbrev pub is_of_line : ℕ → Bool
+is_of_line number = (nat_le 31 number && nat_le number 34) || (number == 51 || number == 61)
+
+-- the text in which a line is refused
+abbrev pub input_of : ℕ → Inputs → Option Input
+input_of number inputs =
+    if number == 51 then inputs.stimulus else (if number == 61 then inputs.script else inputs.trace)
+
+-- the text is that of a finding at the byte at the offset, or at the end of the source where it ends before: it begins
+-- with the name of the source, the line and the column of that byte, and what is wrong; behind that come rows of the
+-- source with marks in the order of their places, of which that at the byte is a `^`
+abbrev pub TellsOffset : Input → ℕ → List ℕ → Type 0
+TellsOffset source offset told =
+    (finding : Finding) × (finding.start ≡ within source.bytes.now offset)
+    × TellsMarked source.name.now source.bytes.now finding told
+
+-- where there is such a line, the text is that of a finding at a byte of it
+abbrev pub TellsLine : Option Input → ℕ → List ℕ → Type 0
+TellsLine None line told = Unit {0}
+TellsLine (Some input) line told =
+    0 < line → line ≤ ends_before input.bytes.now (length input.bytes.now) + 1 →
+    (offset : ℕ) × (ends_before input.bytes.now offset + 1 ≡ line) × TellsOffset input offset told
+
+-- the line that is refused; refusal 31 is that of the first one
+abbrev pub line_of : Option ℕ → ℕ
+line_of None = 1
+line_of (Some line) = line
+
+abbrev pub TellsFault : ℕ → Option ℕ → Inputs → List ℕ → Type 0
+TellsFault number None inputs told =
+    IsTrue (is_of_line number) → TellsLine (input_of number inputs) (line_of None) told
+TellsFault number (Some field) inputs told =
+    (IsTrue (is_at_offset number) → TellsOffset inputs.source field told)
+    × (IsTrue (is_of_line number) → TellsLine (input_of number inputs) field told)
