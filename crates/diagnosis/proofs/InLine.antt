@@ -1,13 +1,13 @@
 -- Bytes of one line have as many lines before them.
 use Rattle.std.proofs.Common.{◌≡◌, ◌≢◌, ◌⊎◌, inl, inr, ℕ, zero, suc, ◌+◌, ◌-◌, ◌<◌, ◌≤◌, false, true, List, length, Some, refl, sym, ◌∙◌, ap, subst, arith}
-use Rattle.std.specs.Prelude.{◌==◌, slice_index}
+use Rattle.std.specs.Prelude.{◌==◌, IfOk, Result, Ok, Err, slice_index}
 use Rattle.std.proofs.lemmas.Bool.Decides.{eqb_tells}
 use Rattle.std.proofs.lemmas.List.Sums.{count_by_more_no}
-use Rattle.source_places.specs.Places.{ends_before, line_end}
+use Rattle.source_places.specs.Places.{HasNoLine, ends_before, line_end, within}
 use Rattle.findings.specs.Marking.{TellsMarked}
 use Rattle.findings.specs.declared.finding.Finding.{Finding}
 use Rattle.findings.specs.declared.finding.Input.{Input}
-use Rattle.diagnosis.specs.Told.{TellsLine}
+use Rattle.diagnosis.specs.Told.{TellsLine, TellsOffset}
 
 is_other : (byte : ℕ) → byte ≢ line_end → (byte == line_end) ≡ false
 is_other byte other = elim (eqb_tells byte line_end) [
@@ -43,5 +43,23 @@ pub told_in_line : (input : Input) (start stop : ℕ) (finding : Finding) (told 
 told_in_line input start stop finding told tells from below fits inside some few = (
   finding.start,
   ap (λ n. n + 1) (same_line input.bytes.now start finding.start stop from below fits inside),
-  (finding, sym (min_left finding.start (length input.bytes.now) (omega (arith, below, fits))), tells),
+  (finding, omega (arith, below, fits), tells),
 )
+
+pub told_at : (input : Input) (offset : ℕ) (finding : Finding) (told : List ℕ)
+    → TellsMarked input.name.now input.bytes.now finding told → finding.start ≡ within input.bytes.now offset
+    → TellsOffset input offset told
+told_at input offset finding told tells is = (finding, is, tells)
+
+-- what is told of whatever comes
+pub whatever : {X E : Type 0} (r : Result X E) (P : X → Type 0) → ((x : X) → P x) → IfOk r P
+whatever (Ok x) P h = h x
+whatever (Err e) P h = tt
+
+-- where the text has no such line, nothing is claimed
+pub no_line : (input : Input) (line : ℕ) (told : List ℕ) → HasNoLine input.bytes.now line → TellsLine (Some input) line told
+no_line input line told none some few = absurd (omega (arith, few, none some))
+
+pub line_is : (input : Input) (start line : ℕ) (told : List ℕ) → ends_before input.bytes.now start + 1 ≡ line
+    → TellsLine (Some input) (ends_before input.bytes.now start + 1) told → TellsLine (Some input) line told
+line_is input start line told e h = subst (λ (n : ℕ). TellsLine (Some input) n told) e h

@@ -1,5 +1,6 @@
 -- What is told of a fault begins with its place, and marks it.
-use Rattle.std.specs.Prelude.{◌≡◌, ℕ, ◌+◌, ◌<◌, ◌≤◌, Bool, ◌||◌, ◌&&◌, ◌==◌, nat_le, if◌then◌else◌, List, length, Option, None, Some, IsTrue}
+use Rattle.std.specs.Prelude.{◌≡◌, ℕ, ◌+◌, ◌<◌, ◌≤◌, Bool, ◌||◌, ◌&&◌, ◌==◌, nat_le, if◌then◌else◌, List, length, Option, None, Some, IsTrue, unwrap_or}
+use Rattle.std.specs.Bool.{MatchBool}
 use Rattle.findings.specs.Marking.{TellsMarked}
 use Rattle.findings.specs.declared.finding.Finding.{Finding}
 use Rattle.findings.specs.declared.finding.Input.{Input}
@@ -34,14 +35,12 @@ TellsLine (Some input) line told =
     0 < line → line ≤ ends_before input.bytes.now (length input.bytes.now) + 1 →
     (offset : ℕ) × (ends_before input.bytes.now offset + 1 ≡ line) × TellsOffset input offset told
 
--- the line that is refused; refusal 31 is that of the first one
-abbrev pub line_of : Option ℕ → ℕ
-line_of None = 1
-line_of (Some line) = line
+-- what is told of a refusal of a line, of the first one where none is named, and of one at an offset of the source
+abbrev pub TellsAt : Option ℕ → Inputs → List ℕ → Type 0
+TellsAt None inputs told = Unit {0}
+TellsAt (Some offset) inputs told = TellsOffset inputs.source offset told
 
 abbrev pub TellsFault : ℕ → Option ℕ → Inputs → List ℕ → Type 0
-TellsFault number None inputs told =
-    IsTrue (is_of_line number) → TellsLine (input_of number inputs) (line_of None) told
-TellsFault number (Some field) inputs told =
-    (IsTrue (is_at_offset number) → TellsOffset inputs.source field told)
-    × (IsTrue (is_of_line number) → TellsLine (input_of number inputs) field told)
+TellsFault number field inputs told =
+    MatchBool (is_of_line number) (TellsLine (input_of number inputs) (unwrap_or field 1) told)
+    (IsTrue (is_at_offset number) → TellsAt field inputs told)

@@ -4,8 +4,8 @@
 //! fault is proved, and that the use is marked which clashes with one; other words are tested.
 #![tactic(auto)]
 
-ghost use Rattle.std.specs.Prelude.{IfOk, string_bytes};
-ghost use Rattle.diagnosis.specs.Told.{TellsFault, TellsOffset};
+ghost use Rattle.std.specs.Prelude.{◌≡◌, IfOk, IsTrue, string_bytes};
+ghost use Rattle.diagnosis.specs.Told as model;
 
 mod clash;
 mod described;
@@ -37,13 +37,48 @@ pub fn explain(
     field: Option<u64>,
     inputs: &Inputs<'_>,
 ) -> Result<String, AllocError>
-    ensures { IfOk result (λ told. TellsFault number field inputs.now (string_bytes told)) }
+    ensures { IfOk result (λ told. model.TellsFault number field inputs.now (string_bytes told)) }
 {
-    match (number, field) {
-        (2..=13 | 15..=17, Some(offset)) => explain_source(alloc, number, offset, inputs.source),
-        (31..=34 | 51 | 61, line) => lines::explain(alloc, number, line.unwrap_or(1), inputs),
-        _ => told::explain_plain(alloc, number, inputs),
+    if is_of_line(number) {
+        return lines::explain(alloc, number, field.unwrap_or(1), inputs);
     }
+    explain_at(alloc, number, field, inputs)
+}
+
+/// What is told of a fault that is in no line.
+fn explain_at(
+    alloc: Global,
+    number: u32,
+    field: Option<u64>,
+    inputs: &Inputs<'_>,
+) -> Result<String, AllocError>
+    ensures { IfOk result (λ told. IsTrue (model.is_at_offset number) → model.TellsAt field inputs.now
+        (string_bytes told)) }
+{
+    match field {
+        Some(offset) => {
+            if is_at_offset(number) {
+                explain_source(alloc, number, offset, inputs.source)
+            } else {
+                told::explain_plain(alloc, number, inputs)
+            }
+        }
+        None => told::explain_plain(alloc, number, inputs),
+    }
+}
+
+/// Whether a refusal is at an offset of the source.
+fn is_at_offset(number: u32) -> bool
+    ensures { result ≡ model.is_at_offset number }
+{
+    matches!(number, 2..=13 | 15..=17)
+}
+
+/// Whether a refusal is that of a line.
+fn is_of_line(number: u32) -> bool
+    ensures { result ≡ model.is_of_line number }
+{
+    matches!(number, 31..=34 | 51 | 61)
 }
 
 /// What is told of a fault in the source. Whatever is found of it, its place is the offset.
@@ -53,7 +88,7 @@ fn explain_source(
     offset: u64,
     source: Input<'_>,
 ) -> Result<String, AllocError>
-    ensures { IfOk result (λ told. TellsOffset source.entry offset (string_bytes told)) }
+    ensures { IfOk result (λ told. model.TellsOffset source.entry offset (string_bytes told)) }
 {
     let offset = offset.min(source.bytes.len() as u64);
     let mut finding = Finding::new(alloc, offset, offset);

@@ -16,7 +16,9 @@ Under old sign whole any rest new =
     (done : ℕ) × (any ≡ nat_lt 0 done) × (done + sum_by columns rest ≡ whole) × (new ≡ old ++ signs done sign)
 
 any_more : (a b : ℕ) → (nat_lt 0 a || nat_lt 0 b) ≡ nat_lt 0 (a + b)
-any_more zero b = refl
+any_more zero b =
+    let e : b ≡ 0 + b = omega arith in
+    ap (λ n. nat_lt 0 n) e
 any_more (suc a) b = grind arith
 
 signs_more : (a b sign : ℕ) → signs a sign ++ signs b sign ≡ signs (a + b) sign

@@ -1,5 +1,5 @@
 -- Lines of a text with marks under them.
-use Rattle.std.specs.Prelude.{◌≡◌, ◌≢◌, ◌⊎◌, ℕ, ◌+◌, ◌-◌, ◌<◌, ◌≤◌, Bool, true, false, ◌&&◌, nat_le, if◌then◌else◌, List, [], ◌∷◌, ◌++◌, length, max, min, sum_by, replicate, flat_map, slice_index, slice_range, codes, decimal, encode_utf8}
+use Rattle.std.specs.Prelude.{◌≡◌, ◌≢◌, ℕ, ◌+◌, ◌-◌, ◌<◌, ◌≤◌, Bool, false, ◌&&◌, nat_le, if◌then◌else◌, List, [], ◌∷◌, ◌++◌, length, max, min, sum_by, replicate, flat_map, slice_index, slice_range, codes, decimal, encode_utf8}
 use Rattle.bstr.specs.Utf8.{lossy_chars}
 use Rattle.source_places.specs.Places.{BeginsLine, ends_before, line_end, within}
 use Rattle.marked_lines.specs.Marks.{blank, blanks_under, columns, shown, signs}

@@ -5,5 +5,5 @@ use Rattle.diagnosis.proofs.lines.text_in_line.Goals as goal
 
 pub returns : goal.returns
 returns c = IfOk-weaker c.text.result _ _
-    (λ told tells. told_in_line c.args.input c.args.start _ c.args.stop _ _ tells (first_of (omega arith, cc, search rules))
-    (first_of (omega arith, cc, search rules)) c.requires.end c.requires.inside) c.text.ensures
+    (λ told tells. told_in_line c.args.input c.args.start c.args.stop _ _ tells (first_of (omega arith, cc, search rules))
+    (first_of (omega arith, cc, search rules)) c.requires.end c.requires.inside) c.text.ensures.marks

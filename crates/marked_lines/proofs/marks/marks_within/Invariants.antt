@@ -1,4 +1,4 @@
-use Rattle.std.proofs.Common.{◌≡◌, ◌≤◌}
+use Rattle.std.proofs.Common.{◌≡◌}
 use Rattle.marked_lines.proofs.marks.marks_within.Given as goal
 
 abbrev pub invariant-loop-mark : goal.invariant-loop-mark
