@@ -9,7 +9,7 @@ use Rattle.system.specs.declared.system.System.{System}
 use Rattle.typed.specs.declared.tree.Procedure.{Procedure}
 use Rattle.typed_source.specs.Source as typed_source
 use Rattle.typed_source.specs.Source.{IsTyped}
-use Rattle.typed_source.specs.declared.fault.Fault as source
+use Rattle.typed_source.specs.declared.fault.Fault as typing
 use Rattle.typed_source.specs.declared.fault.Fault.TheVariants as not_typed
 use Rattle.diagnosis.specs.Clashes.{Makes, TellsClash, TellsUse}
 
@@ -18,7 +18,7 @@ pub tells_clash : (source : List ℕ) (offset : ℕ) (typed : List Procedure) (f
 tells_clash source offset typed None t h = inr (typed, t, h)
 tells_clash source offset typed (Some other) t h = (typed, t, h)
 
-pub none_told : (source : List ℕ) (offset : ℕ) (found : Option OtherUse) (fault : source.Fault) → found ≡ None
+pub none_told : (source : List ℕ) (offset : ℕ) (found : Option OtherUse) (fault : typing.Fault) → found ≡ None
     → fault ≢ not_typed.Memory → typed_source.IsRefused source fault → TellsClash source offset found
 none_told source offset found fault none other refused =
     subst (λ (o : Option OtherUse). TellsClash source offset o) (sym none) (inl (fault, other, refused))

@@ -10,7 +10,7 @@ use Rattle.system.specs.declared.system.System.{System}
 use Rattle.typed.specs.declared.tree.Procedure.{Procedure}
 use Rattle.typed_source.specs.Source as typed_source
 use Rattle.typed_source.specs.Source.{IsTyped}
-use Rattle.typed_source.specs.declared.fault.Fault as source
+use Rattle.typed_source.specs.declared.fault.Fault as typing
 use Rattle.typed_source.specs.declared.fault.Fault.TheVariants as not_typed
 
 -- the procedures make no system with an empty stimulus, on which commands do not depend: it is too large
@@ -30,7 +30,7 @@ TellsUse procedures offset (Some other) = TellsOther (elaboration.system_of proc
 
 -- the source is no description without a fault
 abbrev pub IsFaulty : List ℕ → Type 0
-IsFaulty source = (fault : source.Fault) × (fault ≢ not_typed.Memory) × typed_source.IsRefused source fault
+IsFaulty source = (fault : typing.Fault) × (fault ≢ not_typed.Memory) × typed_source.IsRefused source fault
 
 -- the same of the procedures of the source; where it is refused, none is told
 abbrev pub TellsClash : List ℕ → ℕ → Option OtherUse → Type 0
