@@ -143,10 +143,7 @@ fn write_written(out: &mut Vec<u8>, writer: Option<u64>) -> Result<(), AllocErro
     match writer {
         Some(ticket) => add_pieces(
             out,
-            &[
-                Piece::Words(b", written by step "),
-                Piece::Number(ticket),
-            ],
+            &[Piece::Words(b", written by step "), Piece::Number(ticket)],
         ),
         None => Ok(()),
     }
