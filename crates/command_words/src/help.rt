@@ -268,9 +268,8 @@ branch, by the number that `branch` takes; `outline` names them. A refusal is
 told in words too.
 
 A trace is a file with the steps of a run, as the script line `trace` answers.
-This writes one, of 100 steps at most, and in the shell the line `save TRACE`:
-  printf 'run 100\\ntrace\\n' | balsadbg debug FILE STIMULUS |
-    sed -n '/^balsadbg trace 2$/,$p' > TRACE
+This takes up to 100 steps, and writes one:
+  printf 'run 100\\nsave TRACE\\n' | balsadbg shell FILE STIMULUS
 
 Example:
   balsadbg waiting examples/mutex.balsa examples/mutex.stimulus \\

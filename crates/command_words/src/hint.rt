@@ -22,10 +22,8 @@ there is the place of the fault, or a ticket. For example, of `refused 16 209`:
 /// What stands there where the trace is missing.
 const TRACE: &str = "
 A trace is a file with the steps of a run, as the script line `trace` answers.
-This writes one, of 100 steps at most:
-  printf 'run 100\\ntrace\\n' | balsadbg debug FILE STIMULUS |
-    sed -n '/^balsadbg trace 2$/,$p' > TRACE
-In `balsadbg shell FILE STIMULUS` the line `save TRACE` writes one.
+This takes up to 100 steps, and writes one:
+  printf 'run 100\\nsave TRACE\\n' | balsadbg shell FILE STIMULUS
 ";
 
 /// What words are about, as far as a mistake in them has help of its own.
