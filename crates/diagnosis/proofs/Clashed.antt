@@ -5,6 +5,7 @@ use Rattle.clash_places.specs.declared.pairs.OtherUse.{OtherUse}
 use Rattle.elaborate.specs.Elaboration as elaboration
 use Rattle.refusals.specs.declared.elaborate.Fault as elaborate
 use Rattle.refusals.specs.declared.elaborate.Fault.TheVariants as no_system
+use Rattle.stimulus.specs.declared.stimulus.Entry.{Entry}
 use Rattle.system.specs.declared.system.System.{System}
 use Rattle.typed.specs.declared.tree.Procedure.{Procedure}
 use Rattle.typed_source.specs.Source as typed_source
@@ -28,9 +29,10 @@ pub told_in : (system : System) (procedures : List Procedure) (offset : ℕ) (fo
 told_in system procedures offset None e h = inr (subst (λ (z : System). TellsOther z offset None) e h)
 told_in system procedures offset (Some other) e h = subst (λ (z : System). TellsOther z offset (Some other)) e h
 
-pub none_made : (procedures : List Procedure) (made : Option System) (fault : elaborate.Fault) → made ≡ None
-    → fault ≢ no_system.Memory → (fault ≡ no_system.Memory) ⊎ elaboration.IsRefused procedures [] fault
-    → Makes procedures made
-none_made procedures made fault none other (inl memory) = absurd (other memory)
-none_made procedures made fault none other (inr refused) =
-    subst (λ (o : Option System). Makes procedures o) (sym none) (fault, refused)
+pub none_made : (procedures : List Procedure) (entries : List Entry) (made : Option System) (fault : elaborate.Fault)
+    → entries ≡ [] → made ≡ None → fault ≢ no_system.Memory
+    → (fault ≡ no_system.Memory) ⊎ elaboration.IsRefused procedures entries fault → Makes procedures made
+none_made procedures entries made fault empty none other (inl memory) = absurd (other memory)
+none_made procedures entries made fault empty none other (inr refused) =
+    subst (λ (o : Option System). Makes procedures o) (sym none)
+    (fault, subst (λ (es : List Entry). elaboration.IsRefused procedures es fault) empty refused)
