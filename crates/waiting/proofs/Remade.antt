@@ -1,5 +1,5 @@
 -- The live events are made again, one after another.
-use Rattle.std.proofs.Common.{◌≡◌, ℕ, suc, ◌<◌, length, drop, get_or, slice_get, List, [], ◌∷◌, Option, Some, IsSome, refl, sym, ◌∙◌, ap, subst, option_map}
+use Rattle.std.proofs.Common.{◌≡◌, ℕ, List, [], ◌∷◌, Option, Some, IsSome, refl, sym, ◌∙◌, ap, subst, option_map}
 use Rattle.system.specs.Translation.{opening_store}
 use Rattle.system.specs.declared.system.System.{System}
 use Rattle.runs.specs.Asking.{asked}
@@ -20,7 +20,6 @@ use Rattle.event_inverse.specs.Grown.{TreeAndStore, Taken, state_of_tree, openin
 use Rattle.event_inverse.proofs.public.FromOpening.{trees-open-alike}
 use Rattle.event_inverse.proofs.public.Moving.{Walked}
 use Rattle.event_inverse.proofs.public.Neighbours.{applies}
-use Rattle.machine.proofs.public.Entries.{item-at, drop-next}
 
 -- ---- an event leaves a tidy tree tidy
 all-tidy : (ks : List (Place × Ask)) (p : Proc) (x : Walked) → Tidy p → all_advanced p ks ≡ Some x → Tidy x.0
@@ -77,8 +76,6 @@ ends o T l r is =
     let same : state_of_tree T ≡ r.state = subst (λ (m : Live). Run (state_of_tree T) (events m) r.state) is r.runs in
     subst (λ (S : State). Reaches o S) (sym same) r.reaches
 
--- the entry of the loop over the live events, and those behind it
-pub at-entry : (l k : Live) (i : ℕ) (x : ℕ × Event) (e : Event) → k ≡ l → i < length k → x ≡ get_or k i x → e ≡ x.1 → drop i l ≡ (x.0, e) ∷ drop (suc i) l
-at-entry l k i x e is less here same =
-    let item : slice_get l i ≡ Some x = subst (λ (m : Live). slice_get m i ≡ Some x) is (item-at k i x less here) in
-    drop-next l i x item ∙ ap (λ (f : Event). (x.0, f) ∷ drop (suc i) l) (sym same)
+-- a copy of the next event, and those behind it
+pub next-made : (l k : Live) (x : ℕ × Event) (e : Event) → l ≡ x ∷ k → e ≡ x.1 → l ≡ (x.0, e) ∷ k
+next-made l k x e is same = is ∙ ap (λ (f : Event). (x.0, f) ∷ k) (sym same)

@@ -25,9 +25,9 @@ pub(crate) fn made_again(alloc: Global, machine: &Machine) -> Result<Replayed, A
     let system = machine.checked().system();
     let mut tree = Tree::new(alloc, system)?;
     let mut store = Store::new(alloc, system)?;
-    for entry in machine.live_events().as_slice() {
-        let event = entry.1.get().copy(alloc)?;
-        let _record = apply(alloc, &mut tree, &mut store, event)?;
+    for (_, event) in machine.live_events().iter() {
+        let again = event.copy(alloc)?;
+        let _record = apply(alloc, &mut tree, &mut store, again)?;
     }
     Ok(Replayed { tree, store })
 }
