@@ -1,2 +1,3 @@
 pub mod public
 mod PlaceOrder
+mod Sighted

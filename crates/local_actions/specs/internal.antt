@@ -1,4 +1,5 @@
 pub mod At
 pub mod Listed
 pub mod Over
+pub mod Sighted
 pub mod Walk

@@ -20,13 +20,14 @@ ghost use Rattle.local_actions.specs.internal.Walk.{lists, lists_at};
 
 use crate::action::LocalAction;
 use crate::cursor::Cursor;
-use crate::fresh::list_fresh;
 use crate::leaves::{list_again, list_close};
-use crate::list::{body_of_turn, list, list_gate, list_loop, list_tested, next_turn};
+use crate::list::{list, list_fresh, list_gate, list_loop, list_tested, next_turn};
 use crate::over::{first_start_over, is_over, is_reached};
 use crate::place::{below_child, branch_step, is_under, ordered_step};
 use address::{Address, Entry};
-use process_tree::{Await, Code, Decide, Gate, Proc, Repeat, Row, Tested, Tree, Turns};
+use process_tree::{
+    Await, Code, Decide, Gate, Proc, Repeat, Row, Tested, Tree, Turns, body_of_turn,
+};
 use std::alloc::{AllocError, Global};
 use store::Store;
 use syntax::Items;

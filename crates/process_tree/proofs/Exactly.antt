@@ -20,7 +20,7 @@ use Rattle.process_tree.specs.Offers.{kind_of, Offers, OffersExactly, arm_of, Pr
 use Rattle.process_tree.specs.declared.offer.Offer.{Offer}
 use Rattle.process_tree.specs.declared.offer.OfferKind.{OfferKind}
 use Rattle.process_tree.specs.declared.offer.OfferKind.TheVariants.{Opens}
-use Rattle.process_tree.specs.internal.Listed.{offer_at, behind, opens_from, offers_of}
+use Rattle.process_tree.specs.internal.Found.{offer_at, behind, opens_from, offers_of}
 
 in-behind : (x : Entry) (a : Place) (v : OfferKind) (rs : List Offer) → In (offer_at a v) rs → In (offer_at (x ∷ a) v) (behind x rs)
 in-behind x a v [] h = absurd h

@@ -5,7 +5,7 @@ use Rattle.address.specs.declared.Entry.{Entry}
 use Rattle.runs.specs.Moves.{Place}
 use Rattle.process_tree.specs.declared.finder.Finder.{Finder}
 use Rattle.process_tree.specs.declared.offer.Offer.{Offer}
-use Rattle.process_tree.specs.internal.Listed.{offer_at, behind, below, added, down, up, without_last}
+use Rattle.process_tree.specs.internal.Found.{offer_at, behind, below, added, down, up, without_last}
 
 -- finders with the same parts
 pub finder-is : (a b : Place) (xs ys : List Offer) → a ≡ b → xs ≡ ys → ◌≡◌ {A = Finder} (record { entries = a; found = xs }) (record { entries = b; found = ys })

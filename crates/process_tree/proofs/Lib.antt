@@ -3,8 +3,7 @@ mod BackSteps
 mod Children
 mod Exactly
 mod Finding
-mod OneByOne
-mod Passing
+mod Seen
 mod Ports
 mod Rows
-mod Walked
+mod WalkSteps

@@ -10,4 +10,5 @@ pub mod Retreated
 pub mod Tidy
 pub mod Translation
 pub mod View
+pub mod Visited
 pub mod internal

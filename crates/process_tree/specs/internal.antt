@@ -1,5 +1,5 @@
 pub mod Arms
-pub mod Listed
+pub mod Found
 pub mod Parts
 pub mod Received
 pub mod Steps

@@ -1,11 +1,16 @@
-// Where a walk through a tree is, and the offers that it has found.
-ghost use Rattle.std.specs.Prelude.{◌≡◌, ◌≤◌, ◌^◌, [], ◌∷◌, IfOk, OnOk, OnErr};
-ghost use Rattle.process_tree.specs.internal.Listed.{offer_at, added, down, up};
+// Finds what a tree offers, on a walk through it.
+ghost use Rattle.std.specs.Prelude.{◌≡◌, ◌≤◌, ◌*◌, ◌^◌, [], ◌∷◌, refl, IfOk, OnOk, OnErr};
+ghost use Rattle.process_tree.specs.internal.Found.{offer_at, added, down, up, found_of, finding};
 
+use crate::code::{Once, Row, Sender};
 use crate::offer::{Offer, OfferKind};
+use crate::proc::Proc;
+use crate::seer::Seer;
 use address::{Address, Entry};
 use std::alloc::{AllocError, Global};
 use syntax::Items;
+use system::{Decision, Expression};
+use value::Value;
 
 /// A place in a tree, and the offers found so far.
 #[derive(Drop)]
@@ -34,30 +39,8 @@ impl Finder {
         found
     }
 
-    /// Goes to the child of this number in a sequence. A number of 2^32 and more has no place: it takes more memory to
-    /// get there than there is, and the answer is the same.
-    pub(crate) fn enter_child(&mut self, number: u64) -> Result<(), AllocError>
-        ensures { OnOk result (self.new ≡ down (Entry.Ordered number) self.old) }
-    {
-        self.entries.push(Entry::Ordered(small(number)?))
-    }
-
-    /// Goes to the branch of this number in a parallel.
-    pub(crate) fn enter_branch(&mut self, number: u64) -> Result<(), AllocError>
-        ensures { OnOk result (self.new ≡ down (Entry.Branch number) self.old) }
-    {
-        self.entries.push(Entry::Branch(small(number)?))
-    }
-
-    /// Goes back from a child or branch.
-    pub(crate) fn leave(&mut self)
-        ensures { self.new ≡ up self.old }
-    {
-        self.entries.pop();
-    }
-
     /// Adds an offer at the place itself.
-    pub(crate) fn add(&mut self, alloc: Global, kind: OfferKind) -> Result<(), AllocError>
+    fn add(&mut self, alloc: Global, kind: OfferKind) -> Result<(), AllocError>
         ensures { OnOk result (self.new ≡ added (offer_at [] kind ∷ []) self.old) }
     {
         let place = Address::new(alloc, self.entries.as_slice())?;
@@ -65,12 +48,7 @@ impl Finder {
     }
 
     /// Adds an offer at this act of the command at the place.
-    pub(crate) fn add_act(
-        &mut self,
-        alloc: Global,
-        act: u64,
-        kind: OfferKind,
-    ) -> Result<(), AllocError>
+    fn add_act(&mut self, alloc: Global, act: u64, kind: OfferKind) -> Result<(), AllocError>
         ensures { OnOk result (self.new ≡ added (offer_at (Entry.Ordered act ∷ []) kind ∷ []) self.old) }
     {
         let last = Entry::Ordered(small(act)?);
@@ -79,8 +57,129 @@ impl Finder {
     }
 }
 
+impl Seer for Finder {
+    ghost seeing = { finding };
+
+    fn first(&self, _begun: &[Proc], _row: &Row) -> usize {
+        0
+    }
+
+    fn enter_child(&mut self, number: u64) -> Result<(), AllocError> {
+        self.entries.push(Entry::Ordered(small(number)?))
+    }
+
+    fn enter_branch(&mut self, number: u64) -> Result<(), AllocError> {
+        self.entries.push(Entry::Branch(small(number)?))
+    }
+
+    fn leave(&mut self) {
+        self.entries.pop();
+    }
+
+    fn receive(&mut self, _channel: u32, _value: Option<Value>) -> Result<(), AllocError> {
+        Ok(())
+    }
+
+    fn forget(&mut self) {}
+
+    fn see_once(
+        &mut self,
+        alloc: Global,
+        once: &Once,
+        _values: &[Value],
+    ) -> Result<(), AllocError> {
+        match once {
+            Once::Assign(variable, _, _) => self.add(alloc, OfferKind::Assigns(*variable)),
+            Once::Receive(channel, variable) => {
+                self.add(alloc, OfferKind::Receives(*channel, Some(*variable)))
+            }
+        }
+    }
+
+    fn see_sender(
+        &mut self,
+        alloc: Global,
+        sender: &Sender,
+        _values: &[Value],
+    ) -> Result<(), AllocError> {
+        match sender {
+            Sender::Send(channel, _, _) => self.add_act(alloc, 0, OfferKind::Sends(*channel)),
+            Sender::Sync(channel) => self.add_act(alloc, 0, OfferKind::Syncs(*channel)),
+        }
+    }
+
+    fn see_held(
+        &mut self,
+        alloc: Global,
+        sender: &Sender,
+        _values: &[Value],
+    ) -> Result<(), AllocError> {
+        match sender {
+            Sender::Send(channel, _, _) => self.add_act(alloc, 1, OfferKind::Releases(*channel)),
+            Sender::Sync(channel) => self.add_act(alloc, 1, OfferKind::Releases(*channel)),
+        }
+    }
+
+    fn see_again(
+        &mut self,
+        alloc: Global,
+        guard: &Option<Expression>,
+        turn: u64,
+        _values: &[Value],
+    ) -> Result<(), AllocError> {
+        let act = act_of_turn(turn)?;
+        match guard {
+            None => self.add_act(alloc, act, OfferKind::Turns),
+            Some(_) => self.add_act(alloc, act, OfferKind::Tests),
+        }
+    }
+
+    fn see_test(
+        &mut self,
+        alloc: Global,
+        _decision: &Decision,
+        _values: &[Value],
+    ) -> Result<(), AllocError> {
+        self.add_act(alloc, 0, OfferKind::Tests)
+    }
+
+    fn see_arms(
+        &mut self,
+        alloc: Global,
+        channels: &[u32],
+        _values: &[Value],
+    ) -> Result<(), AllocError> {
+        for (arm, channel) in channels.iter().enumerate() {
+            let arm = small(arm as u64)?;
+            self.add_act(alloc, 0, OfferKind::Opens(*channel, arm))?;
+        }
+        Ok(())
+    }
+
+    fn see_close(
+        &mut self,
+        alloc: Global,
+        channel: u32,
+        _values: &[Value],
+    ) -> Result<(), AllocError> {
+        self.add_act(alloc, 2, OfferKind::Closes(channel))
+    }
+
+    fn see_drain(
+        &mut self,
+        alloc: Global,
+        channel: u32,
+        count: u64,
+        _values: &[Value],
+    ) -> Result<(), AllocError> {
+        self.add_act(alloc, count, OfferKind::Receives(channel, None))
+    }
+
+    ghost begins = { λ codes. refl };
+}
+
 /// The number as one of a place or arm.
-pub(crate) fn small(number: u64) -> Result<u32, AllocError>
+fn small(number: u64) -> Result<u32, AllocError>
     ensures same { IfOk result (λ same. same ≡ number) }
     ensures large { OnErr result (2 ^ 32 ≤ number) }
 {
@@ -88,4 +187,12 @@ pub(crate) fn small(number: u64) -> Result<u32, AllocError>
         Ok(same) => Ok(same),
         Err(_) => Err(AllocError),
     }
+}
+
+/// The act with which this turn of a loop begins. It is an error from turn 2^32 on, whose acts have no place.
+fn act_of_turn(turn: u64) -> Result<u64, AllocError>
+    ensures act { IfOk result (λ act. act ≡ 2 * turn) }
+    ensures large { OnErr result (2 ^ 32 ≤ turn) }
+{
+    Ok(u64::from(small(turn)?) * 2)
 }

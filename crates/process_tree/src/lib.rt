@@ -6,15 +6,15 @@ mod code;
 mod environment;
 mod finder;
 mod laws;
-mod leaf_offers;
-mod list;
-mod list_fresh;
 mod offer;
 mod place;
 mod proc;
 mod retreat;
+mod seer;
 mod translate;
 mod tree;
+mod walk;
+mod walk_fresh;
 
 pub use code::{Await, Code, Decide, Once, Repeat, Row, Sender};
 pub use environment::system_code;
@@ -24,5 +24,8 @@ pub use laws::{
 };
 pub use offer::{Offer, OfferKind};
 pub use proc::{Gate, Phase, Proc, Tested, Turns, start};
+pub use seer::Seer;
 pub use translate::code_of;
 pub use tree::Tree;
+pub use walk::{body_of_turn, visit, visit_gate, visit_loop, visit_tested};
+pub use walk_fresh::visit_fresh;

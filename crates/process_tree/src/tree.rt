@@ -13,10 +13,10 @@ ghost use Rattle.process_tree.specs.View.{out_view, proc_view, tree_view};
 use crate::advance::advance;
 use crate::environment::system_code;
 use crate::finder::Finder;
-use crate::list::list;
 use crate::offer::Offer;
 use crate::proc::{Proc, start};
 use crate::retreat::retreat;
+use crate::walk::visit;
 use address::Entry;
 use runs::Ask;
 use std::alloc::{AllocError, Global};
@@ -54,7 +54,7 @@ impl Tree {
         ensures in_order { IfOk result (λ offers. InOrder Precedes offers) }
     {
         let mut finder = Finder::new(alloc);
-        list(alloc, &self.proc, &mut finder)?;
+        visit(alloc, &self.proc, &[], &mut finder)?;
         Ok(finder.into_found())
     }
 

@@ -1,13 +1,13 @@
--- The offers of a residual, one by one, and how the code collects them.
+-- The offers of a residual, one by one, and how the code finds them.
 -- No reader has to believe it: the clauses of `Tree::ready` say in the words of `Offers.antt` what is listed.
-use Rattle.std.specs.Prelude.{ℕ, zero, suc, ◌+◌, ◌*◌, List, [], ◌∷◌, ◌++◌, Bool, true, false, ◌&&◌, cond, Option, Some, None}
+use Rattle.std.specs.Prelude.{ℕ, zero, suc, ◌*◌, List, [], ◌∷◌, ◌++◌, Option, Some, None}
 use Rattle.address.specs.declared.Entry.{Entry}
 use Rattle.address.specs.declared.Entry.TheVariants.{Ordered, Branch}
 use Rattle.system.specs.Expression.{Expression}
 use Rattle.system.specs.Residual.{Residual, done, halted, inside, beside, assign, send, receive, sync, held, loop, while, test, choose, closing, drain}
 use Rattle.runs.specs.Moves.{Place}
-use Rattle.process_tree.specs.Proc.{waiting, holding, past, Proc, idle, stopped, once, sender, fresh, turn, ended_at_once, ended, untested, skipped, took, unopened, entered, closed, sequence, parallel, drained, Procs, no_procs, proc}
 use Rattle.process_tree.specs.Remaining.{residual_once, residual_sender, channel_of}
+use Rattle.process_tree.specs.Visited.{Act, acts_once, waits_to_send, is_held, acts_again, tests, waits_for, is_to_close, receives_on, Seeing}
 use Rattle.process_tree.specs.declared.finder.Finder.{Finder}
 use Rattle.process_tree.specs.declared.offer.Offer.{Offer}
 use Rattle.process_tree.specs.declared.offer.OfferKind.{OfferKind}
@@ -50,62 +50,6 @@ abbrev pub again_at : ℕ → Option Expression → List Offer
 again_at n None = offer_at (Ordered (2 * n) ∷ []) Turns ∷ []
 again_at n (Some e) = offer_at (Ordered (2 * n) ∷ []) Tests ∷ []
 
--- what a walk through a process lists, and whether it finds it finished
-pub record Listing : Type 0 where
-  pub offers : List Offer
-  pub over : Bool
-
--- what is finished
-abbrev pub nothing : Listing
-nothing = record { offers = []; over = true }
-
--- what is at work
-abbrev pub at_work : List Offer → Listing
-at_work rs = record { offers = rs; over = false }
-
--- child i, or what comes after it where it is finished
-abbrev pub one_after : ℕ → Listing → Listing → Listing
-one_after i x rest = cond x.over rest (at_work (behind (Ordered i) x.offers))
-
--- branch k, and the rest beside it
-abbrev pub both : ℕ → Listing → Listing → Listing
-both k x rest = record { offers = behind (Branch k) x.offers ++ rest.offers; over = x.over && rest.over }
-
-abbrev mutual
-  -- what is listed of a process
-  pub listed : Proc → Listing
-  listed idle = nothing
-  listed stopped = at_work []
-  listed (once o true) = nothing
-  listed (once o false) = at_work (offers_of (residual_once o))
-  listed (sender x waiting) = at_work (offers_of (residual_sender x))
-  listed (sender x holding) = at_work (offers_of (held (channel_of x)))
-  listed (sender x past) = nothing
-  listed (fresh g c) = at_work (again_at 0 g)
-  listed (turn g c n q) = one_after (2 * n + 1) (listed q) (at_work (again_at (n + 1) g))
-  listed (ended_at_once g c) = nothing
-  listed (ended g c n q) = nothing
-  listed (untested d cs) = at_work (offer_at (Ordered 0 ∷ []) Tests ∷ [])
-  listed (skipped d cs) = nothing
-  listed (took d cs j q) = one_after 1 (listed q) nothing
-  listed (unopened ds cs) = at_work (opens_from 0 ds)
-  listed (entered ds cs c v q) = one_after 1 (listed q) (at_work (offers_of (closing c)))
-  listed (closed ds cs c v q) = nothing
-  listed (sequence ps) = listed_sequence 0 0 ps
-  listed (parallel ps) = listed_parallel 0 ps
-  listed (drained c n) = at_work (offers_of (drain c n))
-
-  -- of children one after another without so many of the first, the first with number n
-  pub listed_sequence : ℕ → ℕ → Procs → Listing
-  listed_sequence k n no_procs = nothing
-  listed_sequence zero n (proc p ps) = one_after n (listed p) (listed_sequence zero (n + 1) ps)
-  listed_sequence (suc k) n (proc p ps) = listed_sequence k (n + 1) ps
-
-  -- of children side by side, the first in branch n
-  pub listed_parallel : ℕ → Procs → Listing
-  listed_parallel n no_procs = nothing
-  listed_parallel n (proc p ps) = both n (listed p) (listed_parallel (n + 1) ps)
-
 -- offers, each at a place below this one
 abbrev pub below : Place → List Offer → List Offer
 below p [] = []
@@ -129,10 +73,24 @@ without_last (x ∷ y ∷ ys) = x ∷ without_last (y ∷ ys)
 abbrev pub up : Finder → Finder
 up w = record { entries = without_last w.entries; found = w.found }
 
--- what is listed of a process
-abbrev pub lists : Proc → Finder → Finder
-lists p w = added (listed p).offers w
+-- what is found of what acts
+abbrev pub found_of : Act → List Offer
+found_of (acts_once o) = offers_of (residual_once o)
+found_of (waits_to_send x) = offers_of (residual_sender x)
+found_of (is_held x) = offers_of (held (channel_of x))
+found_of (acts_again g n) = again_at n g
+found_of (tests d) = offer_at (Ordered 0 ∷ []) Tests ∷ []
+found_of (waits_for ds) = opens_from 0 ds
+found_of (is_to_close c) = offers_of (closing c)
+found_of (receives_on c n) = offers_of (drain c n)
 
--- of one at this entry
-abbrev pub lists_at : Entry → Proc → Finder → Finder
-lists_at x p w = added (behind x (listed p).offers) w
+-- how a finder changes on a walk
+abbrev pub finding : Seeing Finder
+finding = record {
+  first = λ ps. 0;
+  down = down;
+  up = up;
+  receives = λ c v w. w;
+  forgets = λ w. w;
+  sees = λ s a w. added (found_of a) w;
+}
