@@ -1,1 +1,3 @@
+mod Clashed
 mod Greater
+mod InLine

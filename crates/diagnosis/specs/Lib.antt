@@ -1,1 +1,3 @@
+pub mod Clashes
 pub mod Numbers
+pub mod Told

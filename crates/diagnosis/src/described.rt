@@ -1,5 +1,5 @@
 // Faults for which the description is looked at: the source is read once more.
-use crate::{sharing, stimulus};
+use crate::{sharing, stimulus_line};
 use findings::Finding;
 use lexer::lex;
 use parser::parse;
@@ -46,7 +46,7 @@ pub fn find_stimulus(
     finding: &mut Finding,
 ) -> Result<(), AllocError> {
     match described_by(finding.alloc, source)? {
-        Some(description) => stimulus::find(stimulus, text, source, &description, finding),
+        Some(description) => stimulus_line::find(stimulus, text, source, &description, finding),
         None => finding.say(&["this line fits no port"]),
     }
 }

@@ -2,6 +2,7 @@
 ghost use Rattle.std.specs.Prelude.{MatchOption};
 ghost use Rattle.diagnosis.specs.Numbers.{IsNoNumberUpTo, IsNumberUpTo};
 
+use bstr::decode_utf8 as decode;
 use decimal::read_number;
 use findings::Finding;
 use std::alloc::{AllocError, Global};
@@ -59,7 +60,7 @@ fn first_blemish(text: &[u8]) -> Option<(Blemish, usize, usize)> {
     let mut before = b' ';
     for (index, byte) in text.iter().enumerate() {
         if let Some(found) = blemish_at(*byte, before, index) {
-            return Some((found, index, index.saturating_add(1)));
+            return Some((found, index, character_end(text, index)));
         }
         before = *byte;
     }
@@ -68,6 +69,13 @@ fn first_blemish(text: &[u8]) -> Option<(Blemish, usize, usize)> {
         return Some((Blemish::Behind, last, text.len()));
     }
     None
+}
+
+/// Where the character that begins at the index ends.
+fn character_end(text: &[u8], index: usize) -> usize {
+    let rest = text.get(index..).unwrap_or(b"");
+    let (_, size) = decode(rest);
+    index.saturating_add(size)
 }
 
 /// The blemish of a byte with the byte before it. The first byte has a blank before it.

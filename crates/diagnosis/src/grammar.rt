@@ -1,5 +1,6 @@
 // Refusals 5 and 6: what cannot stand, and what could; levels.
-use crate::hints::{Seen, has, help_for, missing};
+use crate::hints::{Seen, has, help_for, help_for_begin, missing};
+use crate::misspelled::word_meant;
 use crate::opened::{Opened, innermost, kind_at};
 use findings::{Finding, Nearest, text_between, text_of};
 use lexer::{Fault, Kind, Token, lex};
@@ -26,13 +27,24 @@ pub fn find(source: &[u8], number: u32, finding: &mut Finding) -> Result<(), All
             "keep a part in a variable, or put a part of the text into a procedure of its own",
         ]);
     }
+    find_unexpected(source, &mut tokens, place, found, finding)
+}
+
+/// What was found about a token of a kind that cannot stand at a place.
+fn find_unexpected(
+    source: &[u8],
+    tokens: &mut Vec<Token<'_>>,
+    place: usize,
+    found: Kind,
+    finding: &mut Finding,
+) -> Result<(), AllocError> {
     let open = innermost(finding.alloc, tokens.as_slice(), place)?;
     let seen = seen_at(source, tokens.as_slice(), place, found, open);
     let before = place
         .checked_sub(1)
         .and_then(|last| tokens.as_slice().get(last))
         .map(|token| token.span);
-    let viable = viable_kinds(finding.alloc, &mut tokens, place)?;
+    let viable = viable_kinds(finding.alloc, tokens, place)?;
     say_expected(source, found, viable.as_slice(), finding)?;
     if found == Kind::End
         && let Some(span) = before
@@ -40,7 +52,28 @@ pub fn find(source: &[u8], number: u32, finding: &mut Finding) -> Result<(), All
         finding.add_beside(span, "the last word")?;
     }
     add_open(seen, open, viable.as_slice(), finding)?;
+    if advise_misspelled(source, tokens.as_slice(), viable.as_slice(), finding)? {
+        return Ok(());
+    }
     advise(source, seen, before, viable.as_slice(), finding)
+}
+
+/// What helps where the last of the tokens before the fault is a misspelled word. Whether it is one.
+fn advise_misspelled(
+    source: &[u8],
+    tokens: &[Token],
+    viable: &[Kind],
+    finding: &mut Finding,
+) -> Result<bool, AllocError> {
+    let Some(last) = tokens.last() else {
+        return Ok(false);
+    };
+    let Some(word) = word_meant(finding.alloc, source, tokens, viable)? else {
+        return Ok(false);
+    };
+    finding.add_once(last.span, "misspelled?")?;
+    finding.advise(&["did you mean `", word, "`?"])?;
+    Ok(true)
 }
 
 /// What stands at a place and around it.
@@ -244,6 +277,12 @@ fn advise(
     if seen.is_first {
         return advise_first(source, seen, viable, finding);
     }
+    if seen.found == Kind::Name && has(viable, Kind::InputWord) {
+        advise_word(source, viable, finding)?;
+        if !finding.help.is_empty() {
+            return Ok(());
+        }
+    }
     if let Some(help) = help_for(seen, viable) {
         return finding.advise(&[help]);
     }
@@ -254,7 +293,7 @@ fn advise(
         return finding.advise(&[help]);
     }
     if seen.found == Kind::Name {
-        return advise_word(source, viable, finding);
+        return advise_name(source, viable, finding);
     }
     if is_name_wanted(seen, viable) {
         return finding.advise(&["this word is reserved and names nothing: take another name"]);
@@ -273,6 +312,9 @@ fn advise_first(
         advise_word(source, viable, finding)?;
     }
     if finding.help.is_empty() {
+        if let Some(help) = help_for_begin(seen.text) {
+            return finding.advise(&[help]);
+        }
         finding.advise(&[
             "a description begins with `type` or `procedure`: are FILE and STIMULUS exchanged, or is FILE empty?",
         ])?;
@@ -310,6 +352,15 @@ fn is_word(kind: Kind) -> bool {
 fn bare(kind: Kind) -> &'static str {
     let text = spelled(kind);
     text.get(1..text.len().saturating_sub(1)).unwrap_or("")
+}
+
+/// What helps against a name where none can stand: a word that is near, or how a type is written.
+fn advise_name(source: &[u8], viable: &[Kind], finding: &mut Finding) -> Result<(), AllocError> {
+    advise_word(source, viable, finding)?;
+    if finding.help.is_empty() && has(viable, Kind::EnumerationWord) {
+        return finding.advise(&["a type is a width, as `8 bits`, or `enumeration red, green end`"]);
+    }
+    Ok(())
 }
 
 /// What helps against a name where none can stand: a word that is near to it and could.

@@ -45,7 +45,7 @@ fn is_among_locals(viable: &[Kind]) -> bool {
 }
 
 /// Whether a name stood before the fault with which a command begins.
-fn is_behind_first_name(viable: &[Kind]) -> bool {
+pub fn is_behind_first_name(viable: &[Kind]) -> bool {
     has(viable, Kind::AssignSign) && has(viable, Kind::LeftParenthesis)
 }
 
@@ -87,6 +87,13 @@ fn begins_command(kind: Kind, next: Kind) -> bool {
         | Kind::ArbitrateWord => true,
         _ => false,
     }
+}
+
+/// Whether what stands there belongs behind a parenthesis that is closed.
+fn goes_on_behind(kind: Kind, next: Kind) -> bool {
+    matches!(kind, Kind::IsWord | Kind::ThenWord | Kind::OfWord)
+        || ends_command(kind)
+        || begins_command(kind, next)
 }
 
 /// What is said of a word or a sign that seems to be missing behind the token before the fault, and what helps.
@@ -164,10 +171,8 @@ fn help_for_bracket(seen: Seen<'_>, viable: &[Kind]) -> Option<&'static str> {
                 && ends_command(seen.found) => { Some("a `]` is missing before this") }
         _
             if seen.open == Some(Kind::LeftParenthesis)
-                && is_behind_expression(viable)
-                && (ends_command(seen.found) || begins_command(seen.found, seen.next)) => {
-            Some("a `)` is missing before this")
-        }
+                && has(viable, Kind::RightParenthesis)
+                && goes_on_behind(seen.found, seen.next) => { Some("a `)` is missing before this") }
         _ => None,
     }
 }
@@ -275,6 +280,9 @@ fn help_for_end(seen: Seen<'_>, viable: &[Kind]) -> Option<&'static str> {
     if seen.open == Some(Kind::EnumerationWord) && has(viable, Kind::EndWord) {
         return Some("an enumeration ends with `end`, and has `,` between its elements");
     }
+    if seen.found == Kind::End && has(viable, Kind::TypeWord) {
+        return Some("behind the types stands one `procedure` at least");
+    }
     if matches!(seen.found, Kind::ProcedureWord | Kind::End) && has(viable, Kind::EndWord) {
         return Some(
             "an `end` is missing before this: each procedure, `loop`, `if`, `case`, `select`, `arbitrate` and \
@@ -315,6 +323,10 @@ fn help_for_declaration(seen: Seen<'_>, viable: &[Kind]) -> Option<&'static str>
             if has(viable, Kind::Colon) && has(viable, Kind::Comma) => {
             Some("a type is missing, as in `variable x : 8 bits`")
         }
+        Kind::RightParenthesis | Kind::Semicolon
+            if has(viable, Kind::Colon) && has(viable, Kind::Comma) => {
+            Some("a type is missing, as in `input i : 8 bits`")
+        }
         Kind::Name if has(viable, Kind::InputWord) => {
             Some("a port begins with `input`, `output` or `sync`: `input i : 8 bits`")
         }
@@ -335,6 +347,9 @@ fn help_for_word(seen: Seen<'_>, viable: &[Kind]) -> Option<&'static str> {
         Kind::ThenWord if seen.before == Some(Kind::ElseWord) => {
             Some("no `then` stands behind `else`")
         }
+        Kind::Number if seen.text_before == "array" => {
+            Some("there are no arrays: declare a variable for each element")
+        }
         Kind::Name if is_behind_first_name(viable) && seen.before == Some(Kind::Name) => {
             help_for_statement(seen.text_before)
         }
@@ -347,7 +362,7 @@ fn help_for_word(seen: Seen<'_>, viable: &[Kind]) -> Option<&'static str> {
 }
 
 /// What helps against the word of a command that other languages have.
-fn help_for_statement(word: &str) -> Option<&'static str> {
+pub fn help_for_statement(word: &str) -> Option<&'static str> {
     match word {
         "for" | "foreach" | "repeat" | "forever" | "do" | "until" => Some(
             "`loop .. end` goes on for ever, and `loop while .. then .. end` as long as a condition holds",
@@ -381,8 +396,27 @@ fn help_for_foreign(word: &str, viable: &[Kind]) -> Option<&'static str> {
         "mod" | "div" | "rem" | "shl" | "shr" | "sll" | "srl" if is_behind_expression(viable) => {
             Some("there are `+`, `-`, `and`, `or`, `xor`, `not` and comparisons alone")
         }
+        "record" | "struct" if has(viable, Kind::EnumerationWord) => {
+            Some("there are no records: a type is a width, as `8 bits`, or an enumeration")
+        }
         "nand" | "nor" | "xnor" if is_behind_expression(viable) => {
             Some("write it by `not`: `not (a and b)`")
+        }
+        _ => None,
+    }
+}
+
+/// What helps against a word with which sources of other languages begin.
+pub fn help_for_begin(word: &str) -> Option<&'static str> {
+    match word {
+        "constant" | "const" => {
+            Some("there are no constants: write the number, or declare an enumeration")
+        }
+        "import" | "include" | "use" => {
+            Some("there are no imports: what it brought is declared in this file")
+        }
+        "module" | "entity" | "function" | "process" | "proc" | "def" | "fn" | "void" | "main" => {
+            Some("a description is `procedure p (..) is .. begin .. end`")
         }
         _ => None,
     }

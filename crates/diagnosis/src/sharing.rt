@@ -1,5 +1,10 @@
 // Refusals 15 and 16: what branches share.
-use branch_uses::{ChannelUses, Side, channel_uses, clash_at};
+ghost use Rattle.std.specs.Prelude.{◌≡◌, IfOk};
+ghost use Rattle.diagnosis.specs.Clashes.{MarksClash};
+
+use crate::clash::clashing_use;
+use branch_uses::{ChannelUses, Side, channel_uses};
+use clash_places::OtherUse;
 use findings::{Finding, text_between};
 use lexer::Token;
 use std::alloc::AllocError;
@@ -16,13 +21,15 @@ pub fn find(
 ) -> Result<(), AllocError> {
     finding.stop = token_at(tokens, finding.start).stop;
     if number == 15 {
-        return find_variable(source, tokens, description, finding);
+        return find_variable(source, tokens, finding);
     }
     find_channel(source, description, finding)
 }
 
 /// The span of the token that begins at the offset, or an empty one there.
-fn token_at(tokens: &[Token], offset: u64) -> Span {
+fn token_at(tokens: &[Token], offset: u64) -> Span
+    ensures { result.start ≡ offset }
+{
     for token in tokens {
         if token.span.start == offset {
             return token.span;
@@ -36,40 +43,38 @@ fn token_at(tokens: &[Token], offset: u64) -> Span {
 }
 
 /// A variable that is written in one branch and used in another.
-fn find_variable(
-    source: &[u8],
-    tokens: &[Token],
-    description: &Description,
-    finding: &mut Finding,
-) -> Result<(), AllocError> {
+fn find_variable(source: &[u8], tokens: &[Token], finding: &mut Finding) -> Result<(), AllocError> {
     let name = text_between(source, finding.start, finding.stop);
     finding.say(&[
         "two branches that run side by side use `",
         name,
         "`, and one of them writes it",
     ])?;
-    let owner = procedure_at(description, finding.start);
-    if let Some(procedure) = description.procedures.get(owner.wrapping_sub(1))
-        && let Some(clash) = clash_at(
-            finding.alloc,
-            &procedure.body,
-            name.as_bytes(),
-            finding.start,
-        )?
-    {
-        let there = token_at(tokens, clash.there.offset);
-        let note = if clash.there.writes {
-            "and written here"
-        } else {
-            "and read here"
-        };
-        finding.add_beside(there, note)?;
-    }
+    mark_clash(source, tokens, finding)?;
     finding.advise(&[
         "give each branch a variable of its own, send the value over a channel, or declare `shared variable ",
         name,
         "` if the branches may race",
     ])
+}
+
+/// Marks the use that clashes with the one at the finding's place.
+fn mark_clash(source: &[u8], tokens: &[Token], finding: &mut Finding) -> Result<(), AllocError>
+    ensures { IfOk result (λ _. MarksClash source.now finding.old finding.new) }
+{
+    match clashing_use(finding.alloc, source, finding.start)? {
+        Some(other) => finding.add_beside(token_at(tokens, other.offset), clash_text(other)),
+        None => Ok(()),
+    }
+}
+
+/// How a use of a variable is told that clashes with another one.
+fn clash_text(other: OtherUse) -> &'static str {
+    if other.writes {
+        "and written here"
+    } else {
+        "and read here"
+    }
 }
 
 /// How a use of a side is told.

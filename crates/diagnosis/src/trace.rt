@@ -26,7 +26,12 @@ pub fn find_header(text: &[u8], trace: &[u8], finding: &mut Finding) -> Result<(
     if text.starts_with(b"balsadbg trace ") {
         return finding.advise(&["versions 1 and 2 are read: of which program is it?"]);
     }
-    finding.advise(&["take the lines from there on, as the line `trace` of a script prints them"])
+    if trace.is_empty() {
+        return finding.advise(&["the file is empty: was the trace written into it?"]);
+    }
+    finding.advise(&[
+        "a trace is what the line `trace` of a script prints, from the line `balsadbg trace 2` on",
+    ])
 }
 
 /// The line, from 1, that is the header of a trace; none where no line is.

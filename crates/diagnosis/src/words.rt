@@ -33,13 +33,13 @@ fn find_byte(source: &[u8], finding: &mut Finding) -> Result<(), AllocError> {
             finding.say(&["a byte order mark begins the file"])?;
             finding.advise(&["save the file without it"])
         }
+        Some(other) if u32::from(other) < 32 || u32::from(other) == 127 => {
+            finding.say(&["this control character begins no word, number or sign"])?;
+            finding.advise(&["take it out, or save the file as UTF-8: is it a text?"])
+        }
         Some(other) => {
-            if u32::from(other) < 32 || u32::from(other) == 127 {
-                finding.say(&["this control character begins no word, number or sign"])?;
-            } else {
-                let text = text_between(source, finding.start, finding.stop);
-                finding.say(&["`", text, "` begins no word, number or sign"])?;
-            }
+            let text = text_between(source, finding.start, finding.stop);
+            finding.say(&["`", text, "` begins no word, number or sign"])?;
             let behind = rest.get(size).copied().unwrap_or(b' ');
             finding.advise(&[help_for(other, behind)])
         }
@@ -54,6 +54,7 @@ fn help_for(character: char, behind: u8) -> &'static str {
             "a comment goes from `(--` to `--)`, or from `--` to the end of its line",
         ('!', b'=') => "not equal is `/=`",
         ('&', b'&') => "and is `and`",
+        ('_', b'0'..=b'9') => "a number has digits alone, and a name begins with a letter",
         ('\'', _) => "there are no texts in quotes, and numbers are decimal: `8'd5` is written 5",
         _ => help_for_alone(character),
     }

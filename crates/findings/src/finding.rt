@@ -1,9 +1,10 @@
 // What was found about a fault, and its text.
-ghost use Rattle.std.specs.Prelude.{◌≡◌, ◌∷◌, ◌++◌, ℕ, List, [], IfOk, OnOk, string_bytes};
+ghost use Rattle.std.specs.Prelude.{◌≡◌, ◌∷◌, ◌++◌, ℕ, List, [], map, IfOk, OnOk, string_bytes};
 ghost use Rattle.findings.specs.Heads.{IsHead, TellsPlace, head};
 ghost use Rattle.findings.specs.MarkedPlaces.{marked_at};
+ghost use Rattle.findings.specs.Marking.{AreMarksOf, ShowsMarks, TellsMarked, seen, seen_beside};
 
-use crate::wrap::add_help;
+use crate::wrap::help_text;
 use marked_lines::{Mark, add_marked};
 use source_places::place_of;
 use std::alloc::{AllocError, Global};
@@ -133,7 +134,9 @@ impl Finding {
     }
 
     /// All its marks, in the order of their places.
-    fn marks(&self) -> Result<Vec<Mark<'_>>, AllocError> {
+    fn marks(&self) -> Result<Vec<Mark<'_>>, AllocError>
+        ensures { IfOk result (λ marks. AreMarksOf self.now marks.items) }
+    {
         let mut marks = Vec::new(self.alloc);
         marks.push(Mark {
             start: self.start as usize,
@@ -141,22 +144,17 @@ impl Finding {
             sign: '^',
             note: "",
         })?;
-        for one in &self.beside {
-            marks.push(Mark {
-                start: one.start as usize,
-                stop: one.stop as usize,
-                sign: '-',
-                note: one.note.as_str(),
-            })?;
-        }
+        add_marks_beside(&mut marks, self.beside.as_slice())?;
         marks.sort_by_key(|mark| mark.start)?;
         Ok(marks)
     }
 
     /// The text: the place and what is wrong, the lines with their marks, and what helps.
     pub fn text(&self, input: Input<'_>, keeps_return: bool) -> Result<String, AllocError>
-        ensures { IfOk result (λ told. TellsPlace input.entry.name.now input.entry.bytes.now self.now.start
+        ensures place { IfOk result (λ told. TellsPlace input.entry.name.now input.entry.bytes.now self.now.start
             (string_bytes self.now.what) (string_bytes told)) }
+        ensures marks { IfOk result (λ told. TellsMarked input.entry.name.now input.entry.bytes.now self.now
+            (string_bytes told)) }
     {
         let mut text = self.head(input)?;
         let lines = self.lines(input, keeps_return)?;
@@ -181,7 +179,9 @@ impl Finding {
     }
 
     /// The lines with their marks, and what helps.
-    fn lines(&self, input: Input<'_>, keeps_return: bool) -> Result<String, AllocError> {
+    fn lines(&self, input: Input<'_>, keeps_return: bool) -> Result<String, AllocError>
+        ensures { IfOk result (λ told. ShowsMarks input.entry.bytes.now self.now (string_bytes told)) }
+    {
         let marks = self.marks()?;
         let mut text = String::new(self.alloc);
         add_marked(
@@ -191,7 +191,23 @@ impl Finding {
             marks.as_slice(),
             keeps_return,
         )?;
-        add_help(self.alloc, &mut text, self.help.as_str())?;
+        let help = help_text(self.alloc, self.help.as_str())?;
+        text.push_str(help.as_str())?;
         Ok(text)
     }
+}
+
+/// Adds a mark for each of what is marked beside a fault.
+fn add_marks_beside<'a>(marks: &mut Vec<Mark<'a>>, beside: &'a [Beside]) -> Result<(), AllocError>
+    ensures { OnOk result (map seen marks.new.items ≡ map seen marks.old.items ++ map seen_beside beside.now) }
+{
+    for one in beside {
+        marks.push(Mark {
+            start: one.start as usize,
+            stop: one.stop as usize,
+            sign: '-',
+            note: one.note.as_str(),
+        })?;
+    }
+    Ok(())
 }

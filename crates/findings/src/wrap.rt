@@ -63,14 +63,16 @@ fn add_wrapped(
     Ok(())
 }
 
-/// Adds what helps, with the end of its line. Nothing is added where it is empty.
-pub fn add_help(alloc: Global, out: &mut String, help: &str) -> Result<(), AllocError> {
+/// What helps, with the end of its line. Nothing where it is empty.
+pub fn help_text(alloc: Global, help: &str) -> Result<String, AllocError> {
+    let mut text = String::new(alloc);
     if help.is_empty() {
-        return Ok(());
+        return Ok(text);
     }
-    out.push_str(HELP)?;
-    add_wrapped(alloc, out, help, HELP.len())?;
-    out.push('\n')
+    text.push_str(HELP)?;
+    add_wrapped(alloc, &mut text, help, HELP.len())?;
+    text.push('\n')?;
+    Ok(text)
 }
 
 /// What is told of a fault that has no place in a text: what is wrong, and what helps.
@@ -80,6 +82,7 @@ pub fn plain_text(alloc: Global, what: &[&str], help: &str) -> Result<String, Al
         text.push_str(part)?;
     }
     text.push('\n')?;
-    add_help(alloc, &mut text, help)?;
+    let help = help_text(alloc, help)?;
+    text.push_str(help.as_str())?;
     Ok(text)
 }

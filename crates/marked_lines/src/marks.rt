@@ -1,4 +1,8 @@
 // Rows of a text, each with the marks under it.
+ghost use Rattle.std.specs.Prelude.{◌≡◌, ◌++◌, ◌<◌, ◌≤◌, ℕ, List, IfOk, codes, decimal, length, min, string_bytes, take};
+ghost use Rattle.marked_lines.specs.declared.marks.Mark.{Mark};
+ghost use Rattle.marked_lines.specs.Rows as rows;
+
 use crate::part::{Part, add_marks, add_under, bytes_between, character_from, part_around};
 use crate::shown::add_blanks;
 use std::alloc::{AllocError, Global};
@@ -14,26 +18,21 @@ pub struct Mark<'a> {
 }
 
 /// Adds the number of a line as a row has it in front, or as many blanks: `columns` in all.
-fn add_gutter(out: &mut String, number: &str, columns: usize) -> Result<(), AllocError> {
+fn add_gutter(out: &mut String, number: &str, columns: usize) -> Result<(), AllocError>
+    ensures { IfOk result (λ _. string_bytes out.new ≡ string_bytes out.old ++ rows.gutter number.now columns) }
+{
     out.push_str("  ")?;
     add_blanks(out, columns.saturating_sub(number.len()))?;
     out.push_str(number)?;
     out.push_str(" | ")
 }
 
-/// Adds what is said of a mark.
-fn add_note(out: &mut String, before: &str, note: &str) -> Result<(), AllocError> {
-    if !note.is_empty() {
-        out.push_str(before)?;
-        out.push_str(note)?;
-    }
-    out.push('\n')
-}
-
 impl Part {
     /// Where what stands over the signs of a mark ends. A mark of no bytes has the character behind it over its sign,
     /// but a tab stands behind the sign.
-    fn stop_of(self, text: &[u8], mark: Mark<'_>) -> usize {
+    fn stop_of(self, text: &[u8], mark: Mark<'_>) -> usize
+        ensures { mark.entry.start < mark.entry.stop → result ≡ min mark.entry.stop self.to }
+    {
         if mark.start < mark.stop || text.get(mark.start) == Some(&b'\t') {
             return mark.stop.min(self.to);
         }
@@ -41,43 +40,93 @@ impl Part {
     }
 }
 
-/// Adds the signs under a part, and what is said of its last mark.
-fn add_signs_of(
+/// Adds the signs of marks under a part, of which those before the byte at `behind` are there.
+fn add_signs_behind(
     out: &mut String,
     text: &[u8],
     part: Part,
+    behind: usize,
     marks: &[Mark<'_>],
-) -> Result<(), AllocError> {
-    let mut behind = part.from;
-    let mut note = "";
-    part.add_cut(out)?;
-    for mark in marks {
-        add_under(out, bytes_between(text, behind, mark.start))?;
-        let stop = part.stop_of(text, *mark);
-        add_marks(out, bytes_between(text, mark.start, stop), mark.sign)?;
-        behind = stop.max(mark.start);
-        note = mark.note;
-    }
-    add_note(out, " ", note)
+) -> Result<(), AllocError>
+    ensures { IfOk result (λ _. (told : List ℕ) × rows.IsSigns text.now part behind marks.now told
+        × (string_bytes out.new ≡ string_bytes out.old ++ told)) }
+{
+    let Some((mark, rest)) = marks.split_first() else {
+        return Ok(());
+    };
+    let stop = part.stop_of(text, *mark);
+    add_under(out, bytes_between(text, behind, mark.start))?;
+    add_marks(out, bytes_between(text, mark.start, stop), mark.sign)?;
+    add_signs_behind(out, text, part, stop.max(mark.start), rest)
 }
 
-/// Adds what is said of the marks before the last, from the right to the left, each under its mark.
-fn add_notes_before(
+/// What is said of the last mark.
+fn last_note<'a>(marks: &[Mark<'a>]) -> &'a str
+    ensures { result.now ≡ rows.last_note marks.now }
+{
+    let Some((mark, rest)) = marks.split_first() else {
+        return "";
+    };
+    if rest.is_empty() {
+        mark.note
+    } else {
+        last_note(rest)
+    }
+}
+
+/// Adds what is said of the last mark, and ends its row.
+fn add_last_note(out: &mut String, note: &str) -> Result<(), AllocError>
+    ensures { IfOk result (λ _. string_bytes out.new
+        ≡ string_bytes out.old ++ rows.behind_blank note.now ++ codes "\n") }
+{
+    if !note.is_empty() {
+        out.push(' ')?;
+        out.push_str(note)?;
+    }
+    out.push('\n')
+}
+
+/// Adds what is said of a mark in a row of its own, under the byte at which it begins.
+fn add_note_row(
+    out: &mut String,
+    text: &[u8],
+    part: Part,
+    start: usize,
+    note: &str,
+    columns: usize,
+) -> Result<(), AllocError>
+    ensures { IfOk result (λ _. string_bytes out.new
+        ≡ string_bytes out.old ++ rows.note_row text.now part columns start note.now) }
+{
+    if note.is_empty() {
+        return Ok(());
+    }
+    add_gutter(out, "", columns)?;
+    part.add_cut(out)?;
+    add_under(out, bytes_between(text, part.from, start))?;
+    out.push_str(note)?;
+    out.push('\n')
+}
+
+/// Adds what is said of all marks but the last, from the right to the left, each under its mark.
+fn add_note_rows(
     out: &mut String,
     text: &[u8],
     part: Part,
     marks: &[Mark<'_>],
     columns: usize,
-) -> Result<(), AllocError> {
-    for mark in marks.iter().rev().skip(1) {
-        if !mark.note.is_empty() {
-            add_gutter(out, "", columns)?;
-            part.add_cut(out)?;
-            add_under(out, bytes_between(text, part.from, mark.start))?;
-            add_note(out, "", mark.note)?;
-        }
+) -> Result<(), AllocError>
+    ensures { IfOk result (λ _. string_bytes out.new
+        ≡ string_bytes out.old ++ rows.note_rows text.now part columns marks.now) }
+{
+    let Some((mark, rest)) = marks.split_first() else {
+        return Ok(());
+    };
+    if rest.is_empty() {
+        return Ok(());
     }
-    Ok(())
+    add_note_rows(out, text, part, rest, columns)?;
+    add_note_row(out, text, part, mark.start, mark.note, columns)
 }
 
 /// Adds a part of a line, and its marks under it.
@@ -88,18 +137,39 @@ fn add_row(
     part: Part,
     marks: &[Mark<'_>],
     columns: usize,
-) -> Result<(), AllocError> {
+) -> Result<(), AllocError>
+    ensures { IfOk result (λ _. (signs : List ℕ) × rows.IsSigns text.now part part.from marks.now signs
+        × (string_bytes out.new ≡ string_bytes out.old ++ rows.row_text text.now columns part signs marks.now)) }
+{
+    add_line(alloc, out, text, part, columns)?;
+    add_gutter(out, "", columns)?;
+    part.add_cut(out)?;
+    add_signs_behind(out, text, part, part.from, marks)?;
+    add_last_note(out, last_note(marks))?;
+    add_note_rows(out, text, part, marks, columns)
+}
+
+/// Adds a part of a line behind the number of the line, and ends the row.
+fn add_line(
+    alloc: Global,
+    out: &mut String,
+    text: &[u8],
+    part: Part,
+    columns: usize,
+) -> Result<(), AllocError>
+    ensures { IfOk result (λ _. string_bytes out.new ≡ string_bytes out.old
+        ++ rows.gutter (decimal part.line) columns ++ rows.part_text text.now part ++ codes "\n") }
+{
     let number = line_text(alloc, part.line)?;
     add_gutter(out, number.as_str(), columns)?;
     part.add(out, text)?;
-    out.push('\n')?;
-    add_gutter(out, "", columns)?;
-    add_signs_of(out, text, part, marks)?;
-    add_notes_before(out, text, part, marks, columns)
+    out.push('\n')
 }
 
 /// The number of a line as text.
-fn line_text(alloc: Global, line: usize) -> Result<String, AllocError> {
+fn line_text(alloc: Global, line: usize) -> Result<String, AllocError>
+    ensures { IfOk result (λ text. string_bytes text ≡ decimal line) }
+{
     format!(in alloc; "{line}")
 }
 
@@ -113,7 +183,9 @@ fn gutter_columns(alloc: Global, text: &[u8], marks: &[Mark<'_>]) -> Result<usiz
 }
 
 /// How many of the marks, the first of which stands in the part, stand in it one behind the other.
-fn marks_within(part: Part, marks: &[Mark<'_>]) -> usize {
+fn marks_within(part: Part, marks: &[Mark<'_>]) -> usize
+    ensures { result ≤ length marks.now }
+{
     let mut count = 0_usize;
     let mut behind = 0;
     for mark in marks {
@@ -121,9 +193,49 @@ fn marks_within(part: Part, marks: &[Mark<'_>]) -> usize {
             return count;
         }
         behind = mark.stop.max(mark.start.saturating_add(1));
-        count = count.saturating_add(1);
+        count += 1;
     }
     count
+}
+
+/// Adds a row with the first of the marks, and those of its line. How many there are.
+fn add_next(
+    alloc: Global,
+    out: &mut String,
+    text: &[u8],
+    marks: &[Mark<'_>],
+    keeps_return: bool,
+    columns: usize,
+) -> Result<usize, AllocError>
+    requires { 0 < length marks.now }
+    ensures { IfOk result (λ count. (0 < count) × (count ≤ length marks.now) × rows.AddsRow text.now columns
+        (take count marks.now) (string_bytes out.old) (string_bytes out.new)) }
+{
+    let part = part_around(text, marks[0].start, keeps_return);
+    let count = marks_within(part, marks).max(1);
+    let (row, _) = marks.split_at(count);
+    add_row(alloc, out, text, part, row, columns)?;
+    Ok(count)
+}
+
+/// Adds rows with all the marks, those of one line in one row.
+fn add_rows(
+    alloc: Global,
+    out: &mut String,
+    text: &[u8],
+    marks: &[Mark<'_>],
+    keeps_return: bool,
+    columns: usize,
+) -> Result<(), AllocError>
+    ensures { IfOk result (λ _. (all : List (List Mark)) × (told : List ℕ) × (rows.marks_in all ≡ marks.now)
+        × rows.AreRows text.now columns all told × (string_bytes out.new ≡ string_bytes out.old ++ told)) }
+{
+    let mut shown = 0;
+    'shown: while shown < marks.len() {
+        let (_, rest) = marks.split_at(shown);
+        shown += add_next(alloc, out, text, rest, keeps_return, columns)?;
+    }
+    Ok(())
 }
 
 /// Adds the lines of the marks, which are in the order of their places, with the marks under them: those of one line
@@ -134,18 +246,10 @@ pub fn add_marked(
     text: &[u8],
     marks: &[Mark<'_>],
     keeps_return: bool,
-) -> Result<(), AllocError> {
+) -> Result<(), AllocError>
+    ensures { IfOk result (λ _. (told : List ℕ) × rows.AreMarked text.now marks.now told
+        × (string_bytes out.new ≡ string_bytes out.old ++ told)) }
+{
     let columns = gutter_columns(alloc, text, marks)?;
-    let mut shown = 0;
-    for (index, mark) in marks.iter().enumerate() {
-        if index >= shown {
-            let part = part_around(text, mark.start, keeps_return);
-            let rest = marks.get(index..).unwrap_or(&[]);
-            let count = marks_within(part, rest).max(1);
-            let row = rest.get(..count).unwrap_or(rest);
-            add_row(alloc, out, text, part, row, columns)?;
-            shown = index.saturating_add(count);
-        }
-    }
-    Ok(())
+    add_rows(alloc, out, text, marks, keeps_return, columns)
 }

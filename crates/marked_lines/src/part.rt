@@ -1,8 +1,9 @@
 // The part of a line that is shown.
-ghost use Rattle.std.specs.Prelude.{◌≡◌, ◌++◌, ◌+◌, IfOk, string_bytes};
+ghost use Rattle.std.specs.Prelude.{◌≡◌, ◌≢◌, ◌++◌, ◌+◌, ◌<◌, ◌≤◌, ℕ, IfOk, length, nat_lt, slice_index, string_bytes};
 ghost use Rattle.bstr.specs.Utf8.{lossy_chars};
-ghost use Rattle.source_places.specs.Places.{ends_before, within};
-ghost use Rattle.marked_lines.specs.Marks.{blanks_under, under};
+ghost use Rattle.source_places.specs.Places.{line_end, within};
+ghost use Rattle.marked_lines.specs.Marks.{blanks_under, signs, under};
+ghost use Rattle.marked_lines.specs.Rows.{IsPartAt, between, columns_of, cut_off, mark_signs, part_text, shown_text, under_cut};
 
 use crate::shown::{add_blanks, add_signs, columns, shown};
 use bstr::ByteSlice;
@@ -29,7 +30,9 @@ pub struct Part {
 }
 
 /// The first byte from `offset` on that does not go on with a character.
-pub fn character_from(text: &[u8], offset: usize) -> usize {
+pub fn character_from(text: &[u8], offset: usize) -> usize
+    ensures { within text.now offset ≤ result }
+{
     for index in offset..text.len() {
         if !matches!(text[index], 0x80..=0xBF) {
             return index;
@@ -39,7 +42,11 @@ pub fn character_from(text: &[u8], offset: usize) -> usize {
 }
 
 /// Where what is shown of a line ends: without a byte 13 that ends it.
-fn shown_end(text: &[u8], start: usize, keeps_return: bool) -> usize {
+fn shown_end(text: &[u8], start: usize, keeps_return: bool) -> usize
+    ensures within { result ≤ length text.now }
+    ensures behind { within text.now start ≤ result }
+    ensures inside { (k : ℕ) → within text.now start ≤ k → k < result → slice_index text.now k ≢ line_end }
+{
     let end = end_of_line(text, start);
     if keeps_return || end <= start || text.get(end - 1) != Some(&b'\r') {
         return end;
@@ -47,21 +54,39 @@ fn shown_end(text: &[u8], start: usize, keeps_return: bool) -> usize {
     end - 1
 }
 
+/// Where the part of a line begins that is shown of the byte at `offset`.
+fn part_start(text: &[u8], start: usize, end: usize, offset: usize) -> usize
+    requires order { start ≤ end }
+    requires within { end ≤ length text.now }
+    ensures { start ≤ result }
+{
+    if end.saturating_sub(start) > LONGEST && offset.saturating_sub(start) > BEFORE {
+        character_from(text, offset.saturating_sub(BEFORE)).min(end)
+    } else {
+        start
+    }
+}
+
+/// Where the part of a line ends that begins at `from`.
+fn part_stop(text: &[u8], from: usize, end: usize) -> usize
+    ensures { result ≤ end }
+{
+    if end.saturating_sub(from) > LONGEST {
+        character_from(text, from.saturating_add(LONGEST)).min(end)
+    } else {
+        end
+    }
+}
+
 /// The part of a line around the byte at `offset`.
 pub fn part_around(text: &[u8], offset: usize, keeps_return: bool) -> Part
-    ensures { result.line ≡ ends_before text.now (within text.now offset) + 1 }
+    ensures { IsPartAt text.now offset result }
 {
     let place = place_of(text, offset);
     let start = place.start;
     let end = shown_end(text, start, keeps_return);
-    let mut from = start;
-    if end.saturating_sub(start) > LONGEST && offset.saturating_sub(start) > BEFORE {
-        from = character_from(text, offset.saturating_sub(BEFORE)).min(end);
-    }
-    let mut to = end;
-    if end.saturating_sub(from) > LONGEST {
-        to = character_from(text, from.saturating_add(LONGEST)).min(end);
-    }
+    let from = part_start(text, start, end, offset);
+    let to = part_stop(text, from, end);
     Part {
         line: place.line,
         from,
@@ -72,7 +97,9 @@ pub fn part_around(text: &[u8], offset: usize, keeps_return: bool) -> Part
 }
 
 /// The bytes from one offset up to another, as far as the text has them.
-pub fn bytes_between(text: &[u8], from: usize, to: usize) -> &[u8] {
+pub fn bytes_between(text: &[u8], from: usize, to: usize) -> &[u8]
+    ensures { result.now ≡ between text.now from to }
+{
     text.get(from..to).unwrap_or(b"")
 }
 
@@ -83,26 +110,44 @@ impl Part {
     }
 
     /// Adds it as it is shown.
-    pub fn add(self, out: &mut String, text: &[u8]) -> Result<(), AllocError> {
-        if self.is_cut_before {
-            out.push_str("...")?;
-        }
-        for character in bytes_between(text, self.from, self.to).chars() {
-            out.push(shown(character))?;
-        }
-        if self.is_cut_behind {
-            out.push_str("...")?;
-        }
-        Ok(())
+    pub fn add(self, out: &mut String, text: &[u8]) -> Result<(), AllocError>
+        ensures { IfOk result (λ _. string_bytes out.new ≡ string_bytes out.old ++ part_text text.now self) }
+    {
+        add_dots(out, self.is_cut_before)?;
+        add_shown(out, bytes_between(text, self.from, self.to))?;
+        add_dots(out, self.is_cut_behind)
     }
 
     /// Adds the blanks that stand under the sign for what was cut off before it.
-    pub fn add_cut(self, out: &mut String) -> Result<(), AllocError> {
+    pub fn add_cut(self, out: &mut String) -> Result<(), AllocError>
+        ensures { IfOk result (λ _. string_bytes out.new ≡ string_bytes out.old ++ under_cut self.is_cut_before) }
+    {
         if self.is_cut_before {
             out.push_str("   ")?;
         }
         Ok(())
     }
+}
+
+/// Adds the sign for what was cut off.
+fn add_dots(out: &mut String, is_cut: bool) -> Result<(), AllocError>
+    ensures { IfOk result (λ _. string_bytes out.new ≡ string_bytes out.old ++ cut_off is_cut) }
+{
+    if is_cut {
+        out.push_str("...")?;
+    }
+    Ok(())
+}
+
+/// Adds bytes as they are shown.
+fn add_shown(out: &mut String, bytes: &[u8]) -> Result<(), AllocError>
+    ensures { IfOk result (λ _. string_bytes out.new ≡ string_bytes out.old ++ shown_text bytes.now) }
+{
+    let mut chars = bytes.chars();
+    'chars: while let Some(character) = chars.next() {
+        out.push(shown(character))?;
+    }
+    Ok(())
 }
 
 /// Adds what stands under some characters, so that what comes behind stands under what comes behind them: blanks, and a
@@ -128,15 +173,26 @@ fn add_under_one(out: &mut String, character: char) -> Result<(), AllocError>
 }
 
 /// Adds a sign under each column of some characters, at least one.
-pub fn add_marks(out: &mut String, bytes: &[u8], sign: char) -> Result<(), AllocError> {
+pub fn add_marks(out: &mut String, bytes: &[u8], sign: char) -> Result<(), AllocError>
+    ensures { IfOk result (λ _. string_bytes out.new ≡ string_bytes out.old ++ mark_signs bytes.now sign) }
+{
+    if add_signs_under(out, bytes, sign)? {
+        return Ok(());
+    }
+    out.push(sign)
+}
+
+/// Adds a sign under each column of some characters. Whether they take any.
+fn add_signs_under(out: &mut String, bytes: &[u8], sign: char) -> Result<bool, AllocError>
+    ensures { IfOk result (λ is_any. (is_any ≡ nat_lt 0 (columns_of bytes.now))
+        × (string_bytes out.new ≡ string_bytes out.old ++ signs (columns_of bytes.now) sign)) }
+{
     let mut is_any = false;
-    for character in bytes.chars() {
+    let mut chars = bytes.chars();
+    'chars: while let Some(character) = chars.next() {
         let width = columns(character);
         add_signs(out, sign, width)?;
         is_any = is_any || width > 0;
     }
-    if !is_any {
-        out.push(sign)?;
-    }
-    Ok(())
+    Ok(is_any)
 }

@@ -1,6 +1,5 @@
 -- The actions that are left over are those that wait.
 use Rattle.std.proofs.Common.{◌≡◌, ◌⊎◌, ◌↔◌, inl, inr, List, [], ◌∷◌, Bool, true, false, ◌&&◌, ◌||◌, cond, Option, Some, None, refl, sym, ◌∙◌, ap, subst}
-use Rattle.std.specs.List.{filter}
 use Rattle.std.proofs.lemmas.Bool.{and_parts}
 use Rattle.syntax.specs.Lists.{In, Every}
 use Rattle.runs.specs.InOrder.{InOrder}
@@ -105,15 +104,6 @@ left-order es (y ∷ xs) o =
     cond-order (has_any y.place es) y (left_over es xs)
     (every-of (NotBehind y) (left_over es xs) (λ x i. every-in (NotBehind y) xs x o.0 (left-in es xs x i).0))
     (left-order es xs o.1)
-
--- what is kept by a test that tells of each element what it is to
-kept-or-left : (b : Bool) (y : LocalAction) (kept left : List LocalAction) → kept ≡ left → cond (cond b false true) (y ∷ kept) kept ≡ cond b left (y ∷ left)
-kept-or-left true y kept left is = is
-kept-or-left false y kept left is = ap (λ (l : List LocalAction). y ∷ l) is
-
-pub left-filter : (es : List Event) (xs : List LocalAction) → filter (λ (x : LocalAction). cond (has_any x.place es) false true) xs ≡ left_over es xs
-left-filter es [] = refl
-left-filter es (y ∷ xs) = kept-or-left (has_any y.place es) y _ _ (left-filter es xs)
 
 none-any : (a : Place) (es : List Event) (b : Bool) → has_any a es ≡ b → ((e : Event) → In e es → In a (places e) → ⊥) → b ≡ false
 none-any a es true h none = let found = any-in a es h in absurd (none found.0 found.1 found.2)

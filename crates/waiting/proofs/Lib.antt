@@ -3,3 +3,4 @@ mod Remade
 mod Repeated
 mod RingOfState
 mod HelpsEach
+mod HeldPlaces

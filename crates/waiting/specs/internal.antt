@@ -1,4 +1,5 @@
 pub mod Among
+pub mod Held
 pub mod Helps
 pub mod Repeats
 pub mod Replayed

@@ -1,49 +1,21 @@
 // The actions that no allowed event has.
 ghost use Rattle.std.specs.Prelude.{◌≡◌};
 ghost use Rattle.runs.specs.Tests.{same_place};
-ghost use Rattle.waiting.specs.internal.Among.{left_over, has_any, has_place, is_second};
+ghost use Rattle.waiting.specs.internal.Among.{left_by};
+ghost use Rattle.waiting.specs.internal.Held.{is_there};
 
+use crate::places::Places;
 use address::Address;
 use local_actions::LocalAction;
-use runs::Event;
 use syntax::Items;
 
-/// Those of the actions whose place none of these events has.
-pub(crate) fn left_over(actions: Items<LocalAction>, events: &[Event]) -> Items<LocalAction>
-    ensures { result ≡ left_over events.now actions }
+/// Those of the actions whose place is none of these.
+pub(crate) fn left_over(actions: Items<LocalAction>, places: &Places) -> Items<LocalAction>
+    ensures { result ≡ left_by (is_there places.now) actions }
 {
     let mut actions = actions.into_vec();
-    actions.retain(|action| !has_any(events, &action.place));
+    actions.retain(|action| !places.has(&action.place));
     Items::from_vec(actions)
-}
-
-/// Whether one of these events has the place.
-fn has_any(events: &[Event], place: &Address) -> bool
-    ensures { result ≡ has_any place.now events.now }
-{
-    for event in events {
-        if has_place(event, place) {
-            return true;
-        }
-    }
-    false
-}
-
-/// Whether the event has the place, as its first or its second.
-fn has_place(event: &Event, place: &Address) -> bool
-    ensures { result ≡ has_place place.now event.now }
-{
-    is_same(place, &event.first) || is_second(event, place)
-}
-
-/// Whether the place is the event's second.
-fn is_second(event: &Event, place: &Address) -> bool
-    ensures { result ≡ is_second place.now event.now.second }
-{
-    match &event.second {
-        Some(second) => is_same(place, second),
-        None => false,
-    }
 }
 
 /// Whether both places are one.

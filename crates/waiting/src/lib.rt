@@ -6,6 +6,7 @@ mod actions;
 mod input;
 mod laws;
 mod once;
+mod places;
 mod progress;
 mod replay;
 mod text;

@@ -23,6 +23,11 @@ abbrev pub has_any : Place → List Event → Bool
 has_any a [] = false
 has_any a (e ∷ es) = has_place a e || has_any a es
 
+-- the actions whose place does not pass a test
+abbrev pub left_by : (Place → Bool) → List LocalAction → List LocalAction
+left_by test [] = []
+left_by test (x ∷ xs) = cond (test x.place) (left_by test xs) (x ∷ left_by test xs)
+
 -- the actions whose place none of the events has
 abbrev pub left_over : List Event → List LocalAction → List LocalAction
 left_over es [] = []

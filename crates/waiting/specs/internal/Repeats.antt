@@ -1,6 +1,6 @@
 -- Actions that are told once, and the arms of a choice in order, where they are listed in any.
 -- No reader has to believe it: the contract of `who_waits` says in what order each is told once.
-use Rattle.std.specs.Prelude.{◌==◌, ℕ, List, [], ◌∷◌, Bool, true, false, cond, nat_lt, Option, None, Some}
+use Rattle.std.specs.Prelude.{◌==◌, ℕ, List, [], ◌∷◌, Bool, true, false, nat_lt, Option, None, Some}
 use Rattle.runs.specs.Tests.{same_option, same_place}
 use Rattle.local_actions.specs.declared.action.LocalAction.{LocalAction}
 use Rattle.waiting.specs.Waits.{arm_of}

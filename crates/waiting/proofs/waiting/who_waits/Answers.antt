@@ -15,6 +15,8 @@ use Rattle.waiting.specs.declared.progress.Progress.{Progress}
 use Rattle.waiting.specs.internal.Among.{left_over, progress_of}
 use Rattle.waiting.specs.internal.Repeats.{each_once}
 use Rattle.waiting.proofs.Leftover.{lists-waiting, stands-like}
+use Rattle.waiting.specs.internal.Held.{is_there, Has}
+use Rattle.waiting.proofs.HeldPlaces.{left-alike}
 use Rattle.waiting.proofs.RingOfState.{names-deadlocked, names-ring}
 use Rattle.waiting.proofs.waiting.who_waits.Goals as goal
 
@@ -29,7 +31,8 @@ returns c =
     let one = c.is_sound.ensures.one_state in
     let same : ready.0 ≡ S = one.2 ready.0 ready.1 ∙ sym (one.2 S stands.reaches) in
     let list : ReadyList S events = subst (λ (T : State). ReadyList T events) same ready.2 in
-    let left : c.left_over.result ≡ left_over events actions = c.left_over.ensures ∙ ap (λ (es : List Event). left_over es actions) c.as_slice-3.ensures in
+    let held : Has c.in_ok-places.places events = subst (λ (es : List Event). Has c.in_ok-places.places es) c.as_slice-3.ensures c.in_ok-places.ensures in
+    let left : c.left_over.result ≡ left_over events actions = c.left_over.ensures ∙ left-alike (is_there c.in_ok-places.places) events actions held in
     let told : c.progress_of-progress.result ≡ progress_of actions events =
     c.progress_of-progress.ensures ∙ ap₂ (λ (xs : List LocalAction) (es : List Event). progress_of xs es) c.as_slice.ensures c.as_slice-2.ensures in
     let kept : List LocalAction = c.in_ok-actions-2.actions in

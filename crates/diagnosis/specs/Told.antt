@@ -1,0 +1,44 @@
+-- What is told of a fault begins with its place.
+use Rattle.std.specs.Prelude.{◌≡◌, ℕ, ◌+◌, ◌<◌, ◌≤◌, Bool, ◌||◌, ◌&&◌, ◌==◌, nat_le, if◌then◌else◌, List, length, Option, None, Some, IsTrue, unwrap_or}
+use Rattle.std.specs.Bool.{MatchBool}
+use Rattle.findings.specs.Heads.{TellsPlace}
+use Rattle.findings.specs.declared.finding.Input.{Input}
+use Rattle.source_places.specs.Places.{ends_before, within}
+use Rattle.diagnosis.specs.declared.told.Inputs.{Inputs}
+
+-- refusals at an offset of the source
+abbrev pub is_at_offset : ℕ → Bool
+is_at_offset number = (nat_le 2 number && nat_le number 13) || (nat_le 15 number && nat_le number 17)
+
+-- refusals of a line of a trace, of the stimulus or of a script
+abbrev pub is_of_line : ℕ → Bool
+is_of_line number = (nat_le 31 number && nat_le number 34) || (number == 51 || number == 61)
+
+-- the text in which a line is refused
+abbrev pub input_of : ℕ → Inputs → Option Input
+input_of number inputs =
+    if number == 51 then inputs.stimulus else (if number == 61 then inputs.script else inputs.trace)
+
+-- the text begins with the name of the source, the line and the column of the byte at the offset, or of the end of the
+-- source where it ends before, and what is wrong
+abbrev pub TellsOffset : Input → ℕ → List ℕ → Type 0
+TellsOffset source offset told =
+    (at : ℕ) × (what : List ℕ) × (at ≡ within source.bytes.now offset)
+    × TellsPlace source.name.now source.bytes.now at what told
+
+-- where there is such a line, the text begins with the place of a byte of it
+abbrev pub TellsLine : Option Input → ℕ → List ℕ → Type 0
+TellsLine None line told = Unit {0}
+TellsLine (Some input) line told =
+    0 < line → line ≤ ends_before input.bytes.now (length input.bytes.now) + 1 →
+    (offset : ℕ) × (ends_before input.bytes.now offset + 1 ≡ line) × TellsOffset input offset told
+
+-- what is told of a refusal of a line, of the first one where none is named, and of one at an offset of the source
+abbrev pub TellsAt : Option ℕ → Inputs → List ℕ → Type 0
+TellsAt None inputs told = Unit {0}
+TellsAt (Some offset) inputs told = TellsOffset inputs.source offset told
+
+abbrev pub TellsFault : ℕ → Option ℕ → Inputs → List ℕ → Type 0
+TellsFault number field inputs told =
+    MatchBool (is_of_line number) (TellsLine (input_of number inputs) (unwrap_or field 1) told)
+    (IsTrue (is_at_offset number) → TellsAt field inputs told)

@@ -1,0 +1,116 @@
+-- Lines of a text with marks under them.
+use Rattle.std.specs.Prelude.{◌≡◌, ◌≢◌, ℕ, ◌+◌, ◌-◌, ◌<◌, ◌≤◌, Bool, false, ◌&&◌, nat_le, if◌then◌else◌, List, [], ◌∷◌, ◌++◌, length, max, min, sum_by, replicate, flat_map, slice_index, slice_range, codes, decimal, encode_utf8}
+use Rattle.bstr.specs.Utf8.{lossy_chars}
+use Rattle.source_places.specs.Places.{BeginsLine, ends_before, line_end, within}
+use Rattle.marked_lines.specs.Marks.{blank, blanks_under, columns, shown, signs}
+use Rattle.marked_lines.specs.declared.marks.Mark.{Mark}
+use Rattle.marked_lines.specs.declared.part.Part.{Part}
+
+-- the bytes from one offset up to another, as far as the text has them
+abbrev pub between : List ℕ → ℕ → ℕ → List ℕ
+between text from to = if nat_le from to && nat_le to (length text) then slice_range text from to else []
+
+-- what stands where a line was cut off, and the blanks under it
+abbrev pub cut_off : Bool → List ℕ
+cut_off is_cut = if is_cut then codes "..." else []
+
+abbrev pub under_cut : Bool → List ℕ
+under_cut is_cut = if is_cut then codes "   " else []
+
+-- bytes as they are shown
+abbrev pub shown_text : List ℕ → List ℕ
+shown_text bytes = flat_map (λ c. encode_utf8 (shown c)) (lossy_chars bytes)
+
+-- a part of a line as it is shown
+abbrev pub part_text : List ℕ → Part → List ℕ
+part_text text part =
+    cut_off part.is_cut_before ++ shown_text (between text part.from part.to) ++ cut_off part.is_cut_behind
+
+-- what stands in front of a row: the number of its line in so many columns
+abbrev pub gutter : List ℕ → ℕ → List ℕ
+gutter number wide = codes "  " ++ replicate (wide - length number) blank ++ number ++ codes " | "
+
+-- how many columns bytes take
+abbrev pub columns_of : List ℕ → ℕ
+columns_of bytes = sum_by columns (lossy_chars bytes)
+
+-- a sign under each column of what is marked, and one where it takes none
+abbrev pub mark_signs : List ℕ → ℕ → List ℕ
+mark_signs bytes sign = signs (max 1 (columns_of bytes)) sign
+
+-- the signs of marks, the first behind the byte at `behind`: each begins under the first character that it marks, and
+-- has a sign under each column up to its end, or that of the part. A mark of no bytes has one sign or more
+abbrev pub IsSigns : List ℕ → Part → ℕ → List Mark → List ℕ → Type 0
+IsSigns text part behind [] told = told ≡ []
+IsSigns text part behind (mark ∷ marks) told =
+    (stop : ℕ) × (rest : List ℕ) × (mark.start < mark.stop → stop ≡ min mark.stop part.to)
+    × (told ≡ blanks_under (lossy_chars (between text behind mark.start)) ++ mark_signs (between text mark.start stop)
+    mark.sign ++ rest)
+    × IsSigns text part (max stop mark.start) marks rest
+
+-- what is said of the last mark stands behind the signs
+abbrev pub last_note : List Mark → List ℕ
+last_note [] = []
+last_note (mark ∷ []) = mark.note.now
+last_note (mark ∷ next ∷ marks) = last_note (next ∷ marks)
+
+abbrev pub behind_blank : List ℕ → List ℕ
+behind_blank [] = []
+behind_blank (byte ∷ note) = codes " " ++ byte ∷ note
+
+-- what is said of another mark stands in a row of its own, under the first character that it marks
+abbrev pub note_row : List ℕ → Part → ℕ → ℕ → List ℕ → List ℕ
+note_row text part wide start [] = []
+note_row text part wide start (byte ∷ note) =
+    gutter [] wide ++ under_cut part.is_cut_before ++ blanks_under (lossy_chars (between text part.from start))
+    ++ (byte ∷ note) ++ codes "\n"
+
+-- those of all marks but the last, from the right to the left
+abbrev pub note_rows : List ℕ → Part → ℕ → List Mark → List ℕ
+note_rows text part wide [] = []
+note_rows text part wide (mark ∷ []) = []
+note_rows text part wide (mark ∷ next ∷ marks) =
+    note_rows text part wide (next ∷ marks) ++ note_row text part wide mark.start mark.note.now
+
+-- the part is one of the line of the byte at the offset, and all of it where nothing is cut off. A byte 13 at its end
+-- belongs to it where `keeps_return` is set
+pub record IsPartAt (text : List ℕ) (offset : ℕ) (part : Part) : Type 0 where
+  pub line : part.line ≡ ends_before text (within text offset) + 1
+  pub start : ℕ
+  pub begins : BeginsLine text (within text offset) start
+  pub behind : start ≤ part.from
+  pub whole : part.is_cut_before ≡ false → part.from ≡ start
+  pub inside : (k : ℕ) → part.from ≤ k → k < part.to → k < length text → slice_index text k ≢ line_end
+
+-- a part of a line, under it these signs, and then what is said of the marks
+abbrev pub row_text : List ℕ → ℕ → Part → List ℕ → List Mark → List ℕ
+row_text text wide part signs marks =
+    gutter (decimal part.line) wide ++ part_text text part ++ codes "\n"
+    ++ gutter [] wide ++ under_cut part.is_cut_before ++ signs ++ behind_blank (last_note marks) ++ codes "\n"
+    ++ note_rows text part wide marks
+
+-- a row shows a part of the line of its first mark, and under it the marks
+abbrev pub IsRow : List ℕ → ℕ → List Mark → List ℕ → Type 0
+IsRow text wide [] told = ⊥
+IsRow text wide (mark ∷ marks) told =
+    (part : Part) × (signs : List ℕ) × IsPartAt text mark.start part × IsSigns text part part.from (mark ∷ marks) signs
+    × (told ≡ row_text text wide part signs (mark ∷ marks))
+
+-- one more row is there
+abbrev pub AddsRow : List ℕ → ℕ → List Mark → List ℕ → List ℕ → Type 0
+AddsRow text wide row old new = (told : List ℕ) × IsRow text wide row told × (new ≡ old ++ told)
+
+abbrev pub AreRows : List ℕ → ℕ → List (List Mark) → List ℕ → Type 0
+AreRows text wide [] told = told ≡ []
+AreRows text wide (row ∷ rows) told =
+    (first : List ℕ) × (rest : List ℕ) × (told ≡ first ++ rest) × IsRow text wide row first × AreRows text wide rows rest
+
+-- the marks of all rows
+abbrev pub marks_in : List (List Mark) → List Mark
+marks_in [] = []
+marks_in (row ∷ rows) = row ++ marks_in rows
+
+-- rows, each with some of the marks, all of them in turn
+abbrev pub AreMarked : List ℕ → List Mark → List ℕ → Type 0
+AreMarked text marks told =
+    (wide : ℕ) × (rows : List (List Mark)) × (marks_in rows ≡ marks) × AreRows text wide rows told
