@@ -6,3 +6,4 @@ pub mod Markings
 pub mod RunOrder
 pub mod Standing
 pub mod Tabling
+pub mod Turns

@@ -2,6 +2,7 @@ pub mod Acting
 pub mod Behind
 pub mod Followers
 pub mod Laws
+pub mod Listing
 pub mod Shown
 pub mod Taking
 pub mod internal

@@ -11,6 +11,7 @@ mod indexes;
 mod laws;
 mod links;
 mod live;
+mod live_events;
 mod marks;
 mod puts;
 mod tables;
@@ -21,3 +22,4 @@ mod whole;
 
 pub use laws::{last_comes_behind, least_is_follower, no_new_follower, reached_through_followers};
 pub use live::{Live, LiveEvent};
+pub use live_events::LiveEvents;

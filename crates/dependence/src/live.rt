@@ -1,4 +1,4 @@
-ghost use Rattle.std.specs.Prelude.{◌≡◌, ◌<◌, ◌≤◌, ℕ, [], length, Some, None, slice_get, MatchOption, IfErr, IfOk, OnOk};
+ghost use Rattle.std.specs.Prelude.{◌≡◌, ◌<◌, ◌≤◌, ◌^◌, ℕ, [], length, Some, None, slice_get, MatchOption, IfErr, IfOk, OnOk};
 ghost use Rattle.runs.specs.Dependence.{Without};
 ghost use Rattle.runs.specs.Live.{LiveAt, NoneAt, NoDependent, FirstDependent, ConsequencesList, WithoutTickets, IsLive, LastWriter, NoWriter};
 ghost use Rattle.last_events.specs.LastEvents.{first_child};
@@ -14,6 +14,7 @@ use crate::boxed_links::BoxedLinks;
 use crate::consequences::consequences;
 use crate::count::count_direct;
 use crate::indexes::index_of;
+use crate::live_events::LiveEvents;
 use crate::marks::{copy_marked, last_marked, mark_and_count, marked_at, unmarked_below};
 use crate::tables::Tables;
 use crate::take::{keep_unmarked, take_marked};
@@ -86,6 +87,14 @@ impl Live {
     }
 
     /// The live events with their tickets, in order of tickets.
+    pub fn iter(&self) -> LiveEvents<'_>
+        ensures events { result ≡ self.now.live }
+        ensures fits { length result < 2 ^ 64 }
+    {
+        LiveEvents::of(self.pairs.as_slice())
+    }
+
+    /// The live events with their tickets, in order of tickets, as they stand.
     pub fn as_slice(&self) -> &[LiveEvent]
         ensures { result.now ≡ self.now.live }
     {
