@@ -1,5 +1,5 @@
 -- The queue of the events that wait for none.
-use Rattle.std.proofs.Common.{◌≡◌, inl, inr, ℕ, zero, suc, ◌+◌, ◌<◌, ◌==◌, List, [], ◌∷◌, Bool, true, false, length, take, get_or, Some, sym, ap, ◌∙◌, subst, arith}
+use Rattle.std.proofs.Common.{◌≡◌, inl, inr, ℕ, zero, suc, ◌+◌, ◌<◌, ◌==◌, List, [], ◌∷◌, Bool, true, false, length, take, Some, sym, ap, ◌∙◌, subst, arith}
 use Rattle.std.specs.Prelude.{slice_get}
 use Rattle.std.specs.List.{AllByRecursion, IsDistinct, list_any}
 use Rattle.std.specs.List.Sorted.{IsPermutation}
@@ -10,7 +10,6 @@ use Rattle.std.specs.declared.cmp.Ordering.TheVariants.{Less}
 use Rattle.std.specs.declared.cmp.Reverse.{Reverse}
 use Rattle.std.proofs.Permutation.{every_shuffled}
 use Rattle.std.proofs.lemmas.Bool.{cases_eq, cases_order, true≢false, false≢true, eqb-true, eqb-false, eq-eqb, ne_eqb, or_cases, or_left, or_right}
-use Rattle.std.proofs.lemmas.Option.{slice_get-get_or}
 use Rattle.std.proofs.lemmas.List.Sorted.{list_any-IsPermutation}
 use Rattle.std.proofs.lemmas.Map.Keys.{IsDistinct-head, IsDistinct-tail, IsDistinct-cons, IsDistinct-IsPermutation}
 use Rattle.address.specs.Order.{order_of}
@@ -154,19 +153,16 @@ below-last : (i k : ℕ) → i < k + 1 → (i ≡ k → ⊥) → i < k
 below-last i k less other = elim (cases_order i k) [ inl is ↦ absurd (other is) | inr (inl below) ↦ below | inr (inr above) ↦ absurd (omega (arith, less, above)) ]
 
 -- an entry of the event at the index
-pub joins : (l k : Live) (index : ℕ) (d : ℕ × Event) (x : Reverse Free) (items more : List (Reverse Free)) → k ≡ l → index < length k
-    → x.0.index ≡ index → x.0.acting.now ≡ acting (get_or k index d).1 → IsPermutation (x ∷ items) more
-    → (IsHeap queue_order items → IsHeap queue_order more) → Joins l index items more
-joins l k index d x items more same within here acts p heap =
-    let at : slice_get l index ≡ Some (get_or k index d) =
-    subst (λ (m : Live). slice_get m index ≡ Some (get_or k index d)) same (slice_get-get_or k index d within) in
-    record {
-      entry = x;
-      is = ((get_or k index d).0, (get_or k index d).1, ap (λ (i : ℕ). slice_get l i) here ∙ at, acts);
-      at = here;
-      permutation = p;
-      heap = heap;
-    }
+pub joins : (l : Live) (index t : ℕ) (e : Event) (x : Reverse Free) (items more : List (Reverse Free)) → slice_get l index ≡ Some (t, e)
+    → x.0.index ≡ index → x.0.acting.now ≡ acting e → IsPermutation (x ∷ items) more → (IsHeap queue_order items → IsHeap queue_order more)
+    → Joins l index items more
+joins l index t e x items more at here acts p heap = record {
+  entry = x;
+  is = (t, e, ap (λ (i : ℕ). slice_get l i) here ∙ at, acts);
+  at = here;
+  permutation = p;
+  heap = heap;
+}
 
 -- what is among the first is among one more
 take-one-more : (l : Live) (k : ℕ) (x : ℕ × Event) → In x (take k l) → In x (take (suc k) l)

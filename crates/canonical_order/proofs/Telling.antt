@@ -134,9 +134,8 @@ told-all l rest t told left items lists tell = record {
 }
 
 -- the ticket at an index
-pub here-ticket : (l k : Live) (index : ℕ) (d : ℕ × Event) (t : ℕ) (e : Event) → k ≡ l → slice_get l index ≡ Some (t, e) → (get_or k index d).0 ≡ t
-here-ticket l k index d t e same at =
-    ap (λ (m : Live). (get_or m index d).0) same ∙ ap (λ (x : ℕ × Event). x.0) (got-here l index (t, e) d at)
+pub here-ticket : (l : Live) (index r t : ℕ) (f e : Event) → slice_get l index ≡ Some (r, f) → slice_get l index ≡ Some (t, e) → r ≡ t
+here-ticket l index r t f e here at = ap (λ (x : ℕ × Event). x.0) (at-one l index (r, f) (t, e) here at)
 
 -- what ascends has each number once
 pub new-in : (us : List ℕ) (k : ℕ) → InOrder ◌<◌ us → k < length us → In (get_or us k 0) (take k us) → ⊥

@@ -1,8 +1,7 @@
 -- For how many events each one waits.
-use Rattle.std.proofs.Common.{◌≡◌, ◌⊎◌, ◌↔◌, inl, inr, ℕ, zero, suc, ◌+◌, ◌<◌, ◌≤◌, List, [], ◌∷◌, ◌++◌, length, get_or, Some, refl, sym, ap, ◌∙◌, subst, arith}
+use Rattle.std.proofs.Common.{◌≡◌, ◌⊎◌, ◌↔◌, inl, inr, ℕ, zero, suc, ◌+◌, ◌<◌, ◌≤◌, List, [], ◌∷◌, ◌++◌, length, Some, refl, sym, ap, ◌∙◌, subst, arith}
 use Rattle.std.specs.Prelude.{slice_get}
 use Rattle.std.proofs.lemmas.List.{length-append}
-use Rattle.std.proofs.lemmas.Option.{slice_get-get_or}
 use Rattle.syntax.specs.Lists.{In}
 use Rattle.runs.specs.Dependence.{Directly}
 use Rattle.runs.specs.InOrder.{InOrder}
@@ -19,11 +18,6 @@ use Rattle.canonical_order.specs.internal.Waiting.{IsRest, WaitsFor, Counts}
 -- the tickets rise
 abbrev pub Rises : Live → Type 0
 Rises l = (next : ℕ) × Rising 0 l next
-
--- what stands at an index of the list
-pub at-slice : (l k : Live) (i : ℕ) (x : ℕ × Event) → k ≡ l → i < length k → x ≡ get_or k i x → slice_get l i ≡ Some x
-at-slice l k i x one within is =
-    subst (λ (m : Live). slice_get m i ≡ Some x) one (slice_get-get_or k i x within ∙ ap (λ (y : ℕ × Event). Some y) (sym is))
 
 -- one event has a ticket
 pub one-event : (l : Live) (t : ℕ) (e f : Event) → Rises l → LiveAt l t e → LiveAt l t f → e ≡ f

@@ -8,6 +8,7 @@ ghost use Rattle.canonical_order.specs.internal.Waiting.{Counts, IsQueue, SomeTe
 
 use address::Entry;
 use dependence::Live;
+use runs::Event;
 use std::alloc::{AllocError, Global};
 use std::cmp::Reverse;
 use std::collections::BinaryHeap;
@@ -27,8 +28,8 @@ pub(crate) fn leads_of_all(alloc: Global, live: &Live) -> Result<Vec<usize>, All
     ensures { IfOk result (λ left. Counts live.now.live (λ (t : ℕ) (u : ℕ). IsLive live.now.live t) left.items) }
 {
     let mut left = Vec::new(alloc);
-    for entry in live.as_slice() {
-        left.push(live.leads(entry.0).len())?;
+    for (ticket, _) in live.iter() {
+        left.push(live.leads(ticket).len())?;
     }
     Ok(left)
 }
@@ -64,7 +65,7 @@ pub(crate) fn tell_followers<'a>(
     ensures { IfOk result (λ _.
         TellsAll live.now.live index left.old (heap_items free.old) left.new (heap_items free.new)) }
 {
-    for follower in live.followers(live.as_slice()[index].0) {
+    for follower in live.followers(ticket_at(live, index)) {
         tell(live, index_of(live, *follower), left, free)?;
     }
     Ok(())
@@ -93,9 +94,31 @@ fn add_free<'a>(live: &'a Live, index: usize, free: &mut Queue<'a>) -> Result<()
     requires { index < length live.now.live }
     ensures { IfOk result (λ _. Joins live.now.live index (heap_items free.old) (heap_items free.new)) }
 {
-    let acting = live.as_slice()[index].1.get().acting_place().entries();
+    let acting = event_at(live, index).acting_place().entries();
     free.push(Reverse(Free { acting, index }))?;
     Ok(())
+}
+
+/// The ticket of the live event at this index.
+fn ticket_at(live: &Live, index: usize) -> u64
+    requires { index < length live.now.live }
+    ensures { (e : Event) × (slice_get live.now.live index ≡ Some (result, e)) }
+{
+    match live.pair_at(index as u64) {
+        Some((ticket, _)) => ticket,
+        None => unreachable!(),
+    }
+}
+
+/// The live event at this index.
+fn event_at(live: &Live, index: usize) -> &Event
+    requires { index < length live.now.live }
+    ensures { (t : ℕ) × (slice_get live.now.live index ≡ Some (t, result.now)) }
+{
+    match live.pair_at(index as u64) {
+        Some((_, event)) => event,
+        None => unreachable!(),
+    }
 }
 
 /// Where the live event of this ticket stands.

@@ -1,11 +1,8 @@
-use Rattle.std.proofs.Common.{◌<◌, length, refl, sym, ap, subst, ◌∙◌, heap_items}
-use Rattle.runs.specs.Events.{acting}
-use Rattle.runs.specs.Live.{Live}
+use Rattle.std.proofs.Common.{refl, ◌∙◌, heap_items}
 use Rattle.canonical_order.proofs.Queues.{joins}
 use Rattle.canonical_order.proofs.queue.add_free.Goals as goal
 
 pub returns : goal.returns
 returns c =
-    joins c.args.live.now.live c.as_slice.result.now c.args.index c.index-as_slice-index.result _ (heap_items c.args.free.now) (heap_items c.push.new.self)
-    c.as_slice.ensures (subst (λ (m : Live). c.args.index < length m) (sym c.as_slice.ensures) c.requires) refl
-    (c.entries-acting.ensures ∙ c.acting_place.ensures ∙ ap acting c.get.ensures) c.in_ok-push.ensures.permutation c.in_ok-push.ensures.heap_order
+    joins c.args.live.now.live c.args.index c.event_at.ensures.0 c.event_at.result.now _ (heap_items c.args.free.now) (heap_items c.push.new.self)
+    c.event_at.ensures.1 refl (c.entries-acting.ensures ∙ c.acting_place.ensures) c.in_ok-push.ensures.permutation c.in_ok-push.ensures.heap_order

@@ -1,20 +1,24 @@
-use Rattle.std.proofs.Common.{refl}
-use Rattle.dependence.proofs.public.ListPlaces.{in-at}
-use Rattle.canonical_order.proofs.Waits.{at-slice, counted-more}
+use Rattle.std.proofs.Common.{◌∙◌, ℕ, length, refl, sym, subst}
+use Rattle.std.proofs.lemmas.List.{length_push}
+use Rattle.dependence.proofs.public.Turns.{turn, turn-live, ended}
+use Rattle.canonical_order.proofs.Waits.{Counted, counted-all, counted-more}
 use Rattle.canonical_order.proofs.queue.leads_of_all.Goals as goal
 
 pub leads-requires : goal.leads-requires
-leads-requires c = (
-  c.entry-item.result.1,
-  in-at c.args.live.now.live c.loop-entry.entry-index c.entry-item.result
-      (at-slice c.args.live.now.live c.as_slice-entry-items.result.now c.loop-entry.entry-index c.entry-item.result c.as_slice-entry-items.ensures
-      c.loop-entry-test.true c.entry-item.is),
-)
+leads-requires c =
+    let all = c.into_iter-ticket-iterator.ensures.into_iter_gives ∙ c.iter-ticket-items.ensures.events in
+    turn-live _ _ _ _ c.loop-ticket.yielded _ all c.loop-ticket.yielded_by c.in-Some.ensures.steps
 
-pub loop-entry-preserved : goal.loop-entry-preserved
-loop-entry-preserved c =
-    counted-more c.args.live.now.live c.loop-entry.left.items c.push.new.self.items c.leads.result.now c.loop-entry.entry-index _ c.entry-item.result.0
-    c.entry-item.result.1 c.loop-entry.invariant
-    (at-slice c.args.live.now.live c.as_slice-entry-items.result.now c.loop-entry.entry-index c.entry-item.result c.as_slice-entry-items.ensures
-    c.loop-entry-test.true c.entry-item.is)
-    c.leads.ensures refl c.in_ok-push.ensures.items
+pub loop-ticket-preserved : goal.loop-ticket-preserved
+loop-ticket-preserved c =
+    let all = c.into_iter-ticket-iterator.ensures.into_iter_gives ∙ c.iter-ticket-items.ensures.events in
+    let at = turn _ _ _ _ c.loop-ticket.yielded _ _ all refl c.loop-ticket.yielded_by c.in-Some.ensures.steps in
+    subst (λ (n : ℕ). Counted c.args.live.now.live c.push.new.self.items n) (sym (length_push c.loop-ticket.yielded _))
+    (counted-more c.args.live.now.live c.loop-ticket.left.items c.push.new.self.items c.leads.result.now (length c.loop-ticket.yielded) _ _ _
+    c.loop-ticket.invariant at c.leads.ensures refl c.in_ok-push.ensures.items)
+
+pub returns : goal.returns
+returns c =
+    let all = c.into_iter-ticket-iterator.ensures.into_iter_gives ∙ c.iter-ticket-items.ensures.events in
+    counted-all c.args.live.now.live c.loop-ticket.left.items (length c.loop-ticket.yielded) c.loop-ticket.invariant
+    (ended _ _ _ c.loop-ticket.yielded all c.loop-ticket.yielded_by c.in-None.ensures.steps.0)
