@@ -16,8 +16,8 @@ pub fn all_ahead(alloc: Global, live: &Live) -> Result<Items<Items<usize>>, Allo
 {
     live.is_sound();
     let mut rows = Items::with_capacity(alloc, live.len())?;
-    for (index, entry) in live.as_slice().iter().enumerate() {
-        rows.push(ahead_of(alloc, live, index, entry.0)?)?;
+    for (index, (ticket, _)) in live.iter().enumerate() {
+        rows.push(ahead_of(alloc, live, index, ticket)?)?;
     }
     Ok(rows)
 }

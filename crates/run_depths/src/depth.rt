@@ -17,8 +17,8 @@ pub fn depths_of(alloc: Global, live: &Live) -> Result<Vec<usize>, AllocError>
 {
     live.is_sound();
     let mut depths = Vec::with_capacity(alloc, live.len())?;
-    for entry in live.as_slice() {
-        let depth = depth_of(live, depths.as_slice(), entry.0);
+    for (ticket, _) in live.iter() {
+        let depth = depth_of(live, depths.as_slice(), ticket);
         depths.push(depth)?;
     }
     Ok(depths)

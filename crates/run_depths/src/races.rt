@@ -34,8 +34,8 @@ pub fn races_of(alloc: Global, live: &Live) -> Result<Vec<Race>, AllocError>
 {
     live.is_sound();
     let mut races = Vec::new(alloc);
-    for (index, entry) in live.as_slice().iter().enumerate() {
-        add_races(&mut races, live, index, entry.0, entry.1.get())?;
+    for (index, (ticket, event)) in live.iter().enumerate() {
+        add_races(&mut races, live, index, ticket, event)?;
     }
     Ok(races)
 }

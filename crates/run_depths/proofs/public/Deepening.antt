@@ -5,7 +5,7 @@ use Rattle.std.proofs.lemmas.Bool.{cases_lt}
 use Rattle.std.proofs.lemmas.Option.{slice_get-get_or, slice_get_within}
 use Rattle.syntax.specs.Lists.{In}
 use Rattle.runs.specs.InOrder.{InOrder}
-use Rattle.runs.specs.Live.{Live, Rising, LiveAt, IsLive}
+use Rattle.runs.specs.Live.{Live, Rising}
 use Rattle.runs.specs.declared.event.Event.{Event}
 use Rattle.dependence.specs.Followers.{Follower, ListsFollowers, ListsLeads}
 use Rattle.dependence.proofs.public.ListPlaces.{at-one, in-order-more, in-read, take-next, take-all}
@@ -114,10 +114,6 @@ all-known l depths n known whole = record {
   size = known.size ∙ whole;
   each = λ i u a. let within = slice_get_within l i _ a.1 in known.each i u (omega arith) a;
 }
-
--- what stands at an index of what was lent
-pub item-at : (l k : Live) (i : ℕ) (x : ℕ × Event) → k ≡ l → i < length k → x ≡ get_or k i x → slice_get l i ≡ Some x
-item-at l k i x is less here = subst (λ (m : Live). slice_get m i ≡ Some x) is (slice_get-get_or k i x less ∙ ap (λ (y : ℕ × Event). Some y) (sym here))
 
 -- the first numbers of a list, one more of them
 next-of : (xs : List ℕ) (i : ℕ) → i < length xs → take (i + 1) xs ≡ take i xs ++ get_or xs i 0 ∷ []
