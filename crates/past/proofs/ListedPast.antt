@@ -1,18 +1,19 @@
 -- The marked entries as a list of tickets.
-use Rattle.std.proofs.Common.{◌≡◌, ◌⊎◌, inl, inr, ℕ, zero, suc, ◌<◌, ◌≤◌, List, [], ◌∷◌, Bool, true, false, cond, Some, refl, sym, ◌∙◌, ap, subst, arith, length, ◌+◌, get_or}
+use Rattle.std.proofs.Common.{◌≡◌, ◌⊎◌, inl, inr, ℕ, zero, suc, ◌<◌, ◌≤◌, List, [], ◌∷◌, Bool, true, false, cond, Some, refl, sym, ◌∙◌, ap, subst, arith, length, drop, ◌+◌, ◌++◌, append_assoc, append-nil}
 use Rattle.std.specs.Prelude.{slice_get}
-use Rattle.std.proofs.lemmas.Option.{slice_get-get_or}
 use Rattle.syntax.specs.Lists.{In, Every}
 use Rattle.runs.specs.InOrder.{InOrder}
+use Rattle.dependence.specs.Followers.{ListsLeads}
 use Rattle.runs.specs.Live.{Live, IsLive, Rising}
 use Rattle.runs.specs.declared.event.Event.{Event}
 use Rattle.runs.proofs.public.Lists.{every-of}
 use Rattle.runs.proofs.public.Options.{none-some}
 use Rattle.runs.proofs.public.Tickets.{rising-in, rising-one}
-use Rattle.dependence.proofs.public.ListPlaces.{in-at, at-one}
+use Rattle.dependence.proofs.public.ListPlaces.{in-at, at-one, drop-next}
 use Rattle.past.specs.Past.{is_told, tickets_of, ListsPast, ListsTickets}
 use Rattle.past.specs.internal.Marked.{MarksPast, told_tickets, untold, ListsMarked}
 use Rattle.past.specs.declared.past.Past.{Past}
+use Rattle.past.specs.declared.past.PastEvent.{PastEvent}
 
 -- ---- one entry of a list that may be there
 in-cond : (b c : Bool) (t u : ℕ) (rest : List ℕ) → In u (cond b (cond c (t ∷ rest) rest) rest) → ((b ≡ true) × (c ≡ true) × (u ≡ t)) ⊎ In u rest
@@ -131,6 +132,111 @@ listed low next all l t marks past r marked live lists = record {
   );
 }
 
--- the entry of a loop over the live events
-pub at-item : (l k : Live) (i : ℕ) (x : ℕ × Event) → k ≡ l → i < length k → x ≡ get_or k i x → slice_get l i ≡ Some x
-at-item l k i x is less here = subst (λ (m : Live). slice_get m i ≡ Some x) is (slice_get-get_or k i x less ∙ ap (λ (y : ℕ × Event). Some y) (sym here))
+-- ---- the events one after another
+-- what is told and how many are left out of the events before an index, beside those that are left
+pub record Passed (all : Bool) (l : Live) (t : ℕ) (marks : List Bool) (i : ℕ) (left : Live) (events : List PastEvent) (n : ℕ) : Type 0 where
+  pub counted : i + length left ≡ length l
+  pub tickets : tickets_of events ++ told_tickets all t left (drop i marks) ≡ told_tickets all t l marks
+  pub direct : Every (λ p. ListsLeads l p.ticket p.follows) events
+  pub left_out : n + untold all t left (drop i marks) ≡ untold all t l marks
+  pub few : n ≤ i
+
+drop-one : (marks : List Bool) (i : ℕ) (m : Bool) → slice_get marks i ≡ Some m → drop i marks ≡ m ∷ drop (i + 1) marks
+drop-one marks i m at = let next : suc i ≡ i + 1 = omega arith in drop-next marks i m at ∙ ap (λ (k : ℕ). m ∷ drop k marks) next
+
+told-next : (all : Bool) (t : ℕ) (left rest : Live) (x : ℕ × Event) (marks : List Bool) (i : ℕ) (m : Bool) → left ≡ x ∷ rest →
+    slice_get marks i ≡ Some m → told_tickets all t left (drop i marks) ≡ told_tickets all t (x ∷ rest) (m ∷ drop (i + 1) marks)
+told-next all t left rest x marks i m is at =
+    ap (λ (k : Live). told_tickets all t k (drop i marks)) is ∙ ap (λ (ms : List Bool). told_tickets all t (x ∷ rest) ms) (drop-one marks i m at)
+
+untold-next : (all : Bool) (t : ℕ) (left rest : Live) (x : ℕ × Event) (marks : List Bool) (i : ℕ) (m : Bool) → left ≡ x ∷ rest →
+    slice_get marks i ≡ Some m → untold all t left (drop i marks) ≡ untold all t (x ∷ rest) (m ∷ drop (i + 1) marks)
+untold-next all t left rest x marks i m is at =
+    ap (λ (k : Live). untold all t k (drop i marks)) is ∙ ap (λ (ms : List Bool). untold all t (x ∷ rest) ms) (drop-one marks i m at)
+
+tickets-more : (events : List PastEvent) (one : PastEvent) → tickets_of (events ++ one ∷ []) ≡ tickets_of events ++ one.ticket ∷ []
+tickets-more [] one = refl
+tickets-more (e ∷ events) one = ap (λ (ts : List ℕ). e.ticket ∷ ts) (tickets-more events one)
+
+every-more : (P : PastEvent → Type 0) (events : List PastEvent) (one : PastEvent) → Every P events → P one → Every P (events ++ one ∷ [])
+every-more P [] one e p = (p, tt)
+every-more P (x ∷ events) one e p = (e.0, every-more P events one e.1 p)
+
+-- the next is marked and told
+pub passed-told : (all : Bool) (l : Live) (t : ℕ) (marks : List Bool) (i : ℕ) (left rest : Live) (x : ℕ × Event) (events : List PastEvent)
+    (one : PastEvent) (n : ℕ) → Passed all l t marks i left events n → left ≡ x ∷ rest → slice_get marks i ≡ Some true →
+    is_told all t x.0 x.1 ≡ true → one.ticket ≡ x.0 → ListsLeads l x.0 one.follows → Passed all l t marks (i + 1) rest (events ++ one ∷ []) n
+passed-told all l t marks i left rest x events one n p is at told ticket leads =
+    let others : List ℕ = told_tickets all t rest (drop (i + 1) marks) in
+    let out : ℕ = untold all t rest (drop (i + 1) marks) in
+    let shown : told_tickets all t left (drop i marks) ≡ x.0 ∷ others =
+    told-next all t left rest x marks i true is at ∙ ap (λ (b : Bool). cond b (x.0 ∷ others) others) told in
+    let hidden : untold all t left (drop i marks) ≡ out =
+    untold-next all t left rest x marks i true is at ∙ ap (λ (b : Bool). cond b out (out + 1)) told in
+    let short : length left ≡ suc (length rest) = ap (λ (k : Live). length k) is in
+    let count = p.counted in
+    let few = p.few in
+    record {
+      counted = omega arith;
+      tickets = ap (λ (ts : List ℕ). ts ++ others) (tickets-more events one)
+          ∙ append_assoc (tickets_of events) (one.ticket ∷ []) others
+          ∙ ap (λ (u : ℕ). tickets_of events ++ u ∷ others) ticket
+          ∙ ap (λ (ts : List ℕ). tickets_of events ++ ts) (sym shown)
+          ∙ p.tickets;
+      direct = every-more (λ (q : PastEvent). ListsLeads l q.ticket q.follows) events one p.direct
+          (subst (λ (u : ℕ). ListsLeads l u one.follows) (sym ticket) leads);
+      left_out = ap (λ (u : ℕ). n + u) (sym hidden) ∙ p.left_out;
+      few = omega arith;
+    }
+
+-- the next is marked and not told
+pub passed-untold : (all : Bool) (l : Live) (t : ℕ) (marks : List Bool) (i : ℕ) (left rest : Live) (x : ℕ × Event) (events : List PastEvent)
+    (n : ℕ) → Passed all l t marks i left events n → left ≡ x ∷ rest → slice_get marks i ≡ Some true → is_told all t x.0 x.1 ≡ false →
+    Passed all l t marks (i + 1) rest events (n + 1)
+passed-untold all l t marks i left rest x events n p is at told =
+    let others : List ℕ = told_tickets all t rest (drop (i + 1) marks) in
+    let out : ℕ = untold all t rest (drop (i + 1) marks) in
+    let shown : told_tickets all t left (drop i marks) ≡ others =
+    told-next all t left rest x marks i true is at ∙ ap (λ (b : Bool). cond b (x.0 ∷ others) others) told in
+    let hidden : untold all t left (drop i marks) ≡ out + 1 =
+    untold-next all t left rest x marks i true is at ∙ ap (λ (b : Bool). cond b out (out + 1)) told in
+    let short : length left ≡ suc (length rest) = ap (λ (k : Live). length k) is in
+    let count = p.counted in
+    let sum = p.left_out in
+    let few = p.few in
+    record {
+      counted = omega arith;
+      tickets = ap (λ (ts : List ℕ). tickets_of events ++ ts) (sym shown) ∙ p.tickets;
+      direct = p.direct;
+      left_out = omega arith;
+      few = omega arith;
+    }
+
+-- the next is not marked
+pub passed-unmarked : (all : Bool) (l : Live) (t : ℕ) (marks : List Bool) (i : ℕ) (left rest : Live) (x : ℕ × Event) (events : List PastEvent)
+    (n : ℕ) → Passed all l t marks i left events n → left ≡ x ∷ rest → slice_get marks i ≡ Some false → Passed all l t marks (i + 1) rest events n
+passed-unmarked all l t marks i left rest x events n p is at =
+    let short : length left ≡ suc (length rest) = ap (λ (k : Live). length k) is in
+    let count = p.counted in
+    let few = p.few in
+    record {
+      counted = omega arith;
+      tickets = ap (λ (ts : List ℕ). tickets_of events ++ ts) (sym (told-next all t left rest x marks i false is at)) ∙ p.tickets;
+      direct = p.direct;
+      left_out = ap (λ (u : ℕ). n + u) (sym (untold-next all t left rest x marks i false is at)) ∙ p.left_out;
+      few = omega arith;
+    }
+
+-- none is left
+pub passed-all : (all : Bool) (l : Live) (t : ℕ) (marks : List Bool) (i : ℕ) (left : Live) (events : List PastEvent) (n : ℕ) →
+    Passed all l t marks i left events n → left ≡ [] → ListsMarked all l t marks (record { events = events; left_out = n })
+passed-all all l t marks i left events n p none =
+    let shown : tickets_of events ++ [] ≡ told_tickets all t l marks =
+    subst (λ (k : Live). tickets_of events ++ told_tickets all t k (drop i marks) ≡ told_tickets all t l marks) none p.tickets in
+    let sum : n + 0 ≡ untold all t l marks =
+    subst (λ (k : Live). n + untold all t k (drop i marks) ≡ untold all t l marks) none p.left_out in
+    record {
+      tickets = sym (append-nil (tickets_of events)) ∙ shown;
+      direct = p.direct;
+      left_out = omega arith;
+    }

@@ -27,10 +27,10 @@ pub(crate) fn list_marked(
 {
     let mut events = Items::new(alloc);
     let mut left_out = 0;
-    for (index, entry) in live.as_slice().iter().enumerate() {
+    for (index, (ticket, event)) in live.iter().enumerate() {
         if marks[index] {
-            if is_told(all, asked, entry.0, entry.1.get()) {
-                events.push(past_event(alloc, live, entry.0)?)?;
+            if is_told(all, asked, ticket, event) {
+                events.push(past_event(alloc, live, ticket)?)?;
             } else {
                 left_out += 1;
             }

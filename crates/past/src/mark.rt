@@ -1,5 +1,5 @@
 // Marks on the live events that an event depends on: one sweep down, from the event to the first.
-ghost use Rattle.std.specs.Prelude.{◌≡◌, ◌⊎◌, ◌↔◌, ℕ, length, true, Some, slice_get, IfOk};
+ghost use Rattle.std.specs.Prelude.{◌≡◌, ◌<◌, ◌⊎◌, ◌↔◌, ℕ, length, true, Some, slice_get, IfOk};
 ghost use Rattle.syntax.specs.Lists.{In};
 ghost use Rattle.runs.specs.Live.{IsLive};
 ghost use Rattle.dependence.specs.internal.Marking.{MarkedAt};
@@ -42,7 +42,7 @@ fn mark_down(live: &Live, marks: &mut [bool], ticket: u64)
     while index > 0 {
         index -= 1;
         if marks[index] {
-            mark_all(live, marks, live.leads(live.as_slice()[index].0));
+            mark_all(live, marks, live.leads(ticket_at(live, index)));
         }
     }
 }
@@ -57,6 +57,17 @@ fn mark_all(live: &Live, marks: &mut [bool], tickets: &[u64])
     for ticket in tickets {
         let index = index_of_live(live, *ticket);
         marks[index] = true;
+    }
+}
+
+/// The ticket of the live event at this index.
+fn ticket_at(live: &Live, index: usize) -> u64
+    requires { index < length live.now.live }
+    ensures { StandsAt live.now.live result index }
+{
+    match live.pair_at(index as u64) {
+        Some((ticket, _)) => ticket,
+        None => unreachable!(),
     }
 }
 

@@ -44,19 +44,18 @@ fn write_events(
 {
     let mut values = zeros(alloc, checked.system())?;
     let mut next = 0;
-    for entry in live.as_slice() {
-        let event = entry.1.get();
+    for (ticket, event) in live.iter() {
         let told_next = told_at(told, next);
         write_if(
             out,
             checked,
             live,
-            entry.0,
+            ticket,
             event,
             told_next,
             values.as_slice(),
         )?;
-        if is_told_at(told_next, entry.0) {
+        if is_told_at(told_next, ticket) {
             next += 1;
         }
         note(values.as_mut_slice(), event);

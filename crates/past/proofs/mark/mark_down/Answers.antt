@@ -20,14 +20,13 @@ loop-index-init c =
           (marked-first 0 c.is_sound.ensures.rising.0 l c.args.marks.now c.args.ticket first at.0 c.is_sound.ensures.rising.1 c.requires.size at.1 c.requires.none);
     }
 
+pub ticket_at-requires : goal.ticket_at-requires
+ticket_at-requires c = let upto = c.loop-index.invariant.within in omega arith
+
 pub leads-requires : goal.leads-requires
 leads-requires c =
-    let l : Live = c.args.live.now.live in
-    let p : ℕ = c.loop-index.index - 1 in
-    let upto = c.loop-index.invariant.within in
-    let less : p < length l = omega arith in
-    let h = read-at l c.as_slice.result.now p c.index-as_slice-index.result c.as_slice.ensures less in
-    (h.0, in-at l p _ h.1)
+    let h = c.ticket_at.ensures in
+    (h.0, in-at c.args.live.now.live (c.loop-index.index - 1) _ h.1)
 
 pub mark_all-requires-clause-live : goal.mark_all-requires-clause-live
 mark_all-requires-clause-live c = λ t i. let f = (c.leads.ensures.exactly t).0 i in (f.dependent.event, f.dependent.live)
@@ -39,7 +38,7 @@ loop-index-preserved-then-marks-index c =
     let upto = c.loop-index.invariant.within in
     let less : p < length l = omega arith in
     let back : c.loop-index.index ≡ suc p = omega arith in
-    let h = read-at l c.as_slice.result.now p c.index-as_slice-index.result c.as_slice.ensures less in
+    let h = c.ticket_at.ensures in
     let size : length c.loop-index.marks ≡ length l = omega (arith, length-set {A = Bool}) in
     let within : p < length c.loop-index.marks = omega arith in
     let on = slice_get-get_or c.loop-index.marks p _ within ∙ ap (λ (b : Bool). Some b) c.if-marks-index.true in
