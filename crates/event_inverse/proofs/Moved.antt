@@ -11,7 +11,7 @@ use Rattle.runs.specs.declared.event.Event.{Event}
 use Rattle.runs.proofs.public.Options.{some-injective}
 use Rattle.process_tree.specs.Proc.{Proc}
 use Rattle.process_tree.specs.Advanced.{Moved, advanced}
-use Rattle.process_tree.specs.internal.Retreated.{retreated}
+use Rattle.process_tree.specs.Retreated.{retreated}
 use Rattle.process_tree.proofs.public.Back.{back}
 use Rattle.process_tree.proofs.public.Steps.{is-some}
 use Rattle.event_inverse.specs.Grown.{TreeAndStore, Taken, all_advanced, after_moves, applied}

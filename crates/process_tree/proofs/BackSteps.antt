@@ -8,7 +8,7 @@ use Rattle.process_tree.specs.Proc.{Proc, once, Procs, no_procs, proc, sequence,
 use Rattle.process_tree.specs.View.{proc_view, begun_of}
 use Rattle.process_tree.specs.declared.proc.Proc as made
 use Rattle.process_tree.specs.Children.{proc_at, with_proc, BackChild}
-use Rattle.process_tree.specs.internal.Retreated.{retreated, retreated_sequence, retreated_parallel}
+use Rattle.process_tree.specs.Retreated.{retreated, retreated_sequence, retreated_parallel}
 use Rattle.process_tree.specs.internal.Steps.{ordered_step, branch_step}
 use Rattle.process_tree.proofs.public.Asking.{cond-elim, here-elim, map-elim}
 use Rattle.process_tree.proofs.Children.{back-in-sequence, back-in-parallel, from-0}

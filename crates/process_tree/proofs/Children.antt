@@ -8,7 +8,7 @@ use Rattle.process_tree.specs.Proc.{Proc, Procs, no_procs, proc, finished}
 use Rattle.runs.specs.ByPlace.{if_child}
 use Rattle.process_tree.specs.Places.{wrap}
 use Rattle.process_tree.specs.Advanced.{MovedIn, advanced, advanced_sequence, advanced_parallel}
-use Rattle.process_tree.specs.internal.Retreated.{retreated, retreated_sequence, retreated_parallel}
+use Rattle.process_tree.specs.Retreated.{retreated, retreated_sequence, retreated_parallel}
 use Rattle.process_tree.specs.Children.{proc_at, MovedChild, BackChild}
 use Rattle.process_tree.proofs.public.Asking.{some-elim, cond-elim, wrap-elim, map-elim}
 use Rattle.process_tree.proofs.public.Swap.{sequence-behind}

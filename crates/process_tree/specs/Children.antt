@@ -6,7 +6,7 @@ use Rattle.runs.specs.Moves.{Place}
 use Rattle.runs.specs.declared.ask.Ask.{Ask}
 use Rattle.process_tree.specs.Proc.{Proc, Procs, no_procs, proc, finished}
 use Rattle.process_tree.specs.Advanced.{Moved, MovedIn, advanced, advanced_sequence, advanced_parallel}
-use Rattle.process_tree.specs.internal.Retreated.{retreated, retreated_sequence, retreated_parallel}
+use Rattle.process_tree.specs.Retreated.{retreated, retreated_sequence, retreated_parallel}
 
 -- the process of this number, if there are so many
 abbrev pub proc_at : Procs → ℕ → Option Proc

@@ -12,7 +12,7 @@ use Rattle.runs.specs.WellFormed.{WellFormed}
 use Rattle.process_tree.specs.Code.{Code}
 use Rattle.process_tree.specs.Proc.{Proc, started, finished}
 use Rattle.process_tree.specs.Advanced.{Moved, advanced}
-use Rattle.process_tree.specs.internal.Retreated.{retreated}
+use Rattle.process_tree.specs.Retreated.{retreated}
 use Rattle.process_tree.specs.Remaining.{Received, puts, residual, remaining}
 use Rattle.process_tree.specs.Translation.{code_of, system_code}
 
@@ -45,6 +45,11 @@ abbrev pub MadeAreOffered : Type 0
 MadeAreOffered =
     (p : Proc) (env : Received) (a : Place) (k : Ask) (x : Moved) → advanced p a k ≡ Some x →
     (m : Move) × Local (remaining env p) a m (remaining env x.0) × (ask_of m ≡ k)
+
+-- p becomes q by a local move that what is left of p offers at the place, whatever was received around it; it answers to
+-- what was asked
+abbrev pub ByLocalMove : Proc → Place → Ask → Proc → Type 0
+ByLocalMove p a k q = (env : Received) → (m : Move) × Local (remaining env p) a m (remaining env q) × (ask_of m ≡ k)
 
 -- a move taken back, with what it took out, gives the same process, finished processes included
 abbrev pub MovesGoBack : Type 0

@@ -2,9 +2,11 @@ pub mod Advanced
 pub mod Children
 pub mod Code
 pub mod Laws
+pub mod Offers
 pub mod Places
 pub mod Proc
 pub mod Remaining
+pub mod Retreated
 pub mod Tidy
 pub mod Translation
 pub mod View

@@ -1,5 +1,5 @@
 pub mod Arms
+pub mod Listed
 pub mod Parts
 pub mod Received
-pub mod Retreated
 pub mod Steps

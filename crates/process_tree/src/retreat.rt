@@ -4,7 +4,7 @@ ghost use Rattle.process_tree.specs.Code.{Sender, Code};
 ghost use Rattle.process_tree.specs.Proc.{sender, drained, fresh, untested, took, unopened, sequence, parallel};
 ghost use Rattle.process_tree.specs.View.{repeat_view, decide_view, await_view, row_view, phase_view, proc_view, turn_of, opened_of, out_view, procs_of, begun_of};
 ghost use Rattle.process_tree.specs.internal.Parts.{turns_view, tested_view, gate_view};
-ghost use Rattle.process_tree.specs.internal.Retreated.{retreated, before_turn};
+ghost use Rattle.process_tree.specs.Retreated.{retreated, before_turn};
 ghost use Rattle.process_tree.specs.Proc as model;
 ghost use Rattle.system.specs.Expression.{Expression};
 

@@ -39,6 +39,8 @@ mod numbered;
 #[cfg(test)]
 mod numbers;
 #[cfg(test)]
+mod offers;
+#[cfg(test)]
 mod one;
 #[cfg(test)]
 mod own_devices;

@@ -13,7 +13,7 @@ use Rattle.runs.proofs.public.Options.{and_then-at}
 use Rattle.process_tree.specs.Proc.{Proc}
 use Rattle.process_tree.specs.Remaining.{remaining}
 use Rattle.process_tree.specs.Advanced.{Moved, advanced}
-use Rattle.process_tree.specs.internal.Retreated.{retreated}
+use Rattle.process_tree.specs.Retreated.{retreated}
 use Rattle.process_tree.proofs.public.Asking.{some-elim, map-elim, then-elim}
 use Rattle.process_tree.proofs.public.Simulation.{does}
 use Rattle.process_tree.proofs.public.Back.{back}

@@ -7,7 +7,7 @@ use Rattle.runs.specs.declared.ask.Ask.{Ask}
 use Rattle.runs.specs.Asking.{asked}
 use Rattle.runs.specs.declared.event.Event.{Event}
 use Rattle.process_tree.specs.Proc.{Proc}
-use Rattle.process_tree.specs.internal.Retreated.{retreated}
+use Rattle.process_tree.specs.Retreated.{retreated}
 use Rattle.event_inverse.specs.Grown.{all_advanced}
 use Rattle.event_inverse.specs.internal.Reverted.{all_retreated}
 use Rattle.event_inverse.specs.declared.asks.Asks.{Asks}

@@ -10,7 +10,7 @@ use Rattle.runs.specs.declared.ask.Ask.{Ask}
 use Rattle.runs.specs.Asking.{asked}
 use Rattle.runs.specs.declared.event.Event.{Event}
 use Rattle.process_tree.specs.Proc.{Proc}
-use Rattle.process_tree.specs.internal.Retreated.{retreated}
+use Rattle.process_tree.specs.Retreated.{retreated}
 use Rattle.event_inverse.specs.Grown.{TreeAndStore, Taken}
 
 -- the process before the moves, which took these out, one a move: the last is taken back first

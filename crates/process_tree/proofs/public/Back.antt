@@ -12,7 +12,7 @@ use Rattle.process_tree.specs.Proc.{waiting, holding, past, Proc, idle, stopped,
 use Rattle.runs.specs.ByPlace.{if_act, if_child}
 use Rattle.process_tree.specs.Places.{if_child_or, wrap}
 use Rattle.process_tree.specs.Advanced.{Moved, MovedIn, once_after, sender_after, holding_after, again_after, test_after, open_on, open_after, close_after, drain_after, advanced, advanced_sequence, advanced_parallel}
-use Rattle.process_tree.specs.internal.Retreated.{before_turn, before_drain, retreated, retreated_sequence, retreated_parallel}
+use Rattle.process_tree.specs.Retreated.{before_turn, before_drain, retreated, retreated_sequence, retreated_parallel}
 use Rattle.process_tree.proofs.public.Asking.{some-elim, cond-elim, here-elim, act-elim, child-elim, branch-elim, wrap-elim, act-at, child-at, child_or-at, child_or-other, branch-at}
 
 -- what makes one move

@@ -11,4 +11,4 @@ retreat-requires c =
 pub returns-in-Err-advance-clause-without_memory : goal.returns-in-Err-advance-clause-without_memory
 returns-in-Err-advance-clause-without_memory c =
     goes-back (tree_view c.args.tree.now) c.args.first.now c.args.first_ask (tree_view c.advance.new.self, out_view c.in-Ok.out)
-    (tree_view c.advance-in-Ok.new.self) (tree_view c.retreat.new.self) c.in-Ok.ensures.made c.in-Err-advance.ensures.without_memory c.retreat.ensures
+    (tree_view c.advance-in-Ok.new.self) (tree_view c.retreat.new.self) c.in-Ok.ensures.made c.in-Err-advance.ensures.without_memory c.retreat.ensures.back

@@ -2,7 +2,7 @@
 use Rattle.std.proofs.Common.{◌<◌, ◌≤◌, Some, option_map, length, map, refl, ◌∙◌, sym, ap, arith}
 use Rattle.process_tree.specs.Proc.{sequence, parallel}
 use Rattle.process_tree.specs.View.{row_view, proc_view, out_view, procs_of, begun_of}
-use Rattle.process_tree.specs.internal.Retreated.{retreated_sequence, retreated_parallel}
+use Rattle.process_tree.specs.Retreated.{retreated_sequence, retreated_parallel}
 use Rattle.process_tree.proofs.BackSteps.{parallel-back-somewhere, parallel-back, sequence-back-somewhere, sequence-back, back-asked, back-moved, unbegun-stays}
 use Rattle.process_tree.proofs.public.Steps.{none-is, branch-at, branch-set, branch-within, begun-at, begun-set}
 use Rattle.process_tree.proofs.retreat.+retreat.Goals as goal

@@ -1,5 +1,5 @@
 -- A move taken back on the tree: the process before it, with what it took out put back.
--- No reader has to believe it: the law `moves_go_back` says that it gives what `Advanced.antt` began with.
+-- The law `moves_go_back` says that it gives what `Advanced.antt` began with.
 use Rattle.std.specs.Prelude.{ℕ, zero, suc, ◌+◌, ◌*◌, false, Option, Some, None, option_map}
 use Rattle.system.specs.Expression.{Expression}
 use Rattle.runs.specs.Moves.{Place}

@@ -1,0 +1,94 @@
+-- What is listed of processes.
+use Rattle.std.proofs.Common.{◌≡◌, ◌+◌, ◌&&◌, min, length, map, drop, refl, sym, ap, ◌∙◌, arith, rules}
+use Rattle.std.proofs.lemmas.Result.{IfOk-weaker, on_ok_weaker}
+use Rattle.process_tree.specs.Proc.{all_started}
+use Rattle.process_tree.specs.Translation.{row_of}
+use Rattle.process_tree.specs.View.{code_view, proc_view, procs_of, repeat_view, decide_view, await_view}
+use Rattle.process_tree.specs.declared.finder.Finder.{Finder}
+use Rattle.process_tree.specs.internal.Listed.{Listing, again_at, listed_sequence, listed_parallel, added}
+use Rattle.process_tree.proofs.OneByOne.{begun-row, row-at, row-past}
+use Rattle.process_tree.proofs.Passing.{onwards, at-work, beside, one-open, one-over, proc-next, taken-offers, opened-over, turn-again, arm-close, repeat-guard}
+use Rattle.process_tree.proofs.list.+list.Goals as goal
+use Rattle.process_tree.proofs.list.+list.Goals.{list_parallel-then-not-branch, list_parallel-else-not-branch}
+
+pub list_parallel-loop-number-preserved : goal.list_parallel-loop-number-preserved
+list_parallel-loop-number-preserved t c =
+    let over : c.if-not-branch.over ≡ (c.loop-number.over && c.in_ok-list_branch.field-0) =
+    elim c.if-not-branch.branch [
+      | list_parallel-then-not-branch w ↦ one-open c.loop-number.over c.in_ok-list_branch.field-0 c.if-not-branch.over (first_of (cc, search rules)) w.over-is
+      | list_parallel-else-not-branch w ↦ one-over c.loop-number.over c.in_ok-list_branch.field-0 c.if-not-branch.over (first_of (cc, search rules)) w.over-is
+    ] in
+    beside c.args.finder.now c.loop-number.finder c.list_branch.new.finder c.loop-number.over c.if-not-branch.over c.in_ok-list_branch.field-0
+    c.loop-number.number (c.loop-number.number + 1) (proc_view c.index-procs-number.result) (procs_of (map proc_view (drop c.loop-number.number c.args.procs.now)))
+    (procs_of (map proc_view (drop (c.loop-number.number + 1) c.args.procs.now))) (listed_parallel 0 (procs_of (map proc_view c.args.procs.now)))
+    c.loop-number.invariant refl (proc-next c.args.procs.now c.loop-number.number c.index-procs-number.result (omega arith) c.index-procs-number.is)
+    c.in_ok-list_branch.ensures.offers c.in_ok-list_branch.ensures.over over
+
+pub list_sequence-returns-then-not-branch-clause-offers : goal.list_sequence-returns-then-not-branch-clause-offers
+list_sequence-returns-then-not-branch-clause-offers t c =
+    let e : c.min-end.result ≡ min (length c.args.begun.now) (length c.args.row.now.codes) = first_of (omega arith, cc, search rules) in
+    (at-work c.args.finder.now c.children.finder c.list_child.new.finder c.children.number 0 (begun-row c.args.begun.now c.args.row.now)
+    (proc_view c.index-begun-number.result) c.in_ok-list_child.field-0 c.children.invariant.0 c.children.invariant.1
+    (row-at c.args.begun.now c.args.row.now c.children.number c.index-begun-number.result (omega (arith, e)) (omega (arith, e)) c.index-begun-number.is)
+    c.in_ok-list_child.ensures.offers c.in_ok-list_child.ensures.over (first_of (cc, search rules))).offers
+
+pub list_sequence-returns-then-not-branch-clause-over : goal.list_sequence-returns-then-not-branch-clause-over
+list_sequence-returns-then-not-branch-clause-over t c =
+    let e : c.min-end.result ≡ min (length c.args.begun.now) (length c.args.row.now.codes) = first_of (omega arith, cc, search rules) in
+    (at-work c.args.finder.now c.children.finder c.list_child.new.finder c.children.number 0 (begun-row c.args.begun.now c.args.row.now)
+    (proc_view c.index-begun-number.result) c.in_ok-list_child.field-0 c.children.invariant.0 c.children.invariant.1
+    (row-at c.args.begun.now c.args.row.now c.children.number c.index-begun-number.result (omega (arith, e)) (omega (arith, e)) c.index-begun-number.is)
+    c.in_ok-list_child.ensures.offers c.in_ok-list_child.ensures.over (first_of (cc, search rules))).over
+
+pub list_sequence-children-preserved : goal.list_sequence-children-preserved
+list_sequence-children-preserved t c =
+    let e : c.min-end.result ≡ min (length c.args.begun.now) (length c.args.row.now.codes) = first_of (omega arith, cc, search rules) in
+    let next = onwards c.args.finder.now c.children.finder c.list_child.new.finder c.children.number (c.children.number + 1)
+    0 (begun-row c.args.begun.now c.args.row.now)
+    (proc_view c.index-begun-number.result) c.in_ok-list_child.field-0 c.children.invariant.0 c.children.invariant.1
+    (row-at c.args.begun.now c.args.row.now c.children.number c.index-begun-number.result (omega (arith, e)) (omega (arith, e)) c.index-begun-number.is)
+    c.in_ok-list_child.ensures.offers c.in_ok-list_child.ensures.over (first_of (cc, search rules)) (omega arith) in
+    (next.as_it_was, next.rest)
+
+pub list_sequence-returns-clause-offers : goal.list_sequence-returns-clause-offers
+list_sequence-returns-clause-offers t c =
+    let e : c.min-end.result ≡ min (length c.args.begun.now) (length c.args.row.now.codes) = first_of (omega arith, cc, search rules) in
+    let codes = ap (λ cs. all_started (row_of (map code_view cs))) c.as_slice.ensures in
+    on_ok_weaker c.list_fresh_from.result (λ h. h
+    ∙ ap (λ ps. added (listed_sequence c.children.number 0 ps).offers c.children.finder) codes
+    ∙ ap (λ (w : Finder). added (listed_sequence c.children.number 0 (all_started (row_of (map code_view c.args.row.now.codes)))).offers w) c.children.invariant.0
+    ∙ ap (λ (l : Listing). added l.offers c.args.finder.now)
+    (sym (row-past c.args.begun.now c.args.row.now c.children.number (omega (arith, e))) ∙ c.children.invariant.1)) c.list_fresh_from.ensures.offers
+
+pub list_sequence-returns-clause-over : goal.list_sequence-returns-clause-over
+list_sequence-returns-clause-over t c =
+    let e : c.min-end.result ≡ min (length c.args.begun.now) (length c.args.row.now.codes) = first_of (omega arith, cc, search rules) in
+    let codes = ap (λ cs. all_started (row_of (map code_view cs))) c.as_slice.ensures in
+    IfOk-weaker c.list_fresh_from.result _ _ (λ over h. h
+    ∙ ap (λ ps. (listed_sequence c.children.number 0 ps).over) codes
+    ∙ ap (λ (l : Listing). l.over)
+    (sym (row-past c.args.begun.now c.args.row.now c.children.number (omega (arith, e))) ∙ c.children.invariant.1)) c.list_fresh_from.ensures.over
+
+pub list_tested-returns-in-Took-clause-offers : goal.list_tested-returns-in-Took-clause-offers
+list_tested-returns-in-Took-clause-offers t c =
+    on_ok_weaker c.list_child.result (λ h. taken-offers (decide_view c.args.decide.now).0 (decide_view c.args.decide.now).1 _ c.args.tested.now c.in-Took.body c.deref.result.now
+    c.args.finder.now c.list_child.new.finder c.in-Took.is c.deref.ensures h) c.list_child.ensures.offers
+
+pub list_gate-returns-in-Opened-clause-over : goal.list_gate-returns-in-Opened-clause-over
+list_gate-returns-in-Opened-clause-over t c =
+    IfOk-weaker c.list_opened.result _ _ (λ o h. opened-over (await_view c.args.waiting.now).0 (await_view c.args.waiting.now).1 c.in-Opened.channel c.in-Opened.value
+    c.in-Opened.over o c.args.gate.now c.in-Opened.body c.deref.result.now c.in-Opened.is c.deref.ensures h)
+    (c.list_opened.ensures.over (await_view c.args.waiting.now).0 (await_view c.args.waiting.now).1)
+
+pub list_turn-returns-in_ok-list_again-clause-offers : goal.list_turn-returns-in_ok-list_again-clause-offers
+list_turn-returns-in_ok-list_again-clause-offers t c =
+    turn-again c.args.finder.now c.list_child.new.finder c.list_again.new.finder c.args.turn c.in_ok-next.next c.in_ok-body_of_turn.field-0
+    (repeat_view c.args.repeat.now).0 (repeat_view c.args.repeat.now).1 (proc_view c.args.body.now) c.args.over c.in_ok-list_child.field-0 c.if-over.false
+    c.in_ok-list_child.ensures.offers c.in_ok-body_of_turn.ensures.number c.in_ok-list_child.ensures.over c.if-branch.true
+    (c.in_ok-list_again.ensures ∙ ap (λ g. added (again_at c.in_ok-next.next g) c.list_child.new.finder) (sym (repeat-guard c.args.repeat.now)))
+    c.in_ok-next.ensures.next
+
+pub list_opened-returns-in_ok-list_close-clause-offers : goal.list_opened-returns-in_ok-list_close-clause-offers
+list_opened-returns-in_ok-list_close-clause-offers t c = λ ds cs.
+    arm-close c.args.finder.now c.list_child.new.finder c.list_close.new.finder ds cs c.args.channel c.args.value (proc_view c.args.body.now) c.args.over
+    c.in_ok-list_child.field-0 c.if-over.false c.in_ok-list_child.ensures.offers c.in_ok-list_child.ensures.over c.if-branch.true c.in_ok-list_close.ensures
