@@ -21,7 +21,8 @@ use Rattle.runs.proofs.public.Kept.{branches-place}
 use Rattle.runs.proofs.public.Lists.{every-in, every-of, in-parts}
 use Rattle.runs.proofs.public.Options.{some-injective}
 use Rattle.local_actions.specs.Actions.{Offered, NotBehind}
-use Rattle.local_actions.specs.internal.Listed.{action_at, behind, open_actions, actions_of_residual}
+use Rattle.local_actions.specs.Walk.{action_at}
+use Rattle.local_actions.specs.internal.Listed.{behind, open_actions, actions_of_residual}
 use Rattle.local_actions.specs.declared.action.LocalAction.{LocalAction}
 use Rattle.local_actions.specs.declared.action.ActionKind.TheVariants.{Opens}
 use Rattle.local_actions.proofs.public.Exactly.{behind-in, exactly, sound}
