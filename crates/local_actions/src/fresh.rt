@@ -17,7 +17,7 @@ use value::Value;
 /// Lists what the command offers before its first move. Whether it has nothing to do; then nothing is listed.
 /// It is an error if there is no memory; some may be listed then.
 #[cycle(list_fresh)]
-fn list_fresh(
+pub(crate) fn list_fresh(
     alloc: Global,
     code: &Code,
     values: &[Value],
