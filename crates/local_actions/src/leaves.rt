@@ -227,7 +227,11 @@ fn add_test(
 }
 
 /// Lists arms that wait on these channels. It is an error if there is no memory; some may be listed then.
-pub(crate) fn list_arms(alloc: Global, channels: &[u32], cursor: &mut Cursor) -> Result<(), AllocError>
+pub(crate) fn list_arms(
+    alloc: Global,
+    channels: &[u32],
+    cursor: &mut Cursor,
+) -> Result<(), AllocError>
     ensures { OnOk result (cursor.new ≡ added (open_actions 0 channels.now) cursor.old) }
 {
     for (arm, channel) in channels.iter().enumerate() {
