@@ -47,15 +47,15 @@ abbrev pub NotBehind : LocalAction → LocalAction → Type 0
 NotBehind x y = order_of x.place y.place ≡ Greater → ⊥
 
 -- the arm that opens, and 0 of what opens none
-abbrev pub arm_of : ActionKind → ℕ
-arm_of (Opens c k) = k
-arm_of action = 0
+abbrev pub opened_arm : ActionKind → ℕ
+opened_arm (Opens c k) = k
+opened_arm action = 0
 
 -- x stands before y: at a lesser place, or at the same one with a lesser arm; so none precedes itself, and in a list in
 -- this order each stands once
 abbrev pub Precedes : LocalAction → LocalAction → Type 0
 Precedes x y =
-    (order_of x.place y.place ≡ Less) ⊎ ((x.place ≡ y.place) × (arm_of x.action < arm_of y.action))
+    (order_of x.place y.place ≡ Less) ⊎ ((x.place ≡ y.place) × (opened_arm x.action < opened_arm y.action))
 
 -- the state is one of runs, as far as its places go, and offers exactly these actions
 pub record OffersExactly (S : State) (actions : List LocalAction) : Type 0 where
