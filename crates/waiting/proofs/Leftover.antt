@@ -14,10 +14,10 @@ use Rattle.local_actions.specs.Actions.{OffersExactly, NotBehind}
 use Rattle.local_actions.specs.declared.action.LocalAction.{LocalAction}
 use Rattle.local_actions.proofs.public.PlacedActions.{place-true, place-itself}
 use Rattle.waiting.specs.Waits.{Waits, ListsWaiting}
-use Rattle.waiting.specs.Progress.{is_outlet, NoneAllowed, StandsLike}
+use Rattle.waiting.specs.Progress.{is_idle, NoneAllowed, StandsLike}
 use Rattle.waiting.specs.internal.Repeats.{each_once}
 use Rattle.waiting.proofs.Repeated.{waits-once}
-use Rattle.waiting.specs.internal.Among.{is_second, has_place, has_any, left_over, all_outlets, at_rest, progress_of}
+use Rattle.waiting.specs.internal.Among.{is_second, has_place, has_any, left_over, all_idle, at_rest, progress_of}
 
 or-parts : (a b : Bool) → (a || b) ≡ true → (a ≡ true) ⊎ (b ≡ true)
 or-parts true b h = inl refl
@@ -131,26 +131,26 @@ lists-waiting S xs es offers order ready =
     waits-once S (left_over es xs) offers.formed (waits-exactly S xs es offers ready) (left-order es xs order)
 
 -- ---- how a state stands
-each-outlet : (xs : List LocalAction) (x : LocalAction) → all_outlets xs ≡ true → In x xs → is_outlet x.action ≡ true
-each-outlet [] x h i = absurd i
-each-outlet (y ∷ xs) x h (inl is) = ap (λ (z : LocalAction). is_outlet z.action) is ∙ (and_parts (is_outlet y.action) (all_outlets xs) h).0
-each-outlet (y ∷ xs) x h (inr i) = each-outlet xs x (and_parts (is_outlet y.action) (all_outlets xs) h).1 i
+each-idle : (xs : List LocalAction) (x : LocalAction) → all_idle xs ≡ true → In x xs → is_idle x ≡ true
+each-idle [] x h i = absurd i
+each-idle (y ∷ xs) x h (inl is) = ap (λ (z : LocalAction). is_idle z) is ∙ (and_parts (is_idle y) (all_idle xs) h).0
+each-idle (y ∷ xs) x h (inr i) = each-idle xs x (and_parts (is_idle y) (all_idle xs) h).1 i
 
 and-false : (a b : Bool) → (a && b) ≡ false → (a ≡ false) ⊎ (b ≡ false)
 and-false true b h = inr h
 and-false false b h = inl refl
 
-some-other : (xs : List LocalAction) → all_outlets xs ≡ false → (x : LocalAction) × In x xs × (is_outlet x.action ≡ false)
+some-other : (xs : List LocalAction) → all_idle xs ≡ false → (x : LocalAction) × In x xs × (is_idle x ≡ false)
 some-other [] h = cc
-some-other (y ∷ xs) h = elim (and-false (is_outlet y.action) (all_outlets xs) h) [
+some-other (y ∷ xs) h = elim (and-false (is_idle y) (all_idle xs) h) [
   | inl here ↦ (y, inl refl, here)
   | inr later ↦ let rest = some-other xs later in (rest.0, inr rest.1, rest.2)
 ]
 
-rests : (S : State) (xs : List LocalAction) (b : Bool) → all_outlets xs ≡ b → OffersExactly S xs → NoneAllowed S → StandsLike S (at_rest b)
-rests S xs true h offers none = (none, λ x o. each-outlet xs x h ((offers.exactly x).1 o))
+rests : (S : State) (xs : List LocalAction) (b : Bool) → all_idle xs ≡ b → OffersExactly S xs → NoneAllowed S → StandsLike S (at_rest b)
+rests S xs true h offers none = (none, λ x o. each-idle xs x h ((offers.exactly x).1 o))
 rests S xs false h offers none = let found = some-other xs h in (none, (found.0, (offers.exactly found.0).0 found.1, found.2))
 
 pub stands-like : (S : State) (xs : List LocalAction) (es : List Event) → OffersExactly S xs → ReadyList S es → StandsLike S (progress_of xs es)
-stands-like S xs [] offers ready = rests S xs (all_outlets xs) refl offers (λ e a. (ready.exactly e).1 a)
+stands-like S xs [] offers ready = rests S xs (all_idle xs) refl offers (λ e a. (ready.exactly e).1 a)
 stands-like S xs (e ∷ es) offers ready = (e, (ready.exactly e).0 (inl refl))
