@@ -1,5 +1,5 @@
 -- Pictures of equal runs show the same.
-use Rattle.std.proofs.Common.{◌≡◌, inl, inr, ℕ, zero, suc, ◌+◌, ◌||◌, ◌&&◌, Bool, List, [], ◌∷◌, Option, None, Some, refl, sym, ◌∙◌, ap, ap₂, subst, arith}
+use Rattle.std.proofs.Common.{◌≡◌, inl, inr, ℕ, zero, suc, ◌+◌, ◌||◌, ◌&&◌, Bool, List, [], ◌∷◌, Option, None, Some, refl, sym, ◌∙◌, ap, subst, arith}
 use Rattle.std.specs.Prelude.{IfSome, is_some, slice_get, slice_index}
 use Rattle.syntax.specs.Lists.{In}
 use Rattle.sharing_check.specs.declared.checked.Checked.{Checked}
