@@ -1,6 +1,6 @@
 mod Leftover
 mod Remade
-mod Repeated
+mod InOneOrder
 mod RingOfState
 mod HelpsEach
 mod HeldPlaces

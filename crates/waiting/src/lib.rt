@@ -5,7 +5,6 @@
 mod actions;
 mod input;
 mod laws;
-mod once;
 mod places;
 mod progress;
 mod replay;

@@ -12,7 +12,6 @@ ghost use Rattle.waiting.specs.Told.{TellsWaits};
 
 use crate::actions::left_over;
 use crate::input::helped_among;
-use crate::once::each_once;
 use crate::places::Places;
 use crate::progress::{Progress, progress_of};
 use crate::replay::made_again;
@@ -54,7 +53,7 @@ pub fn who_waits(alloc: Global, machine: &Machine) -> Result<Waiting, AllocError
     let ready = ready_events(machine)?;
     let progress = progress_of(actions.as_slice(), ready.as_slice());
     let places = Places::of(alloc, ready.as_slice())?;
-    let actions = each_once(alloc, left_over(actions, &places))?;
+    let actions = left_over(actions, &places);
     let partners = partners_of(alloc, &state.tree, actions.as_slice())?;
     let deadlocked = deadlocked_of(alloc, machine, actions.as_slice(), partners.as_slice())?;
     let ring = ring_among(
