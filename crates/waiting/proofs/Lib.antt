@@ -1,5 +1,4 @@
 mod Leftover
-mod Remade
 mod InOneOrder
 mod RingOfState
 mod HelpsEach

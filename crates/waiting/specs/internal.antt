@@ -1,4 +1,3 @@
 pub mod Among
 pub mod Held
 pub mod Helps
-pub mod Replayed

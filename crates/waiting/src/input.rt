@@ -141,8 +141,7 @@ fn is_starved(machine: &Machine, offered: &LocalAction, partner: Option<&Partner
 fn takes_input(machine: &Machine, offered: &LocalAction) -> bool
     ensures { result ≡ model.takes_input machine.now offered.now }
 {
-    is_in_body(&offered.place)
-        && fed_channel(machine.checked().system(), &offered.action).is_some()
+    is_in_body(&offered.place) && fed_channel(machine.checked().system(), &offered.action).is_some()
 }
 
 /// The channel on which the action takes what the environment has a number of, if it is one.

@@ -7,7 +7,6 @@ mod input;
 mod laws;
 mod places;
 mod progress;
-mod replay;
 mod text;
 mod waiting;
 

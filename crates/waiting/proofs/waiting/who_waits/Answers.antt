@@ -21,8 +21,8 @@ use Rattle.waiting.proofs.waiting.who_waits.Goals as goal
 
 pub returns : goal.returns
 returns c =
-    let S : State = state_of c.in_ok-state.state.tree c.in_ok-state.state.store in
-    let stands = c.in_ok-state.ensures in
+    let S : State = state_of c.state.result.0.now c.state.result.1.now in
+    let stands = c.state.ensures in
     let actions : List LocalAction = c.in_ok-actions.actions in
     let events : List Event = c.in_ok-ready.ready in
     let exact : OffersExactly S actions = c.in_ok-actions.ensures.exactly stands.tidy in
@@ -41,7 +41,7 @@ returns c =
     let offered : (x : LocalAction) → In x c.as_slice-4.result.now → Offered S x =
     λ x i. ((waits.exactly x).0 (subst (λ (xs : List LocalAction). In x xs) c.as_slice-4.ensures i)).offered in
     let partners : c.in_ok-partners.partners.items ≡ map (partner_in S.residual) kept =
-    c.in_ok-partners.ensures.partners c.in_ok-state.state.store offered ∙ ap (λ (xs : List LocalAction). map (partner_in S.residual) xs) c.as_slice-4.ensures in
+    c.in_ok-partners.ensures.partners c.state.result.1.now offered ∙ ap (λ (xs : List LocalAction). map (partner_in S.residual) xs) c.as_slice-4.ensures in
     let given : c.as_slice-6.result.now ≡ map (partner_in S.residual) c.as_slice-5.result.now =
     c.as_slice-6.ensures.value ∙ partners ∙ ap (λ (xs : List LocalAction). map (partner_in S.residual) xs) (sym c.as_slice-5.ensures) in
     let marks : List Bool = c.in_ok-deadlocked.deadlocked.items in
