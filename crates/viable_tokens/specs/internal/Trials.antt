@@ -1,6 +1,6 @@
 -- What is tried to find the tokens that can stand.
 -- No reader has to believe it: the contract of `viable_kinds` ties it to `Begins` of the grammar.
-use Rattle.std.specs.Prelude.{◌≡◌, ◌⊎◌, ◌++◌, ℕ, List, [], ◌∷◌, take, drop}
+use Rattle.std.specs.Prelude.{◌≡◌, ◌⊎◌, ◌++◌, ℕ, List, take, drop}
 use Rattle.lexer.specs.declared.token.Token.{Token}
 use Rattle.lexer.specs.internal.Parts.{BeginsProcedure, HasNoEnd}
 use Rattle.parser.specs.Accepted.{Begins, IsRefused, Parses}
