@@ -14,8 +14,8 @@ use Rattle.process_tree.specs.View.{code_view}
 use Rattle.process_tree.specs.declared.code.Code as made
 use Rattle.process_tree.specs.Tidy.{last_moved}
 use Rattle.process_tree.specs.internal.Received.{puts_once, puts_sender, puts_guard}
-use Rattle.local_actions.specs.internal.Listed.{action_at, behind, actions_of_residual, again_at, Listing, nothing, at_work, one_after, both, listed, listed_sequence, listed_parallel}
-use Rattle.local_actions.specs.internal.Walk.{Walk, added, down, up}
+use Rattle.local_actions.specs.Walk.{Walk, action_at, added, down, up}
+use Rattle.local_actions.specs.internal.Listed.{behind, actions_of_residual, again_at, Listing, nothing, at_work, one_after, both, listed, listed_sequence, listed_parallel}
 use Rattle.local_actions.specs.declared.action.LocalAction.{LocalAction}
 use Rattle.local_actions.specs.declared.action.ActionKind.TheVariants.{Closes}
 use Rattle.local_actions.proofs.public.OneByOne.{step-here}

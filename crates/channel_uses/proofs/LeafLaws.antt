@@ -6,7 +6,7 @@ use Rattle.process_tree.specs.Code.{Once, assigning, receiving, Sender, sending,
 use Rattle.process_tree.specs.Remaining.{Received, residual_once, residual_sender, channel_of}
 use Rattle.process_tree.specs.internal.Received.{puts_once, puts_sender}
 use Rattle.local_actions.specs.internal.Listed.{actions_of_residual, open_actions}
-use Rattle.local_actions.specs.internal.Walk.{Walk, added}
+use Rattle.local_actions.specs.Walk.{Walk, added}
 use Rattle.local_actions.specs.declared.action.LocalAction.{LocalAction}
 use Rattle.local_actions.proofs.public.Walks.{added-none}
 use Rattle.channel_uses.specs.OnChannel.{on}

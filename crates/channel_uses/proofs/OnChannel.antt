@@ -11,7 +11,8 @@ use Rattle.process_tree.specs.Code.{Once, assigning, receiving, Sender, sending,
 use Rattle.process_tree.specs.Proc.{waiting, holding, past, idle, stopped, once, sender, fresh, turn, ended_at_once, ended, untested, skipped, took, unopened, entered, closed, sequence, parallel, drained, Procs, no_procs, proc}
 use Rattle.process_tree.specs.Remaining.{Received, with_value, puts, residual_once, residual_sender, channel_of, again, residual, residual_arms, remaining, remaining_sequence, remaining_parallel}
 use Rattle.process_tree.proofs.public.Puts.{puts-once, puts-sender, puts-again, puts-test, puts-choose}
-use Rattle.local_actions.specs.internal.Listed.{action_at, behind, open_actions, actions_of_residual}
+use Rattle.local_actions.specs.Walk.{action_at}
+use Rattle.local_actions.specs.internal.Listed.{behind, open_actions, actions_of_residual}
 use Rattle.local_actions.specs.declared.action.LocalAction.{LocalAction}
 use Rattle.channel_uses.specs.OnChannel.{is_on, on, OffersNothingUnused}
 use Rattle.channel_uses.specs.StemsFrom.{AllStemFrom}

@@ -7,7 +7,7 @@ use Rattle.process_tree.specs.Proc.{Proc}
 use Rattle.process_tree.specs.Tidy.{Tidy}
 use Rattle.local_actions.specs.Actions.{Offered}
 use Rattle.local_actions.specs.internal.Listed.{listed}
-use Rattle.local_actions.specs.internal.Walk.{Walk}
+use Rattle.local_actions.specs.Walk.{Walk}
 use Rattle.local_actions.specs.declared.action.LocalAction.{LocalAction}
 use Rattle.local_actions.proofs.public.Exactly.{state}
 use Rattle.local_actions.proofs.public.Walked.{below-root, offers-exactly}

@@ -25,8 +25,8 @@ use Rattle.process_tree.specs.declared.proc.Gate.{Gate}
 use Rattle.process_tree.specs.declared.proc.Gate.TheFolds.{the_lemmas}
 use Rattle.process_tree.specs.declared.proc.Tested as made_tested
 use Rattle.process_tree.specs.declared.proc.Tested.{Tested}
-use Rattle.local_actions.specs.internal.Listed.{action_at, behind, again_at, Listing, nothing, at_work, one_after, listed, listed_sequence}
-use Rattle.local_actions.specs.internal.Walk.{Walk, added}
+use Rattle.local_actions.specs.Walk.{Walk, action_at, added}
+use Rattle.local_actions.specs.internal.Listed.{behind, again_at, Listing, nothing, at_work, one_after, listed, listed_sequence}
 use Rattle.local_actions.specs.declared.action.LocalAction.{LocalAction}
 use Rattle.local_actions.specs.declared.action.ActionKind.TheVariants.{Closes}
 use Rattle.local_actions.proofs.public.Begun.{begun-row, row-is, row-past}

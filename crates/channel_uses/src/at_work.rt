@@ -8,7 +8,7 @@ ghost use Rattle.process_tree.specs.Proc as model;
 ghost use Rattle.process_tree.specs.View.{once_view, sender_view, phase_view, proc_view, procs_of, begun_of, row_view, await_view, turn_of, opened_of};
 ghost use Rattle.process_tree.specs.internal.Parts.{turns_view, tested_view, gate_view};
 ghost use Rattle.local_actions.specs.internal.Listed.{behind, listed};
-ghost use Rattle.local_actions.specs.internal.Walk.{added};
+ghost use Rattle.local_actions.specs.Walk.{added};
 ghost use Rattle.channel_uses.specs.OnChannel.{on};
 ghost use Rattle.channel_uses.specs.internal.Located.{ClosesOn, LocatedProc, LocatedProcs, finds, finds_at};
 

@@ -6,7 +6,7 @@ ghost use Rattle.process_tree.specs.Proc.{started, all_started};
 ghost use Rattle.process_tree.specs.Translation.{row_of};
 ghost use Rattle.process_tree.specs.View.{code_view};
 ghost use Rattle.local_actions.specs.internal.Listed.{listed_sequence, listed_parallel};
-ghost use Rattle.local_actions.specs.internal.Walk.{added};
+ghost use Rattle.local_actions.specs.Walk.{added};
 ghost use Rattle.channel_uses.specs.OnChannel.{on};
 ghost use Rattle.channel_uses.specs.internal.Located.{AgreeFrom, LocatedCode, LocatedRow, finds, finds_at};
 
@@ -22,7 +22,7 @@ use value::Value;
 /// Lists what the command offers on the channel before its first move. Of a parallel only the branches are looked at
 /// that use the channel.
 #[cycle(fresh_on)]
-pub(crate) fn fresh_on(
+fn fresh_on(
     alloc: Global,
     code: &Code,
     part: Option<&Part>,

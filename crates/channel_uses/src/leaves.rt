@@ -6,8 +6,8 @@ ghost use Rattle.system.specs.Residual.{drain};
 ghost use Rattle.process_tree.specs.Remaining.{residual_once, residual_sender, channel_of};
 ghost use Rattle.process_tree.specs.View.{once_view, sender_view};
 ghost use Rattle.process_tree.specs.internal.Received.{puts_once, puts_sender};
-ghost use Rattle.local_actions.specs.internal.Listed.{action_at, actions_of_residual, open_actions};
-ghost use Rattle.local_actions.specs.internal.Walk.{added};
+ghost use Rattle.local_actions.specs.Walk.{action_at, added};
+ghost use Rattle.local_actions.specs.internal.Listed.{actions_of_residual, open_actions};
 ghost use Rattle.local_actions.specs.declared.action.ActionKind.TheVariants.{Releases};
 ghost use Rattle.channel_uses.specs.OnChannel.{on};
 

@@ -1,8 +1,7 @@
 // Where a whole system uses channels.
-ghost use Rattle.std.specs.Prelude.{◌≡◌, ◌↔◌, true, IfOk, OnOk};
+ghost use Rattle.std.specs.Prelude.{◌≡◌, ◌↔◌, true, IfOk};
 ghost use Rattle.syntax.specs.Lists.{In};
 ghost use Rattle.process_tree.specs.Code as model;
-ghost use Rattle.process_tree.specs.Proc.{started};
 ghost use Rattle.process_tree.specs.Tidy.{Tidy};
 ghost use Rattle.process_tree.specs.View.{code_view, tree_view};
 ghost use Rattle.local_actions.specs.Actions.{Offered};
@@ -11,10 +10,8 @@ ghost use Rattle.local_actions.specs.declared.action.LocalAction as any;
 ghost use Rattle.channel_uses.specs.OnChannel.{is_on};
 ghost use Rattle.channel_uses.specs.StemsFrom.{StemsFrom};
 ghost use Rattle.channel_uses.specs.Table.{IsTableOf};
-ghost use Rattle.channel_uses.specs.internal.Located.{finds};
 
 use crate::at_work::list_on;
-use crate::fresh::fresh_on;
 use crate::part::{Part, part_of};
 use crate::search::table_of;
 use last_events::UseTable;
@@ -23,7 +20,6 @@ use process_tree::{Code, Tree};
 use std::alloc::{AllocError, Global};
 use store::Store;
 use syntax::Items;
-use value::Value;
 
 /// Which commands use which channel: for each channel the numbers of its uses in order, and for each command between
 /// which numbers its uses are.
@@ -42,24 +38,6 @@ impl ChannelUses {
         let whole = part_of(alloc, code, &mut uses)?;
         let table = table_of(alloc, uses.as_slice())?;
         Ok(ChannelUses { table, whole })
-    }
-
-    /// Lists what the command, whose table this is, offers on the channel before its first move. Of a parallel only the
-    /// branches are looked at that use the channel; each is found by two searches, by halves.
-    /// It is an error if there is no memory; some may be listed then.
-    pub fn list_fresh(
-        &self,
-        alloc: Global,
-        code: &Code,
-        channel: u32,
-        values: &[Value],
-        cursor: &mut Cursor,
-    ) -> Result<(), AllocError>
-        ensures { IsTableOf (code_view code.now) self.now →
-            OnOk result (cursor.new ≡ finds channel values.now (started (code_view code.now)) cursor.old) }
-    {
-        let part = Some(&self.whole);
-        fresh_on(alloc, code, part, &self.table, channel, values, cursor)
     }
 
     /// Exactly the actions that the tree offers on the channel over the values of the store, where the tree stems from

@@ -18,9 +18,7 @@ static WORDS: [&str; 8] = [
 
 /// Whether one of the tokens is this name.
 fn is_known(source: &[u8], tokens: &[Token], name: &str) -> bool {
-    tokens
-        .iter()
-        .any(|token| token.kind == Kind::Name && *text_of(source, token.span) == *name)
+    tokens.iter().any(|token| token.kind == Kind::Name && *text_of(source, token.span) == *name)
 }
 
 /// The word that is meant by the last of the tokens: a name with which a command begins, that no token before it is, and
@@ -45,7 +43,10 @@ pub fn word_meant(
     for word in &WORDS {
         nearest.offer(alloc, name, word)?;
     }
-    if before.last().is_some_and(|token| token.kind == Kind::LoopWord) {
+    if before
+        .last()
+        .is_some_and(|token| token.kind == Kind::LoopWord)
+    {
         nearest.offer(alloc, name, "while")?;
     }
     Ok(nearest.name)

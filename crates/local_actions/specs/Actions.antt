@@ -1,6 +1,6 @@
 -- What a place of a state offers, with its values: one action of an event.
-use Rattle.std.specs.Prelude.{◌≡◌, ◌↔◌, List, ◌++◌}
-use Rattle.std.specs.declared.cmp.Ordering.TheVariants.{Greater}
+use Rattle.std.specs.Prelude.{◌≡◌, ◌⊎◌, ◌↔◌, ℕ, ◌<◌, List, ◌++◌}
+use Rattle.std.specs.declared.cmp.Ordering.TheVariants.{Less, Greater}
 use Rattle.address.specs.Order.{order_of}
 use Rattle.system.specs.Expression.{Store, variables, decision_variables, decide, ascending}
 use Rattle.syntax.specs.Lists.{In}
@@ -45,6 +45,17 @@ Under p a = (rest : Place) × (a ≡ p ++ rest)
 -- the place of x is not behind that of y in the order of addresses
 abbrev pub NotBehind : LocalAction → LocalAction → Type 0
 NotBehind x y = order_of x.place y.place ≡ Greater → ⊥
+
+-- the arm that opens, and 0 of what opens none
+abbrev pub opened_arm : ActionKind → ℕ
+opened_arm (Opens c k) = k
+opened_arm action = 0
+
+-- x stands before y: at a lesser place, or at the same one with a lesser arm; so none precedes itself, and in a list in
+-- this order each stands once
+abbrev pub Precedes : LocalAction → LocalAction → Type 0
+Precedes x y =
+    (order_of x.place y.place ≡ Less) ⊎ ((x.place ≡ y.place) × (opened_arm x.action < opened_arm y.action))
 
 -- the state is one of runs, as far as its places go, and offers exactly these actions
 pub record OffersExactly (S : State) (actions : List LocalAction) : Type 0 where

@@ -1,3 +1,4 @@
 pub mod Actions
 pub mod View
+pub mod Walk
 pub mod internal

@@ -15,7 +15,8 @@ ghost use Rattle.local_actions.specs.declared.action.LocalAction as any;
 ghost use Rattle.runs.specs.Tests.{same_place};
 ghost use Rattle.local_actions.specs.internal.At.{SameBelow, at, under, is_under};
 ghost use Rattle.local_actions.specs.internal.Listed.{behind, listed, listed_parallel, listed_sequence};
-ghost use Rattle.local_actions.specs.internal.Walk.{added, lists, lists_at};
+ghost use Rattle.local_actions.specs.Walk.{added};
+ghost use Rattle.local_actions.specs.internal.Walk.{lists, lists_at};
 
 use crate::action::LocalAction;
 use crate::cursor::Cursor;

@@ -3,8 +3,8 @@ ghost use Rattle.std.specs.Prelude.{◌≡◌, [], ◌∷◌, ◌^◌, ◌≤◌
 ghost use Rattle.system.specs.Translation.{expression_of, decision_of};
 ghost use Rattle.process_tree.specs.Remaining.{with_value};
 ghost use Rattle.process_tree.specs.internal.Received.{puts_value, puts_decision};
-ghost use Rattle.local_actions.specs.internal.Listed.{action_at};
-ghost use Rattle.local_actions.specs.internal.Walk.{added, down, up, within_arm, outside, put_each, put_each_decision};
+ghost use Rattle.local_actions.specs.Walk.{action_at, added, down, up, within_arm, outside};
+ghost use Rattle.local_actions.specs.internal.Walk.{put_each, put_each_decision};
 
 use crate::action::{ActionKind, LocalAction};
 use address::{Address, Entry};
@@ -32,7 +32,7 @@ pub struct Cursor {
 
 impl Model for Cursor {
     ghost use Rattle.std.specs.Prelude.{[]};
-    ghost use Rattle.local_actions.specs.internal.Walk.{Walk, received_onto};
+    ghost use Rattle.local_actions.specs.Walk.{Walk, received_onto};
 
     ghost Value = { Walk };
 
@@ -52,7 +52,7 @@ impl Cursor {
     }
 
     /// The same, with room for a place of so many entries. It is an error if there is no memory.
-    pub fn with_room(alloc: Global, depth: usize) -> Result<Cursor, AllocError>
+    pub(crate) fn with_room(alloc: Global, depth: usize) -> Result<Cursor, AllocError>
         ensures { IfOk result (λ made. made ≡ record { place = []; received = []; actions = [] }) }
     {
         Ok(Cursor {
@@ -119,7 +119,7 @@ impl Cursor {
     }
 
     /// Whether something was received in an arm around the place.
-    pub fn has_received(&self) -> bool
+    pub(crate) fn has_received(&self) -> bool
         ensures { result ≡ false → self.now.received ≡ [] }
     {
         !self.arrived.is_empty()
@@ -127,7 +127,7 @@ impl Cursor {
 
     /// The expression with what was received in place of its names. It is an error if there is no memory.
     #[tactic(auto, using(crate::proofs::public::Walks::put_each_is))]
-    pub fn with_received(
+    pub(crate) fn with_received(
         &self,
         alloc: Global,
         expression: &Expression,
@@ -140,7 +140,7 @@ impl Cursor {
 
     /// The test with what was received in place of its names. It is an error if there is no memory.
     #[tactic(auto, using(crate::proofs::public::Walks::put_each_decision_is))]
-    pub fn decision_with_received(
+    pub(crate) fn decision_with_received(
         &self,
         alloc: Global,
         decision: &Decision,
@@ -151,7 +151,7 @@ impl Cursor {
     }
 
     /// Adds an action at the place itself. It is an error if there is no memory; then none is added.
-    pub fn add(&mut self, alloc: Global, action: ActionKind) -> Result<(), AllocError>
+    pub(crate) fn add(&mut self, alloc: Global, action: ActionKind) -> Result<(), AllocError>
         ensures { OnOk result (self.new ≡ added (action_at [] action ∷ []) self.old) }
     {
         let place = Address::new(alloc, self.entries.as_slice())?;

@@ -4,7 +4,8 @@ ghost use Rattle.process_tree.specs.Proc.{started, all_started};
 ghost use Rattle.process_tree.specs.Translation.{row_of};
 ghost use Rattle.process_tree.specs.View.{code_view};
 ghost use Rattle.local_actions.specs.internal.Listed.{listed, listed_sequence, listed_parallel};
-ghost use Rattle.local_actions.specs.internal.Walk.{added, lists, lists_at};
+ghost use Rattle.local_actions.specs.Walk.{added};
+ghost use Rattle.local_actions.specs.internal.Walk.{lists, lists_at};
 
 use crate::cursor::Cursor;
 use crate::leaves::{list_again, list_arms, list_drain, list_once, list_sender, list_test};
@@ -16,7 +17,7 @@ use value::Value;
 /// Lists what the command offers before its first move. Whether it has nothing to do; then nothing is listed.
 /// It is an error if there is no memory; some may be listed then.
 #[cycle(list_fresh)]
-pub fn list_fresh(
+pub(crate) fn list_fresh(
     alloc: Global,
     code: &Code,
     values: &[Value],

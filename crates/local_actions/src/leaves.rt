@@ -7,8 +7,8 @@ ghost use Rattle.process_tree.specs.Code.{assigning, sending};
 ghost use Rattle.process_tree.specs.Remaining.{residual_once, residual_sender, channel_of};
 ghost use Rattle.process_tree.specs.View.{once_view, sender_view};
 ghost use Rattle.process_tree.specs.internal.Received.{puts_value, puts_once, puts_sender, puts_guard, puts_decision};
-ghost use Rattle.local_actions.specs.internal.Listed.{action_at, actions_of_residual, again_at, tested_at, open_actions};
-ghost use Rattle.local_actions.specs.internal.Walk.{added};
+ghost use Rattle.local_actions.specs.Walk.{action_at, added};
+ghost use Rattle.local_actions.specs.internal.Listed.{actions_of_residual, again_at, tested_at, open_actions};
 
 use crate::action::ActionKind;
 use crate::cursor::{Cursor, small};
@@ -157,7 +157,7 @@ pub fn list_held(alloc: Global, sender: &Sender, cursor: &mut Cursor) -> Result<
 }
 
 /// Lists a loop before this turn, with its guard where it has one. It is an error if there is no memory.
-pub fn list_again(
+pub(crate) fn list_again(
     alloc: Global,
     guard: &Option<Expression>,
     turn: u64,
@@ -194,7 +194,7 @@ fn list_guard(
 
 /// Lists a test at this act, with the arm that it takes. It is copied only where something was received. It is an error
 /// if there is no memory.
-pub fn list_test(
+pub(crate) fn list_test(
     alloc: Global,
     decision: &Decision,
     act: u64,
@@ -227,7 +227,11 @@ fn add_test(
 }
 
 /// Lists arms that wait on these channels. It is an error if there is no memory; some may be listed then.
-pub fn list_arms(alloc: Global, channels: &[u32], cursor: &mut Cursor) -> Result<(), AllocError>
+pub(crate) fn list_arms(
+    alloc: Global,
+    channels: &[u32],
+    cursor: &mut Cursor,
+) -> Result<(), AllocError>
     ensures { OnOk result (cursor.new ≡ added (open_actions 0 channels.now) cursor.old) }
 {
     for (arm, channel) in channels.iter().enumerate() {

@@ -16,7 +16,7 @@ use Rattle.runs.specs.Moves.{Place, Move, Local, assigns, tests, turns, sends, r
 use Rattle.runs.specs.WellFormed.{WellFormed}
 use Rattle.runs.proofs.public.Kept.{branches-place}
 use Rattle.runs.proofs.public.Lists.{in-left, in-right, in-parts, every-of}
-use Rattle.process_tree.specs.Offers.{kind_of, Offers, OffersExactly, arm_of, Precedes}
+use Rattle.process_tree.specs.Offers.{kind_of, Offers, AreOffers, opened_arm, PrecedesOffer}
 use Rattle.process_tree.specs.declared.offer.Offer.{Offer}
 use Rattle.process_tree.specs.declared.offer.OfferKind.{OfferKind}
 use Rattle.process_tree.specs.declared.offer.OfferKind.TheVariants.{Opens}
@@ -144,7 +144,7 @@ sound (closing c) x h = elim h [ inl v ↦ one (closing c) done x (Ordered 2 ∷
 sound (drain c k) x h = elim h [ inl v ↦ one (drain c k) (drain c (k + 1)) x (Ordered k ∷ []) (receives c None) v (refl, refl, refl) | inr v ↦ absurd v ]
 
 -- the list of a residual's offers is exactly what it offers
-pub exactly : (r : Residual) → OffersExactly r (offers_of r)
+pub exactly : (r : Residual) → AreOffers r (offers_of r)
 exactly r = λ x. (
   sound r x,
   λ o. subst (λ (v : OfferKind). In (offer_at x.place v) (offers_of r)) (sym o.shown) (complete r x.place o.move o.after o.possible),
@@ -159,14 +159,14 @@ no-first Greater h = cc
 same-entry : (x : Entry) (a b : Place) → order_of (x ∷ a) (x ∷ b) ≡ order_of a b
 same-entry x a b = ap (λ o. ordering_then o (order_of a b)) (no-first (entry_order x x) (order-itself (x ∷ [])))
 
-behind-one : (x : Entry) (r y : Offer) → Precedes r y → Precedes (offer_at (x ∷ r.place) r.kind) (offer_at (x ∷ y.place) y.kind)
+behind-one : (x : Entry) (r y : Offer) → PrecedesOffer r y → PrecedesOffer (offer_at (x ∷ r.place) r.kind) (offer_at (x ∷ y.place) y.kind)
 behind-one x r y h = elim h [ inl u ↦ inl (same-entry x r.place y.place ∙ u) | inr u ↦ inr (ap (λ a. x ∷ a) u.0, u.1) ]
 
-behind-every : (x : Entry) (r : Offer) (rs : List Offer) → Every (Precedes r) rs → Every (Precedes (offer_at (x ∷ r.place) r.kind)) (behind x rs)
+behind-every : (x : Entry) (r : Offer) (rs : List Offer) → Every (PrecedesOffer r) rs → Every (PrecedesOffer (offer_at (x ∷ r.place) r.kind)) (behind x rs)
 behind-every x r [] h = tt
 behind-every x r (y ∷ rs) h = (behind-one x r y h.0, behind-every x r rs h.1)
 
-behind-order : (x : Entry) (rs : List Offer) → InOrder Precedes rs → InOrder Precedes (behind x rs)
+behind-order : (x : Entry) (rs : List Offer) → InOrder PrecedesOffer rs → InOrder PrecedesOffer (behind x rs)
 behind-order x [] h = tt
 behind-order x (r ∷ rs) h = (behind-every x r rs h.0, behind-order x rs h.1)
 
@@ -190,21 +190,21 @@ lesser-branch : (k n : ℕ) (a b c d : Place) → a ≡ Branch k ∷ c → b ≡
 lesser-branch k n a b c d e f l =
     (λ i. order_of (e i) (f i)) ∙ lesser (nat_cmp k n) (order_of c d) k n (ranked k n (nat_cmp k n) refl) (omega (arith, l))
 
-opens-every : (k j c : ℕ) (channels : List ℕ) → j < k → Every (Precedes (offer_at (Ordered 0 ∷ []) (Opens c j))) (opens_from k channels)
+opens-every : (k j c : ℕ) (channels : List ℕ) → j < k → Every (PrecedesOffer (offer_at (Ordered 0 ∷ []) (Opens c j))) (opens_from k channels)
 opens-every k j c [] l = tt
 opens-every k j c (d ∷ ds) l = (inr (refl, l), opens-every (suc k) j c ds (omega (arith, l)))
 
-opens-order : (k : ℕ) (channels : List ℕ) → InOrder Precedes (opens_from k channels)
+opens-order : (k : ℕ) (channels : List ℕ) → InOrder PrecedesOffer (opens_from k channels)
 opens-order k [] = tt
 opens-order k (c ∷ cs) = (opens-every (suc k) k c cs (omega arith), opens-order (suc k) cs)
 
 -- the offers of a residual stand in order
-pub in-order : (r : Residual) → WellFormed r → InOrder Precedes (offers_of r)
+pub in-order : (r : Residual) → WellFormed r → InOrder PrecedesOffer (offers_of r)
 in-order done w = tt
 in-order halted w = tt
 in-order (inside i child next) w = behind-order (Ordered i) (offers_of child) (in-order child w.0)
 in-order (beside k child rest) w =
-    order-both Precedes (behind (Branch k) (offers_of child)) (offers_of rest) (behind-order (Branch k) (offers_of child) (in-order child w.0)) (in-order rest w.1)
+    order-both PrecedesOffer (behind (Branch k) (offers_of child)) (offers_of rest) (behind-order (Branch k) (offers_of child) (in-order child w.0)) (in-order rest w.1)
     (λ x i y j.
     let here = behind-in (Branch k) x (offers_of child) i in
     let there = sound rest y j in

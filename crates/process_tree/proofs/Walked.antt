@@ -9,7 +9,7 @@ use Rattle.runs.specs.internal.After.{is_done}
 use Rattle.process_tree.specs.Code.{Code}
 use Rattle.process_tree.specs.Remaining.{Received, with_value, puts, again, residual, residual_arms, residual_once, residual_sender, remaining, remaining_sequence, remaining_parallel}
 use Rattle.process_tree.specs.Proc.{waiting, holding, past, Proc, idle, stopped, once, sender, fresh, turn, ended_at_once, ended, untested, skipped, took, unopened, entered, closed, sequence, parallel, drained, Procs, no_procs, proc, finished, all_finished}
-use Rattle.process_tree.specs.Offers.{OffersExactly, Precedes}
+use Rattle.process_tree.specs.Offers.{AreOffers, PrecedesOffer}
 use Rattle.process_tree.specs.declared.finder.Finder.{Finder}
 use Rattle.process_tree.specs.declared.offer.Offer.{Offer}
 use Rattle.process_tree.specs.internal.Listed.{behind, again_at, offers_of, Listing, nothing, at_work, one_after, both, listed, listed_sequence, listed_parallel, below, lists}
@@ -120,14 +120,14 @@ mutual
       ∙ ap (λ l. listing l (finished p && all_finished ps)) (sym (along-offers n (remaining env p) (remaining_parallel env (n + 1) ps)))
 
 -- of a process that stands alone exactly what is left of it offers is found
-pub ready-exactly : (p : Proc) (rs : List Offer) → rs ≡ (listed p).offers → OffersExactly (remaining [] p) rs
+pub ready-exactly : (p : Proc) (rs : List Offer) → rs ≡ (listed p).offers → AreOffers (remaining [] p) rs
 ready-exactly p rs e =
-    subst (λ l. OffersExactly (remaining [] p) l) (sym (e ∙ ap (λ (x : Listing). x.offers) (walked p []))) (exactly (remaining [] p))
+    subst (λ l. AreOffers (remaining [] p) l) (sym (e ∙ ap (λ (x : Listing). x.offers) (walked p []))) (exactly (remaining [] p))
 
 -- in order
-pub ready-in-order : (p : Proc) (rs : List Offer) → rs ≡ (listed p).offers → InOrder Precedes rs
+pub ready-in-order : (p : Proc) (rs : List Offer) → rs ≡ (listed p).offers → InOrder PrecedesOffer rs
 ready-in-order p rs e =
-    subst (λ l. InOrder Precedes l) (sym (e ∙ ap (λ (x : Listing). x.offers) (walked p []))) (in-order (remaining [] p) (left-formed p []))
+    subst (λ l. InOrder PrecedesOffer l) (sym (e ∙ ap (λ (x : Listing). x.offers) (walked p []))) (in-order (remaining [] p) (left-formed p []))
 
 -- a walk from the root finds what is listed
 pub found-is : (p q : Proc) (w v : Finder) (rs : List Offer) → w.entries ≡ [] → w.found ≡ [] → v ≡ lists q w → q ≡ p → rs ≡ v.found

@@ -29,15 +29,15 @@ pub record Offers (r : Residual) (x : Offer) : Type 0 where
   pub shown : x.kind ≡ kind_of move
 
 -- exactly these are possible
-abbrev pub OffersExactly : Residual → List Offer → Type 0
-OffersExactly r offers = (x : Offer) → In x offers ↔ Offers r x
+abbrev pub AreOffers : Residual → List Offer → Type 0
+AreOffers r offers = (x : Offer) → In x offers ↔ Offers r x
 
 -- the arm that opens, and 0 of what opens none
-abbrev pub arm_of : OfferKind → ℕ
-arm_of (Opens c k) = k
-arm_of kind = 0
+abbrev pub opened_arm : OfferKind → ℕ
+opened_arm (Opens c k) = k
+opened_arm kind = 0
 
 -- x stands before y: at a lesser place, or at the same one with a lesser arm; so none precedes itself
-abbrev pub Precedes : Offer → Offer → Type 0
-Precedes x y =
-    (order_of x.place y.place ≡ Less) ⊎ ((x.place ≡ y.place) × (arm_of x.kind < arm_of y.kind))
+abbrev pub PrecedesOffer : Offer → Offer → Type 0
+PrecedesOffer x y =
+    (order_of x.place y.place ≡ Less) ⊎ ((x.place ≡ y.place) × (opened_arm x.kind < opened_arm y.kind))

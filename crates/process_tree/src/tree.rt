@@ -2,7 +2,7 @@ ghost use Rattle.std.specs.Prelude.{◌≡◌, [], Some, IsSome, IfOk, OnErr};
 ghost use Rattle.runs.specs.InOrder.{InOrder};
 ghost use Rattle.process_tree.specs.Advanced.{advanced};
 ghost use Rattle.process_tree.specs.Laws.{ByLocalMove};
-ghost use Rattle.process_tree.specs.Offers.{OffersExactly, Precedes};
+ghost use Rattle.process_tree.specs.Offers.{AreOffers, PrecedesOffer};
 ghost use Rattle.process_tree.specs.Proc as model;
 ghost use Rattle.process_tree.specs.Proc.{started};
 ghost use Rattle.process_tree.specs.Remaining.{remaining};
@@ -50,8 +50,8 @@ impl Tree {
     /// What the tree offers: exactly the moves that are possible, in the order of their places, at one place of their
     /// arms, and each once. It looks at all of the tree that is not finished. It is an error if there is no memory.
     pub fn ready(&self, alloc: Global) -> Result<Items<Offer>, AllocError>
-        ensures exactly { IfOk result (λ offers. OffersExactly (remaining [] (tree_view self.now)) offers) }
-        ensures in_order { IfOk result (λ offers. InOrder Precedes offers) }
+        ensures exactly { IfOk result (λ offers. AreOffers (remaining [] (tree_view self.now)) offers) }
+        ensures in_order { IfOk result (λ offers. InOrder PrecedesOffer offers) }
     {
         let mut finder = Finder::new(alloc);
         list(alloc, &self.proc, &mut finder)?;

@@ -9,8 +9,8 @@ use Rattle.process_tree.specs.Remaining.{Received}
 use Rattle.process_tree.specs.Code.{Code, Codes, code_at}
 use Rattle.process_tree.specs.Proc.{Proc, Procs}
 use Rattle.last_events.specs.declared.uses.UseTable.{UseTable}
-use Rattle.local_actions.specs.internal.Listed.{action_at, behind, listed}
-use Rattle.local_actions.specs.internal.Walk.{Walk, added}
+use Rattle.local_actions.specs.Walk.{Walk, action_at, added}
+use Rattle.local_actions.specs.internal.Listed.{behind, listed}
 use Rattle.local_actions.specs.declared.action.ActionKind.TheVariants.{Closes}
 use Rattle.channel_uses.specs.OnChannel.{on}
 use Rattle.channel_uses.specs.StemsFrom.{StemsFrom, AllStemFrom}

@@ -9,7 +9,8 @@ use Rattle.runs.specs.Moves.{Place, Move, Local, assigns, tests, turns, sends, r
 use Rattle.runs.specs.Steps.{State}
 use Rattle.runs.proofs.public.Lists.{in-left, in-right, in-parts}
 use Rattle.local_actions.specs.Actions.{action_of, Decided, Offered}
-use Rattle.local_actions.specs.internal.Listed.{action_at, behind, open_actions, actions_of_residual}
+use Rattle.local_actions.specs.Walk.{action_at}
+use Rattle.local_actions.specs.internal.Listed.{behind, open_actions, actions_of_residual}
 use Rattle.local_actions.specs.declared.action.LocalAction.{LocalAction}
 use Rattle.local_actions.specs.declared.action.ActionKind.{ActionKind}
 use Rattle.local_actions.specs.declared.action.ActionKind.TheVariants.{Opens}

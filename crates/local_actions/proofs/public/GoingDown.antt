@@ -23,8 +23,9 @@ use Rattle.process_tree.specs.declared.proc.Tested.{Tested}
 use Rattle.runs.proofs.public.Options.{none-some}
 use Rattle.local_actions.specs.Actions.{Offered, Under}
 use Rattle.local_actions.specs.internal.At.{at, under, SameBelow}
-use Rattle.local_actions.specs.internal.Listed.{action_at, behind, again_at, Listing, at_work, one_after, listed, listed_sequence, listed_parallel}
-use Rattle.local_actions.specs.internal.Walk.{Walk, added, lists, lists_at, down, within_arm}
+use Rattle.local_actions.specs.Walk.{Walk, action_at, added, down, within_arm}
+use Rattle.local_actions.specs.internal.Listed.{behind, again_at, Listing, at_work, one_after, listed, listed_sequence, listed_parallel}
+use Rattle.local_actions.specs.internal.Walk.{lists, lists_at}
 use Rattle.local_actions.specs.declared.action.LocalAction.{LocalAction}
 use Rattle.local_actions.specs.declared.action.ActionKind.TheVariants.{Closes}
 use Rattle.local_actions.proofs.public.Exactly.{state}

@@ -26,8 +26,9 @@ use Rattle.process_tree.specs.declared.proc.Tested as made_tested
 use Rattle.process_tree.specs.declared.proc.Tested.{Tested}
 use Rattle.process_tree.specs.declared.proc.Gate.TheFolds.{the_lemmas}
 use Rattle.process_tree.proofs.public.Views.{code_in_turn}
-use Rattle.local_actions.specs.internal.Listed.{action_at, behind, again_at, Listing, nothing, at_work, one_after, listed, listed_sequence, listed_parallel}
-use Rattle.local_actions.specs.internal.Walk.{Walk, added, lists, lists_at}
+use Rattle.local_actions.specs.Walk.{Walk, action_at, added}
+use Rattle.local_actions.specs.internal.Listed.{behind, again_at, Listing, nothing, at_work, one_after, listed, listed_sequence, listed_parallel}
+use Rattle.local_actions.specs.internal.Walk.{lists, lists_at}
 use Rattle.local_actions.specs.declared.action.LocalAction.{LocalAction}
 use Rattle.local_actions.specs.declared.action.ActionKind.TheVariants.{Closes}
 use Rattle.local_actions.proofs.public.Walks.{added-none, added-both}

@@ -15,8 +15,8 @@ use Rattle.process_tree.specs.Proc.{Proc, Procs, no_procs, proc}
 use Rattle.local_actions.specs.Actions.{Under}
 use Rattle.runs.specs.Tests.{same_entry, same_place}
 use Rattle.local_actions.specs.internal.At.{at, is_under, under, SameBelow}
-use Rattle.local_actions.specs.internal.Listed.{action_at, behind, again_at, Listing, nothing, at_work, one_after, listed, listed_sequence, listed_parallel}
-use Rattle.local_actions.specs.internal.Walk.{Walk, below, added, down}
+use Rattle.local_actions.specs.Walk.{Walk, action_at, below, added, down}
+use Rattle.local_actions.specs.internal.Listed.{behind, again_at, Listing, nothing, at_work, one_after, listed, listed_sequence, listed_parallel}
 use Rattle.local_actions.specs.declared.action.LocalAction.{LocalAction}
 use Rattle.local_actions.proofs.public.OneByOne.{over-nothing, listed-step}
 use Rattle.local_actions.proofs.public.Walks.{added-none, below-behind}

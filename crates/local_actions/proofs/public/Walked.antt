@@ -13,12 +13,13 @@ use Rattle.process_tree.specs.Tidy.{any_moved, last_moved, Tidy, TidyInTurn, Tid
 use Rattle.process_tree.specs.internal.Received.{puts_guard}
 use Rattle.process_tree.proofs.public.Formed.{finished-left, left-formed}
 use Rattle.process_tree.proofs.public.Puts.{puts-once, puts-sender, puts-again, puts-test, puts-choose}
-use Rattle.local_actions.specs.Actions.{NotBehind, Offered, OffersExactly}
+use Rattle.local_actions.specs.Actions.{Offered, OffersExactly, Precedes}
 use Rattle.local_actions.specs.internal.Listed.{behind, again_at, actions_of_residual, Listing, nothing, at_work, one_after, both, listed, listed_sequence, listed_parallel}
-use Rattle.local_actions.specs.internal.Walk.{Walk, below, lists}
+use Rattle.local_actions.specs.Walk.{Walk, below}
+use Rattle.local_actions.specs.internal.Walk.{lists}
 use Rattle.local_actions.specs.declared.action.LocalAction.{LocalAction}
 use Rattle.local_actions.proofs.public.Exactly.{state, exactly}
-use Rattle.local_actions.proofs.PlaceOrder.{in-place-order}
+use Rattle.local_actions.proofs.PlaceOrder.{in-order}
 
 -- what is listed, and whether it is over
 abbrev listing : List LocalAction → Bool → Listing
@@ -128,10 +129,10 @@ module _ (s : Store) where
         exactly = λ x. subst (λ (l : List LocalAction). In x l ↔ Offered (state (remaining [] p) s) x) (sym same) (exactly s (remaining [] p) x);
       }
 
-  -- in the order of their places
-  pub offers-in-order : (p : Proc) (rs : List LocalAction) → Tidy p → rs ≡ (listed s [] p).actions → InOrder NotBehind rs
+  -- in the order of their places and arms
+  pub offers-in-order : (p : Proc) (rs : List LocalAction) → Tidy p → rs ≡ (listed s [] p).actions → InOrder Precedes rs
   offers-in-order p rs t e =
-      subst (λ (l : List LocalAction). InOrder NotBehind l) (sym (e ∙ ap (λ (x : Listing). x.actions) (walked p t []))) (in-place-order s (remaining [] p) (left-formed p []))
+      subst (λ (l : List LocalAction). InOrder Precedes l) (sym (e ∙ ap (λ (x : Listing). x.actions) (walked p t []))) (in-order s (remaining [] p) (left-formed p []))
 
 -- below the root actions stand where they are
 pub below-root : (rs : List LocalAction) → below [] rs ≡ rs

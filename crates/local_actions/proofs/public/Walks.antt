@@ -6,8 +6,9 @@ use Rattle.system.specs.Expression.{Expression, Decision, by_guards, put_decisio
 use Rattle.runs.specs.Moves.{Place}
 use Rattle.process_tree.specs.Remaining.{Received}
 use Rattle.process_tree.specs.internal.Received.{puts_value, puts_decision}
-use Rattle.local_actions.specs.internal.Listed.{action_at, behind}
-use Rattle.local_actions.specs.internal.Walk.{Walk, below, added, down, up, without_last, outside, received_onto, put_each, put_each_decision}
+use Rattle.local_actions.specs.Walk.{Walk, action_at, below, added, down, up, without_last, outside, received_onto}
+use Rattle.local_actions.specs.internal.Listed.{behind}
+use Rattle.local_actions.specs.internal.Walk.{put_each, put_each_decision}
 use Rattle.local_actions.specs.declared.cursor.Arrived.{Arrived}
 use Rattle.local_actions.specs.declared.action.LocalAction.{LocalAction}
 

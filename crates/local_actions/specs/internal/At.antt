@@ -5,7 +5,7 @@ use Rattle.address.specs.declared.Entry.{Entry}
 use Rattle.address.specs.declared.Entry.TheVariants.{Ordered, Branch}
 use Rattle.runs.specs.Moves.{Place}
 use Rattle.runs.specs.Tests.{same_entry, same_place}
-use Rattle.local_actions.specs.internal.Walk.{Walk}
+use Rattle.local_actions.specs.Walk.{Walk}
 use Rattle.local_actions.specs.declared.action.LocalAction.{LocalAction}
 
 -- those of the actions at exactly this place

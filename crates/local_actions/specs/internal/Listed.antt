@@ -6,19 +6,15 @@ use Rattle.address.specs.declared.Entry.{Entry}
 use Rattle.address.specs.declared.Entry.TheVariants.{Ordered, Branch}
 use Rattle.system.specs.Expression.{Store, Expression, Decision, by_guards, decide}
 use Rattle.system.specs.Residual.{Residual, done, halted, inside, beside, assign, send, receive, sync, held, loop, while, test, choose, closing, drain}
-use Rattle.runs.specs.Moves.{Place, assigns, tests, turns, sends, receives, syncs, releases, closes}
+use Rattle.runs.specs.Moves.{assigns, tests, turns, sends, receives, syncs, releases, closes}
 use Rattle.process_tree.specs.Remaining.{Received, with_value, residual_once, residual_sender, channel_of}
 use Rattle.process_tree.specs.Proc.{waiting, holding, past, Proc, idle, stopped, once, sender, fresh, turn, ended_at_once, ended, untested, skipped, took, unopened, entered, closed, sequence, parallel, drained, Procs, no_procs, proc}
 use Rattle.process_tree.specs.Tidy.{last_moved}
 use Rattle.process_tree.specs.internal.Received.{puts_once, puts_sender, puts_guard, puts_decision}
 use Rattle.local_actions.specs.Actions.{action_of}
+use Rattle.local_actions.specs.Walk.{action_at}
 use Rattle.local_actions.specs.declared.action.LocalAction.{LocalAction}
-use Rattle.local_actions.specs.declared.action.ActionKind.{ActionKind}
 use Rattle.local_actions.specs.declared.action.ActionKind.TheVariants.{Opens}
-
--- an action at a place
-abbrev pub action_at : Place → ActionKind → LocalAction
-action_at a x = record { place = a; action = x }
 
 -- actions, each at a place behind the entry
 abbrev pub behind : Entry → List LocalAction → List LocalAction

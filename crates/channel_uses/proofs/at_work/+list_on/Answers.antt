@@ -6,7 +6,7 @@ use Rattle.process_tree.specs.Proc.{Proc}
 use Rattle.process_tree.specs.Tidy.{last_moved}
 use Rattle.process_tree.specs.View.{proc_view, procs_of, await_view}
 use Rattle.local_actions.specs.internal.Listed.{listed}
-use Rattle.local_actions.specs.internal.Walk.{Walk}
+use Rattle.local_actions.specs.Walk.{Walk}
 use Rattle.local_actions.proofs.public.Begun.{begun-row, row-at}
 use Rattle.local_actions.proofs.public.Endings.{row-end}
 use Rattle.local_actions.proofs.public.GoingDown.{procs-at, procs-end}

@@ -2,7 +2,7 @@ use Rattle.std.proofs.Common.{◌≡◌, ◌-◌, length, map}
 use Rattle.process_tree.specs.Tidy.{last_moved}
 use Rattle.process_tree.specs.View.{proc_view, procs_of}
 use Rattle.local_actions.specs.internal.Listed.{listed_sequence}
-use Rattle.local_actions.specs.internal.Walk.{added}
+use Rattle.local_actions.specs.Walk.{added}
 use Rattle.local_actions.proofs.public.Begun.{begun-row}
 use Rattle.channel_uses.specs.internal.Located.{LocatedProcs}
 use Rattle.channel_uses.proofs.Finding.{on_from}

@@ -7,7 +7,7 @@ use Rattle.process_tree.specs.Translation.{row_of}
 use Rattle.process_tree.specs.View.{code_view}
 use Rattle.process_tree.specs.declared.code.Row.{Row}
 use Rattle.local_actions.specs.internal.Listed.{Listing}
-use Rattle.local_actions.specs.internal.Walk.{added}
+use Rattle.local_actions.specs.Walk.{added}
 use Rattle.local_actions.proofs.public.OneByOne.{step-over, fresh-at, fresh-past}
 use Rattle.local_actions.proofs.public.Passing.{fresh-in-turn}
 use Rattle.channel_uses.specs.OnChannel.{on}

@@ -3,7 +3,7 @@ use Rattle.process_tree.specs.Proc.{all_started}
 use Rattle.process_tree.specs.Translation.{row_of}
 use Rattle.process_tree.specs.View.{code_view}
 use Rattle.local_actions.specs.internal.Listed.{listed_sequence}
-use Rattle.local_actions.specs.internal.Walk.{added}
+use Rattle.local_actions.specs.Walk.{added}
 use Rattle.channel_uses.specs.internal.Located.{LocatedRow}
 use Rattle.channel_uses.proofs.Finding.{on_from}
 use Rattle.channel_uses.proofs.fresh.+fresh_on.Given as goal

@@ -1,6 +1,6 @@
 use Rattle.std.proofs.Common.{◌≡◌, drop}
 use Rattle.local_actions.specs.internal.Listed.{open_actions}
-use Rattle.local_actions.specs.internal.Walk.{added}
+use Rattle.local_actions.specs.Walk.{added}
 use Rattle.channel_uses.specs.OnChannel.{on}
 use Rattle.channel_uses.proofs.leaves.arms_on.Given as goal
 

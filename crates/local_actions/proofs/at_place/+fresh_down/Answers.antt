@@ -8,7 +8,7 @@ use Rattle.process_tree.specs.View.{code_view}
 use Rattle.process_tree.specs.declared.code.Row.{Row}
 use Rattle.local_actions.specs.internal.At.{under}
 use Rattle.local_actions.specs.internal.Listed.{Listing, listed_sequence}
-use Rattle.local_actions.specs.internal.Walk.{added}
+use Rattle.local_actions.specs.Walk.{added}
 use Rattle.local_actions.proofs.public.OneByOne.{none-last, fresh-at}
 use Rattle.local_actions.proofs.public.Passing.{fresh-in-turn}
 use Rattle.local_actions.proofs.public.Endings.{fresh-end}

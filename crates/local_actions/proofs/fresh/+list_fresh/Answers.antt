@@ -6,7 +6,7 @@ use Rattle.process_tree.specs.Translation.{row_of}
 use Rattle.process_tree.specs.View.{code_view}
 use Rattle.process_tree.specs.declared.code.Row.{Row}
 use Rattle.local_actions.specs.internal.Listed.{Listing, listed_sequence, listed_parallel}
-use Rattle.local_actions.specs.internal.Walk.{added}
+use Rattle.local_actions.specs.Walk.{added}
 use Rattle.local_actions.proofs.public.OneByOne.{fresh-at, fresh-past}
 use Rattle.local_actions.proofs.public.Passing.{fresh-in-turn, onwards, at-work, at-end, beside, one-open, one-over, fresh-next}
 use Rattle.local_actions.proofs.fresh.+list_fresh.Goals as goal

@@ -4,7 +4,7 @@ use Rattle.process_tree.specs.Proc.{all_started}
 use Rattle.process_tree.specs.Translation.{row_of}
 use Rattle.process_tree.specs.View.{code_view}
 use Rattle.local_actions.specs.internal.Listed.{listed_sequence, listed_parallel}
-use Rattle.local_actions.specs.internal.Walk.{added}
+use Rattle.local_actions.specs.Walk.{added}
 use Rattle.local_actions.proofs.fresh.+list_fresh.Given as goal
 
 abbrev pub invariant-list_fresh_all-loop-number : goal.invariant-list_fresh_all-loop-number

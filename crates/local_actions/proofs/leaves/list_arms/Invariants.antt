@@ -1,6 +1,6 @@
 use Rattle.std.proofs.Common.{◌≡◌, drop}
 use Rattle.local_actions.specs.internal.Listed.{open_actions}
-use Rattle.local_actions.specs.internal.Walk.{added}
+use Rattle.local_actions.specs.Walk.{added}
 use Rattle.local_actions.proofs.leaves.list_arms.Given as goal
 
 abbrev pub invariant-loop-arm : goal.invariant-loop-arm

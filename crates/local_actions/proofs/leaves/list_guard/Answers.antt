@@ -3,7 +3,7 @@ use Rattle.std.proofs.Common.{◌≡◌, OnOk, ap, ◌∙◌, subst}
 use Rattle.system.specs.Translation.{expression_of}
 use Rattle.process_tree.specs.internal.Received.{puts_decision}
 use Rattle.local_actions.specs.internal.Listed.{tested_at}
-use Rattle.local_actions.specs.internal.Walk.{added}
+use Rattle.local_actions.specs.Walk.{added}
 use Rattle.local_actions.proofs.public.Walks.{puts_one_guard}
 use Rattle.local_actions.proofs.leaves.list_guard.Goals as goal
 

@@ -7,7 +7,7 @@ use Rattle.process_tree.specs.Translation.{row_of}
 use Rattle.process_tree.specs.internal.Received.{puts_guard}
 use Rattle.process_tree.specs.View.{code_view, proc_view, procs_of, repeat_view, decide_view, await_view}
 use Rattle.local_actions.specs.internal.Listed.{Listing, again_at, listed_sequence, listed_parallel}
-use Rattle.local_actions.specs.internal.Walk.{Walk, added}
+use Rattle.local_actions.specs.Walk.{Walk, added}
 use Rattle.local_actions.proofs.public.Begun.{begun-row, row-at, row-past}
 use Rattle.local_actions.proofs.public.Passing.{onwards, at-work, beside, one-open, one-over, proc-next, taken-actions, opened-over, turn-again, arm-close, repeat-guard}
 use Rattle.local_actions.proofs.list.+list.Goals as goal

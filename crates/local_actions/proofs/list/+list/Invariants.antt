@@ -3,7 +3,7 @@ use Rattle.std.proofs.Common.{◌≡◌, ◌-◌, ◌&&◌, length, drop, map}
 use Rattle.process_tree.specs.Tidy.{last_moved}
 use Rattle.process_tree.specs.View.{proc_view, procs_of, begun_of, row_view}
 use Rattle.local_actions.specs.internal.Listed.{listed_sequence, listed_parallel}
-use Rattle.local_actions.specs.internal.Walk.{added}
+use Rattle.local_actions.specs.Walk.{added}
 use Rattle.local_actions.proofs.list.+list.Given as goal
 
 abbrev pub invariant-list_parallel-loop-number : goal.invariant-list_parallel-loop-number

@@ -1,6 +1,6 @@
 -- One value less.
 use Rattle.std.proofs.Common.{refl, ap, ◌∙◌}
-use Rattle.local_actions.specs.internal.Walk.{Walk, within_arm, outside}
+use Rattle.local_actions.specs.Walk.{Walk, within_arm, outside}
 use Rattle.local_actions.proofs.public.Walks.{walk-is, gone-received}
 use Rattle.local_actions.proofs.cursor.Cursor.forget.Goals as goal
 

@@ -1,6 +1,6 @@
 -- One entry less.
 use Rattle.std.proofs.Common.{refl, ap, ◌∙◌}
-use Rattle.local_actions.specs.internal.Walk.{up}
+use Rattle.local_actions.specs.Walk.{up}
 use Rattle.local_actions.proofs.public.Walks.{walk-is, gone}
 use Rattle.local_actions.proofs.cursor.Cursor.leave.Goals as goal
 
