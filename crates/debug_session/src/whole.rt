@@ -30,9 +30,9 @@ pub fn accept(alloc: Global, source: &[u8], stimulus: &[u8]) -> Result<Checked, 
 /// Source and stimulus are accepted before anything is read. Before the reader asks for more, the answers to all lines
 /// before are out and flushed; while its buffer has another line whole, answers may be held back, 8 KB at most.
 /// Where a write fails no further line is taken. (A buffer has to have room for a byte at least, or the script looks
-/// empty.) At a fault the answers of the lines before are out, and where writing failed a beginning of the answers; else
-/// all that was written is flushed.
-/// `ReadFailed` and `WriteFailed` come exactly where reader and writer count a failure.
+/// empty.) At a fault the answers of the lines before are out, and where writing failed a beginning of the answers. All
+/// else that was written is flushed. `ReadFailed` and `WriteFailed` come exactly where reader and writer count a
+/// failure.
 pub fn debug<R: CountedLines, W: CountedWrite>(
     alloc: Global,
     reader: &mut R,
