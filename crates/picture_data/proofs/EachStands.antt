@@ -1,12 +1,11 @@
 -- Where events stand, one behind another.
-use Rattle.std.proofs.Common.{◌≡◌, ◌∙◌, ℕ, suc, ◌+◌, ◌<◌, List, [], ◌∷◌, ◌++◌, length, get_or, take, Some, add-one, refl, sym, ap, subst}
-use Rattle.std.specs.Prelude.{slice_get}
+use Rattle.std.proofs.Common.{◌≡◌, ◌∙◌, ℕ, ◌+◌, ◌<◌, List, [], ◌∷◌, ◌++◌, length, get_or, take, Some, add-one, refl, sym, ap, subst}
 use Rattle.std.proofs.lemmas.Option.{slice_get-get_or}
 use Rattle.runs.specs.Live.{Live, events}
 use Rattle.runs.specs.declared.event.Event.{Event}
 use Rattle.dependence.proofs.public.ListPlaces.{take-next}
 use Rattle.machine.specs.AtMachine.{AtMachine}
-use Rattle.picture_data.specs.declared.lane.Lane.{Lane}
+use Rattle.picture_lanes.specs.declared.lane.Lane.{Lane}
 use Rattle.picture_data.specs.declared.actions.Actions.{Actions}
 use Rattle.picture_data.specs.Shown.{EachStandsIn, StandsIn}
 

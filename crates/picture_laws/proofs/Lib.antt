@@ -1,4 +1,6 @@
 mod OneOrder
+mod OnePage
+mod OnePicture
 mod OneRun
-mod SameLines
 mod SameShown
+mod Standing

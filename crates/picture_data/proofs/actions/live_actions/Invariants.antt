@@ -5,4 +5,4 @@ use Rattle.picture_data.proofs.actions.live_actions.Given as goal
 
 -- the events passed stand there
 abbrev pub invariant-loop-entry : goal.invariant-loop-entry
-invariant-loop-entry l = EachStandsIn l.machine l.table.lanes.items (events (take l.entry-index l.live)) l.actions.items
+invariant-loop-entry l = EachStandsIn l.machine l.table (events (take l.entry-index l.live)) l.actions.items
