@@ -3,4 +3,5 @@ mod OnePage
 mod OnePicture
 mod OneRun
 mod SameShown
+mod SinceAgree
 mod Standing

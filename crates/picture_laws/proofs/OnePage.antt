@@ -14,6 +14,7 @@ use Rattle.depth_laws.specs.Laws.{AreEqualRuns}
 use Rattle.typed.specs.declared.tree.Procedure.{Procedure}
 use Rattle.machine.specs.AtMachine.{AtMachine}
 use Rattle.run_depths.specs.declared.races.Race.{Race}
+use Rattle.waiting.specs.Waits.{OneList}
 use Rattle.picture_lanes.specs.declared.lane.Feed.{Feed}
 use Rattle.picture_lanes.specs.declared.lane.Instance.{Instance}
 use Rattle.picture_lanes.specs.declared.lane.Lane.{Lane}
@@ -27,7 +28,7 @@ use Rattle.picture_data.specs.declared.steps.Steps.{Steps}
 use Rattle.picture_text.specs.DataText.{action_texts, ahead_text, channel_text, data_text, event_row, event_rows, feed_text, flag, head_members, instance_text, lane_text, numbers_text, place_row, race_text, ready_rows, rings_text, role_text, run_members, since_texts, system_members, tickets_text, variable_text, wanted_text}
 use Rattle.picture_text.specs.PageText.{page_text}
 use Rattle.picture_laws.specs.EqualPages.{AreCounted, HaveOnePage, IsInOrder}
-use Rattle.picture_laws.specs.EqualPictures.{IsOnePicture, TellsOneWait}
+use Rattle.picture_laws.specs.EqualPictures.{IsOnePicture}
 use Rattle.picture_laws.proofs.OnePicture.{one-picture}
 
 -- ---- one machine
@@ -121,9 +122,9 @@ same-system system p q one =
     ∷ member_text (codes "lanes") (list_text (map lane_text ls))
     ∷ member_text (codes "feeds") (list_text (map feed_text fs))
     ∷ [] in
-    ap (λ (is : List Instance). made is p.lanes.items p.feeds.items) one.run.ground.instances
-    ∙ ap (λ (ls : List Lane). made q.instances.items ls p.feeds.items) one.run.ground.lanes
-    ∙ ap (λ (fs : List Feed). made q.instances.items q.lanes.items fs) one.run.ground.feeds
+    ap (λ (is : List Instance). made is p.lanes.items p.feeds.items) one.ground.instances
+    ∙ ap (λ (ls : List Lane). made q.instances.items ls p.feeds.items) one.ground.lanes
+    ∙ ap (λ (fs : List Feed). made q.instances.items q.lanes.items fs) one.ground.feeds
 
 -- how the run stands, in one text
 ends : System → Live → List (List ℕ) → List Race → List Actions → List Event → List (List ℕ) → List ℕ → List (List ℕ)
@@ -136,44 +137,45 @@ ends system l rows races actions ready places ring =
     ∷ member_text (codes "rings") (rings_text ring)
     ∷ []
 
-same-run : (system : System) (l : Live) (p q : Picture) → IsOnePicture p q → run_members system l p ≡ run_members system l q
-same-run system l p q one =
-    let rows = same-rows system p.steps q.steps 0 l one.run.actions one.run.depths one.run.ahead one.run.since in
-    let places = place-rows p.end.places.items q.end.places.items one.places in
+same-run : (system : System) (l : Live) (p q : Picture) → IsOnePicture p q → p.end.ring.items ≡ q.end.ring.items →
+    run_members system l p ≡ run_members system l q
+same-run system l p q one ring =
+    let rows = same-rows system p.steps q.steps 0 l one.actions one.depths one.ahead one.since in
+    let places = place-rows p.end.places.items q.end.places.items one.end.places in
     let a = event_rows system q.steps 0 l in
     let b = map place_row q.end.places.items in
     ap (λ (x : List (List ℕ)). ends system l x p.steps.races.items p.end.ready_actions.items p.end.ready (map place_row p.end.places.items)
     p.end.ring.items) rows
-    ∙ ap (λ (x : List Race). ends system l a x p.end.ready_actions.items p.end.ready (map place_row p.end.places.items) p.end.ring.items) one.run.races
+    ∙ ap (λ (x : List Race). ends system l a x p.end.ready_actions.items p.end.ready (map place_row p.end.places.items) p.end.ring.items) one.races
     ∙ ap (λ (x : List Actions). ends system l a q.steps.races.items x p.end.ready (map place_row p.end.places.items) p.end.ring.items)
-    one.run.ready_actions
+    one.end.ready_actions
     ∙ ap (λ (x : List Event). ends system l a q.steps.races.items q.end.ready_actions.items x (map place_row p.end.places.items) p.end.ring.items)
-    one.run.ready
+    one.end.ready
     ∙ ap (λ (x : List (List ℕ)). ends system l a q.steps.races.items q.end.ready_actions.items q.end.ready x p.end.ring.items) places
-    ∙ ap (λ (x : List ℕ). ends system l a q.steps.races.items q.end.ready_actions.items q.end.ready b x) one.ring
+    ∙ ap (λ (x : List ℕ). ends system l a q.steps.races.items q.end.ready_actions.items q.end.ready b x) ring
 
-one-text : (system : System) (l : Live) (p q : Picture) (source file stimulus trace : List ℕ) → IsOnePicture p q →
+one-text : (system : System) (l : Live) (p q : Picture) (source file stimulus trace : List ℕ) → IsOnePicture p q → p.end.ring.items ≡ q.end.ring.items →
     data_text system l p source file stimulus trace ≡ data_text system l q source file stimulus trace
-one-text system l p q source file stimulus trace one =
+one-text system l p q source file stimulus trace one ring =
     let made : List (List ℕ) → List (List ℕ) → List ℕ = λ xs ys. object_text (head_members file stimulus trace source ++ (xs ++ ys)) in
     ap (λ (xs : List (List ℕ)). made xs (run_members system l p)) (same-system system p q one)
-    ∙ ap (λ (ys : List (List ℕ)). made (system_members system q) ys) (same-run system l p q one)
+    ∙ ap (λ (ys : List (List ℕ)). made (system_members system q) ys) (same-run system l p q one ring)
 
 -- ---- one page
 
-pub one-page : (m n : AtMachine) (procedures : List Procedure) (p q : Picture) → m.checked ≡ n.checked → AreEqualRuns m.checked m.live n.live →
-    IsInOrder m → IsInOrder n → TellsOneWait m → Shows m procedures p → Shows n procedures q → HaveOnePage m n p q
-one-page m n procedures p q one equal order other tells here there =
+pub one-page : OneList → (m n : AtMachine) (procedures : List Procedure) (p q : Picture) → m.checked ≡ n.checked → AreEqualRuns m.checked m.live n.live →
+    IsInOrder m → IsInOrder n → Shows m procedures p → Shows n procedures q → HaveOnePage m n p q
+one-page lists m n procedures p q one equal order other here there =
     let is : m ≡ n = one-machine m n one equal order other in
     let picture : IsOnePicture p q =
-    one-picture m procedures p q equal.low equal.next equal.rising tells here
-    (subst (λ (x : AtMachine). Shows x procedures q) (sym is) there) in
-    let text : (source file stimulus trace : List ℕ) → data_text m.checked m.live p source file stimulus trace ≡ data_text n.checked n.live q source file stimulus trace =
-    λ source file stimulus trace.
-    one-text m.checked m.live p q source file stimulus trace picture
+    one-picture lists m procedures p q equal.low equal.next equal.rising here (subst (λ (x : AtMachine). Shows x procedures q) (sym is) there) in
+    let text : p.end.ring.items ≡ q.end.ring.items → (source file stimulus trace : List ℕ) →
+    data_text m.checked m.live p source file stimulus trace ≡ data_text n.checked n.live q source file stimulus trace =
+    λ ring source file stimulus trace.
+    one-text m.checked m.live p q source file stimulus trace picture ring
     ∙ ap (λ (x : AtMachine). data_text x.checked x.live q source file stimulus trace) is in
     record {
       picture = picture;
       data_of = text;
-      page = λ source file stimulus trace. ap page_text (text source file stimulus trace);
+      page = λ ring source file stimulus trace. ap page_text (text ring source file stimulus trace);
     }

@@ -1,5 +1,5 @@
 -- Pictures of equal runs show the same.
-use Rattle.std.proofs.Common.{◌≡◌, ℕ, zero, suc, ◌+◌, ◌||◌, ◌&&◌, Bool, List, [], ◌∷◌, Option, None, Some, refl, sym, ◌∙◌, ap, ap₂, subst, arith}
+use Rattle.std.proofs.Common.{◌≡◌, ℕ, zero, suc, ◌+◌, ◌||◌, ◌&&◌, Bool, List, [], ◌∷◌, ◌++◌, map, Option, None, Some, refl, sym, ◌∙◌, ap, ap₂, subst, arith}
 use Rattle.std.proofs.Math.Path.{fun_ext}
 use Rattle.std.specs.Prelude.{is_some, slice_get}
 use Rattle.syntax.specs.Lists.{In}
@@ -29,20 +29,21 @@ use Rattle.rings.specs.declared.partner.Partner.TheVariants as partner
 use Rattle.waiting.specs.Input.{fed_channel, helped_in, is_starved, takes_input}
 use Rattle.waiting.specs.Progress.{StandsLike, is_outlet}
 use Rattle.waiting.specs.Told.{IsTold}
-use Rattle.waiting.specs.Waits.{Waits}
+use Rattle.waiting.specs.Waits.{OneList, Waits}
 use Rattle.waiting.specs.declared.waiting.Waiting.{Waiting}
 use Rattle.picture_lanes.specs.Ground.{found_in, lanes_of, uses_of, with_feeds}
 use Rattle.picture_lanes.specs.declared.lane.Lane.{Lane}
 use Rattle.picture_lanes.specs.declared.walk.ChannelUse.{ChannelUse}
 use Rattle.picture_data.specs.Lines.{line_of, line_or_zero}
 use Rattle.picture_data.specs.Shown.{EachStandsIn, Shows, StandsIn, seen_of}
-use Rattle.picture_data.specs.Spots.{AreSpots, ShowsRing}
+use Rattle.picture_data.specs.Spots.{ShowsRing, Spot, ready_spots, spot_of, waiting_spots, with_sides}
 use Rattle.picture_data.specs.Wanted.{Seen}
 use Rattle.picture_data.specs.declared.picture.Picture.{Picture}
 use Rattle.picture_data.specs.declared.places.Place.{Place as Shown}
 use Rattle.picture_data.specs.declared.actions.Actions.{Actions}
 use Rattle.picture_laws.specs.EqualPictures.{IsOneEnd, IsOneGround, ShowTheSame, StandsInBoth}
 use Rattle.picture_laws.proofs.OneRun.{one-progress}
+use Rattle.picture_laws.proofs.SinceAgree.{event-since, places-since, since-agrees}
 use Rattle.picture_laws.proofs.Standing.{SameLines, one-stand, one-stands}
 
 same-lines : (m n : AtMachine) → m.checked ≡ n.checked → AreEqualRuns m.checked m.live n.live → SameLines m n
@@ -104,7 +105,7 @@ no-ring m n S places others ring (k ∷ other) same here there none =
     absurd (subst (ShowsRing m S places) none here there.0 (subst (λ (h : Helped). IsRing (Waits S) h S.residual there.0) same there.2))
 
 -- what both are drawn on
-one-ground : (m n : AtMachine) (procedures : List Procedure) (p q : Picture) → m.checked ≡ n.checked → Shows m procedures p → Shows n procedures q →
+pub one-ground : (m n : AtMachine) (procedures : List Procedure) (p q : Picture) → m.checked ≡ n.checked → Shows m procedures p → Shows n procedures q →
     IsOneGround p q
 one-ground m n procedures p q one here there =
     let lanes : p.lanes.items ≡ q.lanes.items = here.lanes ∙ ap (λ (c : Checked). lanes_of procedures c) one ∙ sym there.lanes in
@@ -118,22 +119,45 @@ one-ground m n procedures p q one here there =
           ∙ sym there.feeds;
     }
 
--- what there is to see is the same of both
-seen-too : (m n : AtMachine) (procedures : List Procedure) (lanes others : List Lane) (w : Waiting) (es fs : List Event) → m.checked ≡ n.checked →
-    SameLines m n → lanes ≡ others → es ≡ fs →
-    seen_of m lanes (uses_of procedures m.checked) w es ≡ seen_of n others (uses_of procedures n.checked) w fs
-seen-too m n procedures lanes others w es fs one same ground ready =
-    let made : (Place → ℕ) → List Lane → List ChannelUse → List Event → Seen =
-    λ line ls us rs. record { line = line; around = record { lanes = ls; uses = us; actions = w.actions; ready = rs } } in
-    let lines : line_of m ≡ line_of n = fun_ext same in
-    ap (λ (line : Place → ℕ). made line lanes (uses_of procedures m.checked) es) lines
-    ∙ ap (λ (ls : List Lane). made (line_of n) ls (uses_of procedures m.checked) es) ground
-    ∙ ap (λ (c : Checked). made (line_of n) others (uses_of procedures c) es) one
-    ∙ ap (λ (rs : List Event). made (line_of n) others (uses_of procedures n.checked) rs) ready
+-- two answers that say the same, but for which ring there is
+record SameWait (v w : Waiting) : Type 0 where
+  pub actions : v.actions ≡ w.actions
+  pub partners : v.partners.items ≡ w.partners.items
 
-one-end : (m n : AtMachine) (procedures : List Procedure) (p q : Picture) → m.checked ≡ n.checked → AreEqualRuns m.checked m.live n.live →
-    Shows m procedures p → Shows n procedures q → IsOneEnd m n procedures p q
-one-end m n procedures p q one equal here there =
+same-wait : OneList → (m n : AtMachine) (S : State) (v w : Waiting) → IsTold m S v → IsTold n S w → SameWait v w
+same-wait lists m n S v w here there =
+    let actions : v.actions ≡ w.actions = lists S v.actions w.actions here.actions there.actions in
+    record {
+      actions = actions;
+      partners = here.partners ∙ ap (λ (xs : List LocalAction). map (partner_in S.residual) xs) actions ∙ sym there.partners;
+    }
+
+-- what there is to see is the same of both
+seen-too : (m n : AtMachine) (procedures : List Procedure) (lanes others : List Lane) (v w : Waiting) (es fs : List Event) → m.checked ≡ n.checked →
+    SameLines m n → lanes ≡ others → v.actions ≡ w.actions → es ≡ fs →
+    seen_of m lanes (uses_of procedures m.checked) v es ≡ seen_of n others (uses_of procedures n.checked) w fs
+seen-too m n procedures lanes others v w es fs one same ground actions ready =
+    let made : (Place → ℕ) → List Lane → List ChannelUse → List LocalAction → List Event → Seen =
+    λ line ls us xs rs. record { line = line; around = record { lanes = ls; uses = us; actions = xs; ready = rs } } in
+    let lines : line_of m ≡ line_of n = fun_ext same in
+    ap (λ (line : Place → ℕ). made line lanes (uses_of procedures m.checked) v.actions es) lines
+    ∙ ap (λ (ls : List Lane). made (line_of n) ls (uses_of procedures m.checked) v.actions es) ground
+    ∙ ap (λ (c : Checked). made (line_of n) others (uses_of procedures c) v.actions es) one
+    ∙ ap (λ (xs : List LocalAction). made (line_of n) others (uses_of procedures n.checked) xs es) actions
+    ∙ ap (λ (rs : List Event). made (line_of n) others (uses_of procedures n.checked) w.actions rs) ready
+
+same-spots : (s t : Seen) (v w : Waiting) (es fs : List Event) → s ≡ t → SameWait v w → es ≡ fs →
+    waiting_spots s v ++ ready_spots s es ≡ waiting_spots t w ++ ready_spots t fs
+same-spots s t v w es fs seen same ready =
+    let made : Seen → List Partner → List LocalAction → List Event → List Spot = λ x ps xs rs. with_sides x [] ps 0 xs ++ ready_spots x rs in
+    ap (λ (x : Seen). made x v.partners.items v.actions es) seen
+    ∙ ap (λ (ps : List Partner). made t ps v.actions es) same.partners
+    ∙ ap (λ (xs : List LocalAction). made t w.partners.items xs es) same.actions
+    ∙ ap (λ (rs : List Event). made t w.partners.items w.actions rs) ready
+
+pub one-end : OneList → (m n : AtMachine) (procedures : List Procedure) (p q : Picture) → m.checked ≡ n.checked → AreEqualRuns m.checked m.live n.live →
+    Shows m procedures p → Shows n procedures q → IsOneEnd p q
+one-end lists m n procedures p q one equal here there =
     let ground = one-ground m n procedures p q one here there in
     let same = same-lines m n one equal in
     let list = here.end.ready in
@@ -143,15 +167,23 @@ one-end m n procedures p q one equal here there =
     ready-agree m.checked m.live n.live list.0 list2.0 p.end.ready q.end.ready equal list.1 run2 list.2 list2.2 in
     let goes = here.end.progress in
     let goes2 = there.end.progress in
-    let told = here.end.waits.told in
-    let told2 = there.end.waits.told in
-    let ring = here.end.waits.ring in
-    let ring2 = there.end.waits.ring in
-    let other = there.end.waits.waiting in
-    let told_here : IsTold n told.0 other =
-    subst (λ (S : State). IsTold n S other) (both-reach m n told.0 told2.0 one equal told.1 told2.1) told2.2 in
     let progress_here : StandsLike goes.0 q.end.progress =
     subst (λ (S : State). StandsLike S q.end.progress) (both-reach m n goes.0 goes2.0 one equal goes.1 goes2.1) goes2.2 in
+    let waits = here.end.waits in
+    let waits2 = there.end.waits in
+    let told = waits.told in
+    let told2 = waits2.told in
+    let told_here : IsTold n told.0 waits2.waiting =
+    subst (λ (S : State). IsTold n S waits2.waiting) (both-reach m n told.0 told2.0 one equal told.1 told2.1) told2.2 in
+    let wait = same-wait lists m n told.0 waits.waiting waits2.waiting told.2 told_here in
+    let s = seen_of m p.lanes.items (uses_of procedures m.checked) waits.waiting p.end.ready in
+    let t = seen_of n q.lanes.items (uses_of procedures n.checked) waits2.waiting q.end.ready in
+    let seen : s ≡ t =
+    seen-too m n procedures p.lanes.items q.lanes.items waits.waiting waits2.waiting p.end.ready q.end.ready one same ground.lanes wait.actions ready in
+    let places : map spot_of p.end.places.items ≡ map spot_of q.end.places.items =
+    waits.places ∙ same-spots s t waits.waiting waits2.waiting p.end.ready q.end.ready seen wait ready ∙ sym waits2.places in
+    let ring = waits.ring in
+    let ring2 = waits2.ring in
     let helped = helped-agree m n ring.0 one equal in
     let ring_here : ShowsRing n ring.0 q.end.places.items q.end.ring.items =
     subst (λ (S : State). ShowsRing n S q.end.places.items q.end.ring.items) (both-reach m n ring.0 ring2.0 one equal ring.1 ring2.1) ring2.2 in
@@ -162,17 +194,12 @@ one-end m n procedures p q one equal here there =
           here.end.actions
           (subst (λ (es : List Event). EachStandsIn n q.lanes.items es q.end.ready_actions.items) (sym ready) there.end.actions);
       progress = one-progress goes.0 p.end.progress q.end.progress goes.2 progress_here;
-      state = told.0;
-      reached = told.1;
-      waiting = here.end.waits.waiting;
-      told = told.2;
-      places = here.end.waits.places;
-      other = other;
-      other_told = told_here;
-      other_places =
-          subst (λ (es : List Event). AreSpots (seen_of m p.lanes.items (uses_of procedures m.checked) other p.end.ready) other es q.end.places.items) (sym ready)
-          (subst (λ (s : Seen). AreSpots s other q.end.ready q.end.places.items)
-          (sym (seen-too m n procedures p.lanes.items q.lanes.items other p.end.ready q.end.ready one same ground.lanes ready)) there.end.waits.places);
+      places = places;
+      places_since =
+          places-since (record { live = m.live; depths = p.steps.depths.items }) (record { live = n.live; depths = q.steps.depths.items })
+          p.end.places.items q.end.places.items
+          (since-agrees m.checked m.live n.live p.steps.depths.items q.steps.depths.items equal here.steps.depths there.steps.depths) places
+          waits.since waits2.since;
       ring = no-ring m n ring.0 p.end.places.items q.end.places.items p.end.ring.items q.end.ring.items helped ring.2 ring_here;
       other_ring = no-ring n m ring.0 q.end.places.items p.end.places.items q.end.ring.items p.end.ring.items (sym helped) ring_here ring.2;
     }
@@ -198,9 +225,18 @@ follower-too m n procedures p q i j d b e f row other equal here there first sec
     let same : found.0 ≡ b = omega arith in
     subst (λ (k : ℕ). In k other) same found.1
 
-pub show-the-same : (m n : AtMachine) (procedures : List Procedure) (p q : Picture) → m.checked ≡ n.checked → AreEqualRuns m.checked m.live n.live →
-    Shows m procedures p → Shows n procedures q → ShowTheSame m n procedures p q
-show-the-same m n procedures p q one equal here there = record {
+-- since when the places of an event
+since-too : (m n : AtMachine) (procedures : List Procedure) (p q : Picture) (i j : ℕ) (e : Event) (s r : ℕ × ℕ) → AreEqualRuns m.checked m.live n.live →
+    Shows m procedures p → Shows n procedures q → StandsInBoth m n i j e → slice_get p.steps.since.items i ≡ Some s →
+    slice_get q.steps.since.items j ≡ Some r → s ≡ r
+since-too m n procedures p q i j e s r equal here there both at-i at-j =
+    event-since m.live n.live p.steps.depths.items q.steps.depths.items e s r
+    (since-agrees m.checked m.live n.live p.steps.depths.items q.steps.depths.items equal here.steps.depths there.steps.depths)
+    (here.steps.since.each i both.ticket e s both.here at-i) (there.steps.since.each j both.other e r both.there at-j)
+
+pub show-the-same : OneList → (m n : AtMachine) (procedures : List Procedure) (p q : Picture) → m.checked ≡ n.checked →
+    AreEqualRuns m.checked m.live n.live → Shows m procedures p → Shows n procedures q → ShowTheSame m n p q
+show-the-same lists m n procedures p q one equal here there = record {
   ground = one-ground m n procedures p q one here there;
   depths = λ i j e both.
       depths-agree m.checked m.live n.live p.steps.depths.items q.steps.depths.items i j both.ticket both.other e equal here.steps.depths
@@ -211,8 +247,9 @@ show-the-same m n procedures p q one equal here there = record {
       one-stand m n p.lanes.items q.lanes.items e s r (one-ground m n procedures p q one here there).lanes (same-lines m n one equal)
       (stands-at m p.lanes.items (events m.live) p.steps.actions.items i e s here.steps.actions (event-at m.live i both.ticket e both.here) at-i)
       (stands-at n q.lanes.items (events n.live) q.steps.actions.items j e r there.steps.actions (event-at n.live j both.other e both.there) at-j);
+  since = λ i j e s r both at-i at-j. since-too m n procedures p q i j e s r equal here there both at-i at-j;
   races = λ race i j e f within first second.
       races-agree m.checked m.live n.live p.steps.races.items q.steps.races.items race i j first.ticket second.ticket first.other second.other e f equal
       here.steps.races there.steps.races within first.here second.here first.there second.there;
-  end = one-end m n procedures p q one equal here there;
+  end = one-end lists m n procedures p q one equal here there;
 }

@@ -9,7 +9,7 @@ use Rattle.picture_data.specs.Shown.{Shows}
 use Rattle.picture_data.specs.declared.picture.Picture.{Picture}
 use Rattle.picture_text.specs.DataText.{data_text}
 use Rattle.picture_text.specs.PageText.{page_text}
-use Rattle.picture_laws.specs.EqualPictures.{IsOnePicture, TellsOneWait}
+use Rattle.picture_laws.specs.EqualPictures.{IsOnePicture}
 
 -- the tickets are n, the next number, and so on
 abbrev pub AreCounted : ℕ → Live → Type 0
@@ -22,13 +22,14 @@ pub record IsInOrder (m : AtMachine) : Type 0 where
   pub next : m.next ≡ suc (length m.live)
   pub canonical : IsCanonicalOrder (events m.live) (events m.live)
 
--- one picture, and the bytes of the data and of the page are one, whatever the names of the files
+-- one picture, and where both tell one ring or none, the bytes of the data and of the page are one, whatever the names of
+-- the files
 pub record HaveOnePage (m n : AtMachine) (p q : Picture) : Type 0 where
   pub picture : IsOnePicture p q
-  pub data_of : (source file stimulus trace : List ℕ) →
+  pub data_of : p.end.ring.items ≡ q.end.ring.items → (source file stimulus trace : List ℕ) →
       data_text m.checked m.live p source file stimulus trace
       ≡ data_text n.checked n.live q source file stimulus trace
-  pub page : (source file stimulus trace : List ℕ) →
+  pub page : p.end.ring.items ≡ q.end.ring.items → (source file stimulus trace : List ℕ) →
       page_text (data_text m.checked m.live p source file stimulus trace)
       ≡ page_text (data_text n.checked n.live q source file stimulus trace)
 
@@ -37,5 +38,5 @@ pub record HaveOnePage (m n : AtMachine) (p q : Picture) : Type 0 where
 abbrev pub EqualRunsHaveOnePage : Type 0
 EqualRunsHaveOnePage =
     (m n : AtMachine) (procedures : List Procedure) (p q : Picture) → m.checked ≡ n.checked →
-    AreEqualRuns m.checked m.live n.live → IsInOrder m → IsInOrder n → TellsOneWait m →
+    AreEqualRuns m.checked m.live n.live → IsInOrder m → IsInOrder n →
     Shows m procedures p → Shows n procedures q → HaveOnePage m n p q

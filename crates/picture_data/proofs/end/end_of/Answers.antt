@@ -1,10 +1,17 @@
-use Rattle.std.proofs.Common.{◌∙◌, ℕ, List, ap, subst}
+use Rattle.std.proofs.Common.{◌∙◌, ℕ, List, ap, sym, subst}
+use Rattle.runs.specs.Live.{Live}
 use Rattle.runs.specs.declared.event.Event.{Event}
-use Rattle.picture_data.specs.Shown.{EachStandsIn}
+use Rattle.picture_data.specs.Shown.{EachStandsIn, HasDepths}
 use Rattle.picture_data.specs.Spots.{ready_spots, ring_of}
 use Rattle.picture_data.specs.internal.SpotsSoFar.{AddsSpots}
 use Rattle.picture_data.proofs.WaitLaws.{shows-waits-by}
 use Rattle.picture_data.proofs.end.end_of.Goals as goal
+
+pub waiting_places-shown-requires : goal.waiting_places-shown-requires
+waiting_places-shown-requires c = subst (λ (l : Live). HasDepths l c.args.depths.now) (sym c.live_events-live.ensures) c.requires
+
+pub add_ready_places-requires : goal.add_ready_places-requires
+add_ready_places-requires c = subst (λ (l : Live). HasDepths l c.args.depths.now) (sym c.live_events-live.ensures) c.requires
 
 pub returns : goal.returns
 returns c =
