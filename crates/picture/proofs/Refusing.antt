@@ -10,9 +10,10 @@ use Rattle.picture_text.specs.declared.data.Names.{Names}
 use Rattle.json_text.specs.Strings.{IsPlain}
 use Rattle.picture_data.specs.Shown.{Shows}
 use Rattle.typed.specs.declared.tree.Procedure.{Procedure}
+use Rattle.typed_source.specs.Source.{IsTyped}
 use Rattle.picture_data.specs.declared.picture.Picture.{Picture}
 use Rattle.picture_text.specs.PageText.{page_text}
-use Rattle.picture.specs.Pictures.{AreData, IsPage, IsPictureBehind, IsPictureOf, IsPictured, IsShown, AreProcedures, ShowsRun, asked_event, data_text}
+use Rattle.picture.specs.Pictures.{AreData, IsPage, IsPictureBehind, IsPictureOf, IsPictured, IsShown, ShowsRun, asked_event, data_text}
 use Rattle.picture.specs.declared.Drawing.{Drawing}
 use Rattle.picture.specs.declared.Pictured.{Pictured}
 use Rattle.trace_file.specs.declared.fault.Fault.{Fault}
@@ -68,7 +69,7 @@ is-page m source names bytes json (Err error) same are is = tt
 
 -- what is drawn of these procedures
 pub shows-run : {E : Type 0} (m : AtMachine) (source : List ℕ) (given procedures : List Procedure) (result : Result Picture E) → given ≡ procedures →
-    AreProcedures source procedures → IfOk result (Shows m given) → IfOk result (ShowsRun m source)
+    IsTyped source procedures → IfOk result (Shows m given) → IfOk result (ShowsRun m source)
 shows-run m source given procedures (Ok picture) same are shows =
     (procedures, are, subst (λ (ps : List Procedure). Shows m ps picture) same shows)
 shows-run m source given procedures (Err error) same are shows = tt

@@ -1,5 +1,5 @@
 -- What comes of a picture that is asked for.
-use Rattle.std.specs.Prelude.{◌≡◌, ◌⊎◌, ℕ, List, [], Option, None}
+use Rattle.std.specs.Prelude.{◌≡◌, ℕ, List, Option, None}
 use Rattle.std.specs.List.{All}
 use Rattle.system.specs.declared.system.System.{System}
 use Rattle.runs.specs.Live.{Live}
@@ -29,14 +29,9 @@ abbrev pub data_text : AtMachine → Picture → List ℕ → Names → List ℕ
 data_text m p source names =
     model.data_text m.checked m.live p source names.file.now names.stimulus.now names.trace.now
 
--- the procedures of the source; none where it is not accepted, which it was
-abbrev pub AreProcedures : List ℕ → List Procedure → Type 0
-AreProcedures source procedures = IsTyped source procedures ⊎ (procedures ≡ [])
-
 -- the picture shows the machine, drawn on what there is in the source
 abbrev pub ShowsRun : AtMachine → List ℕ → Picture → Type 0
-ShowsRun m source picture =
-    (procedures : List Procedure) × AreProcedures source procedures × Shows m procedures picture
+ShowsRun m source picture = (procedures : List Procedure) × IsTyped source procedures × Shows m procedures picture
 
 -- the data of a picture that shows the machine, and no byte of them ends the script that they stand in
 pub record AreData (m : AtMachine) (source : List ℕ) (names : Names) (text : List ℕ) : Type 0 where

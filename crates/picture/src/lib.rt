@@ -188,13 +188,12 @@ fn data_of(
     data_text(alloc, machine, picture, source, names)
 }
 
-/// The picture of the run as data. Where the source is not one that is accepted, which it was, it has no blocks.
+/// The picture of the run as data. Where the source is not one that is accepted, which it was, it is an error too.
 fn taken(alloc: Global, machine: &Machine, source: &[u8]) -> Result<Picture, AllocError>
     ensures { IfOk result (ShowsRun machine.now source.now) }
 {
     match typed_source(alloc, source) {
         Ok(typed) => picture_of(alloc, machine, typed.procedures()),
-        Err(typed_source::Fault::Memory) => Err(AllocError),
-        Err(_) => picture_of(alloc, machine, &[]),
+        Err(_) => Err(AllocError),
     }
 }
