@@ -3,8 +3,8 @@
 use Rattle.std.specs.Prelude.{ℕ, ◌+◌, ◌==◌, ◌&&◌, List, [], ◌∷◌, Bool, true, false, cond, length, Option, None, Some, nat_lt, slice_get}
 use Rattle.std.specs.List.{insert}
 use Rattle.runs.specs.Moves.{Place}
+use Rattle.runs.specs.Tests.{same_entry}
 use Rattle.runs.specs.declared.event.Event.{Event}
-use Rattle.local_actions.specs.internal.At.{is_under}
 use Rattle.local_actions.specs.declared.action.LocalAction.{LocalAction}
 use Rattle.rings.specs.declared.partner.Partner.{Partner}
 use Rattle.rings.specs.declared.partner.Partner.TheVariants as partner
@@ -50,6 +50,12 @@ with_found None ks = ks
 with_found (Some n) ks = with_number n ks
 
 -- ---- what stands at a place or below it
+
+-- whether b is a or below it
+abbrev pub is_under : Place → Place → Bool
+is_under [] b = true
+is_under (x ∷ a) [] = false
+is_under (x ∷ a) (y ∷ b) = same_entry x y && is_under a b
 
 abbrev pub with_under : List Lane → Place → Place → List ℕ → List ℕ
 with_under lanes a b ks = cond (is_under a b) (with_found (lane_at lanes b) ks) ks

@@ -1,7 +1,6 @@
 // The lanes from which the partner of an action that waits can come.
 ghost use Rattle.std.specs.Prelude.{◌≡◌, ◌≤◌, ◌==◌, ◌&&◌, length, slice_get, IfOk, OnOk};
 ghost use Rattle.std.specs.Option.{option_copied};
-ghost use Rattle.local_actions.specs.internal.At as at;
 ghost use Rattle.runs.specs.Tests.{same_entry};
 ghost use Rattle.picture_data.specs.Wanted as model;
 ghost use Rattle.picture_data.specs.internal.SpotsSoFar.{around_in};
@@ -157,7 +156,7 @@ fn add_under(
 
 /// Whether the second place is the first or below it.
 fn is_under(place: &[Entry], other: &[Entry]) -> bool
-    ensures { result ≡ at.is_under place.now other.now }
+    ensures { result ≡ model.is_under place.now other.now }
 {
     let Some((first, rest)) = place.split_first() else {
         return true;
