@@ -2,8 +2,9 @@
 use Rattle.std.proofs.Common.{◌≡◌, ℕ, zero, suc, ◌+◌, List, [], ◌∷◌, ◌++◌, Bool, true, false, true≢false, cond, Option, None, Some, refl, sym, ◌∙◌, ap, subst, arith}
 use Rattle.std.specs.Prelude.{slice_get}
 use Rattle.std.specs.Cmp.Lexicographic.{bytes_decides}
-use Rattle.picture_lanes.specs.Lanes.{EachOnce, HasPath, NoneHas, index_from, lane_index, same_path}
+use Rattle.picture_lanes.specs.Lanes.{EachOnce, HasPath, NoneHas, index_from, lane_index, same_path, stop_if_new, with_stop_lane}
 use Rattle.picture_lanes.specs.declared.lane.Lane.{Lane}
+use Rattle.picture_lanes.specs.declared.walk.Stop.{Stop}
 
 is-one : (a b : List ℕ) → same_path a b ≡ true → a ≡ b
 is-one a b on = (bytes_decides a b).0 on
@@ -84,3 +85,13 @@ found-from n (x ∷ lanes) path (suc k) each has =
 pub found_at : (lanes : List Lane) (path : List ℕ) (k : ℕ) → EachOnce lanes → HasPath lanes k path → lane_index lanes path ≡ Some k
 found_at lanes path k each has =
     let at : 0 + k ≡ k = omega arith in found-from 0 lanes path k each has ∙ ap (λ (i : ℕ). Some i) at
+
+-- where one has the path, one is found
+some-found : (lanes : List Lane) (path : List ℕ) (k : ℕ) → HasPath lanes k path → (o : Option ℕ) → lane_index lanes path ≡ o → (i : ℕ) × (o ≡ Some i)
+some-found lanes path k has None none = absurd (none-at lanes path k (none-has 0 lanes path none) has)
+some-found lanes path k has (Some i) at = (i, refl)
+
+-- a command in a lane that is there adds none
+pub kept_where_there : (lanes : List Lane) (s : Stop) (k : ℕ) → HasPath lanes k s.path → with_stop_lane lanes s ≡ lanes
+kept_where_there lanes s k has =
+    ap (λ (o : Option ℕ). stop_if_new o lanes s) (some-found lanes s.path k has (lane_index lanes s.path) refl).1

@@ -172,11 +172,16 @@ fn body_lanes(alloc: Global, stops: &[Stop]) -> Result<Vec<Lane>, AllocError>
     Ok(lanes)
 }
 
-/// Puts the lane of the command where it belongs, if it is not there.
+/// Puts the lane of the command where it belongs, if it is not there. It is looked for by halves first.
+#[tactic(auto, using(crate::proofs::Paths::kept_where_there))]
 fn note_stop(alloc: Global, lanes: &mut Vec<Lane>, stop: &Stop) -> Result<(), AllocError>
     ensures { OnOk result (lanes.new.items ≡ model.with_stop_lane lanes.old.items stop.now) }
 {
     let path = stop.path.as_slice();
+    let likely = position(lanes.as_slice(), path);
+    if has_path(lanes.as_slice(), likely, path) {
+        return Ok(());
+    }
     match index_of(lanes.as_slice(), path) {
         Some(_) => Ok(()),
         None => {
