@@ -15,6 +15,14 @@ failures counted = counted.failures
 abbrev pub patience : {D : Type 0} → Counted D → ℕ
 patience counted = counted.patience
 
+-- how many of the bytes that it took last are not sent on yet, 2^64 - 1 at most
+abbrev pub unsent : {D : Type 0} → Counted D → ℕ
+unsent counted = counted.unsent
+
+-- how many bytes it was last asked to take
+abbrev pub wanted : {D : Type 0} → Counted D → ℕ
+wanted counted = counted.wanted
+
 -- one failure more
 abbrev pub one_more : ℕ → ℕ
 one_more n = (n + 1) % 2 ^ 64

@@ -1,12 +1,12 @@
 //! Devices that count how often they failed.
 
-ghost use Rattle.std.specs.Prelude.{◌≡◌, ◌≢◌, ◌⊎◌, ◌++◌, ◌<◌, ◌+◌, ◌-◌, ◌^◌, ◌∷◌, vec_len, IfOk, IfErr, OnOk, IfSome, MatchResult, MatchBool, [], true, false};
+ghost use Rattle.std.specs.Prelude.{◌≡◌, ◌≢◌, ◌⊎◌, ◌++◌, ◌<◌, ◌+◌, ◌-◌, ◌^◌, ◌∷◌, min, vec_len, IfOk, IfErr, OnOk, IfSome, MatchResult, MatchBool, [], true, false};
 ghost use Rattle.std.specs.IoError.{error_kind};
 ghost use Rattle.std.specs.Io.{WritesAtMost, StopsAt, appended_bytes};
 ghost use Rattle.std.specs.Io.KnownBytes.{Consumes, Keeps, WriteAppends};
 ghost use Rattle.std.specs.Io.BufRead.{take_through, ends_with_byte, DropsThrough};
 ghost use Rattle.std.specs.Io.Buffered.{reader_buffer, reader_inner, reader_remaining};
-ghost use Rattle.devices.specs.Counting.{device, failures, patience, one_more, CountsIf};
+ghost use Rattle.devices.specs.Counting.{device, failures, patience, unsent, wanted, one_more, CountsIf};
 ghost use Rattle.devices.specs.declared.failure.ReadFault.TheVariants.{Memory, Failed};
 
 use crate::{CountedLines, CountedRead, CountedWrite, ReadFault, WriteFailed};
@@ -27,6 +27,10 @@ pub struct Counted<D> {
     failures: u64,
     /// how many more interruptions are borne
     patience: u64,
+    /// how many of the bytes that it took last are not sent on yet, 2^64 - 1 at most
+    unsent: usize,
+    /// how many bytes it was last asked to take
+    wanted: usize,
 }
 
 impl<D> Counted<D> {
@@ -35,11 +39,14 @@ impl<D> Counted<D> {
         ensures whole { device result ≡ inner }
         ensures none { failures result ≡ 0 }
         ensures patience { patience result ≡ 2 ^ 64 - 1 }
+        ensures unsent { unsent result ≡ 0 }
     {
         Counted {
             device: inner,
             failures: 0,
             patience: u64::MAX,
+            unsent: 0,
+            wanted: 0,
         }
     }
 
@@ -48,6 +55,8 @@ impl<D> Counted<D> {
         ensures device { device self.new ≡ device self.old }
         ensures failures { failures self.new ≡ one_more (failures self.old) }
         ensures patience { patience self.new ≡ patience self.old }
+        ensures unsent { unsent self.new ≡ unsent self.old }
+        ensures wanted { wanted self.new ≡ wanted self.old }
     {
         self.failures = self.failures.wrapping_add(1);
     }
@@ -59,6 +68,8 @@ impl<D> Counted<D> {
             × (failures self.new ≡ failures self.old) × (patience self.new < patience self.old))
             ⊎ ((error_kind result ≢ ErrorKind.Interrupted) × (failures self.new ≡ one_more (failures self.old))
             × ((error_kind error ≢ ErrorKind.Interrupted) ⊎ (patience self.old ≡ 0))) }
+        ensures unsent { unsent self.new ≡ unsent self.old }
+        ensures wanted { wanted self.new ≡ wanted self.old }
     {
         if error.kind() != ErrorKind::Interrupted {
             self.count();
@@ -164,12 +175,16 @@ impl<W: Write> Write for Counted<W> {
             (λ error. CountsIf (error_kind error ≢ ErrorKind.Interrupted) (failures self.old) (failures self.new)) }
         ensures borne { MatchResult result (λ _. patience self.new ≡ patience self.old)
             (λ error. error_kind error ≡ ErrorKind.Interrupted → patience self.new < patience self.old) }
+        ensures unsent { MatchResult result (λ count. unsent self.new ≡ min (unsent self.old + count) (2 ^ 64 - 1))
+            (λ _. unsent self.new ≡ unsent self.old) }
+        ensures wanted { wanted self.new ≡ wanted self.old }
     {
         match self.device.write(buf) {
             Ok(count) => {
                 if count == 0 && !buf.is_empty() {
                     self.count();
                 }
+                self.unsent = self.unsent.saturating_add(count);
                 Ok(count)
             }
             Err(error) => Err(self.seen(error)),
@@ -180,10 +195,14 @@ impl<W: Write> Write for Counted<W> {
         ensures bytes { Keeps (W.contents (device self.old)) (W.contents (device self.new)) }
         ensures counted { MatchResult result (λ _. failures self.new ≡ failures self.old)
             (λ _. failures self.new ≡ one_more (failures self.old)) }
+        ensures sent { MatchResult result (λ _. unsent self.new ≡ 0) (λ _. unsent self.new ≡ unsent self.old) }
+        ensures wanted { wanted self.new ≡ wanted self.old }
     {
         let flushed = self.device.flush();
         if flushed.is_err() {
             self.count();
+        } else {
+            self.unsent = 0;
         }
         flushed
     }
@@ -196,7 +215,12 @@ impl<W: Write> CountedWrite for Counted<W> {
 
     ghost tries = { patience };
 
+    ghost unsent = { unsent };
+
+    ghost wanted = { wanted };
+
     fn write_some(&mut self, bytes: &[u8]) -> Result<usize, WriteFailed> {
+        self.wanted = bytes.len();
         match self.write(bytes) {
             Ok(count) => taken(count),
             Err(error) => failed(&error),
@@ -204,6 +228,7 @@ impl<W: Write> CountedWrite for Counted<W> {
     }
 
     fn flush_out(&mut self) -> Result<(), WriteFailed> {
+        self.wanted = 0;
         match self.flush() {
             Ok(()) => Ok(()),
             Err(_) => Err(WriteFailed),

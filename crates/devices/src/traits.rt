@@ -23,6 +23,12 @@ pub trait CountedWrite {
     // How many more writes may take no byte.
     ghost tries: { Self → ℕ };
 
+    // How many of the bytes that were written last may not be sent on yet.
+    ghost unsent: { Self → ℕ };
+
+    // How many bytes it was asked to take when it last failed: none where it was asked to send on what it had.
+    ghost wanted: { Self → ℕ };
+
     /// Takes some of the bytes, of which there are some, and tells how many: none where it was interrupted.
     fn write_some(&mut self, bytes: &[u8]) -> Result<usize, WriteFailed>
         requires { bytes.now ≢ [] }
@@ -32,12 +38,16 @@ pub trait CountedWrite {
             (λ _. Keeps (contents self.old) (contents self.new)) }
         ensures counted { failed self.new ≡ after_failing result (failed self.old) }
         ensures less { IfOk result (λ count.
-            tries self.new + (length bytes.now - count) < tries self.old + length bytes.now) };
+            tries self.new + (length bytes.now - count) < tries self.old + length bytes.now) }
+        ensures unsent { MatchResult result (λ count. unsent self.new ≤ unsent self.old + count)
+            (λ _. (unsent self.new ≤ unsent self.old) × (wanted self.new ≡ length bytes.now)) };
 
     /// Sends on what was written.
     fn flush_out(&mut self) -> Result<(), WriteFailed>
         ensures bytes { Keeps (contents self.old) (contents self.new) }
-        ensures counted { failed self.new ≡ after_failing result (failed self.old) };
+        ensures counted { failed self.new ≡ after_failing result (failed self.old) }
+        ensures sent { MatchResult result (λ _. unsent self.new ≡ 0)
+            (λ _. (unsent self.new ≤ unsent self.old) × (wanted self.new ≡ 0)) };
 }
 
 /// A reader that counts how often it failed, as `CountedWrite` does.

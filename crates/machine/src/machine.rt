@@ -5,7 +5,10 @@ ghost use Rattle.runs.specs.Object.{Reaches};
 ghost use Rattle.runs.specs.Ready.{ReadyList};
 ghost use Rattle.runs.specs.Does.{Answers};
 ghost use Rattle.runs.specs.declared.command.Command.{Command};
+ghost use Rattle.process_tree.specs.Tidy.{Tidy};
+ghost use Rattle.process_tree.specs.View.{tree_view};
 ghost use Rattle.local_actions.specs.Actions.{OffersExactly};
+ghost use Rattle.local_actions.specs.View.{state_of};
 ghost use Rattle.event_places.specs.EventPlaces.{line_after, is_open_after};
 ghost use Rattle.machine.specs.Branching.{AnswersBranch};
 ghost use Rattle.machine.specs.AtMachine.{object};
@@ -22,11 +25,12 @@ use channel_uses::ChannelUses;
 use dependence::Live;
 use event_places::{line_after, select_after};
 use local_actions::LocalAction;
-use process_tree::system_code;
+use process_tree::{Tree, system_code};
 use runs::{Choice, Event, Refusal};
 use sharing_check::Checked;
 use std::alloc::{AllocError, Global};
 use std::marker::Model;
+use store::Store;
 use syntax::Items;
 use value::Value;
 
@@ -94,6 +98,15 @@ impl Machine {
         ensures { result.now.live ≡ self.now.live }
     {
         &self.history.live
+    }
+
+    /// The tree and the values of the variables to which the live events lead, lent as they stand. Each sequence of the
+    /// tree is at work in one child.
+    pub fn state(&self) -> (&Tree, &Store)
+        ensures reaches { Reaches (object self.now) (state_of result.0.now result.1.now) }
+        ensures tidy { Tidy (tree_view result.0.now) }
+    {
+        (&self.history.tree, &self.history.store)
     }
 
     /// The ticket and the event at an index of the live events, counted from 0 in order of tickets; `None` past the

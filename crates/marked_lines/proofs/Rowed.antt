@@ -84,58 +84,66 @@ in_turn old blanks cut told note rows n1 n2 n3 n4 n5 n6 gut part end e1 e2 e3 e4
 
 -- ---- rows
 
--- a row behind others
-rows_more : (text : List ℕ) (wide : ℕ) (rows : List (List Mark)) (told : List ℕ) (row : List Mark) (more : List ℕ)
-    → AreRows text wide rows told → IsRow text wide row more → AreRows text wide (rows ++ row ∷ []) (told ++ more)
-rows_more text wide [] told row more none is = (more, [], ap (λ z. z ++ more) none ∙ sym (append-nil more), is, refl)
-rows_more text wide (one ∷ rows) told row more all is = (
-  all.0,
-  all.1 ++ more,
-  ap (λ z. z ++ more) all.2 ∙ append_assoc all.0 all.1 more,
-  all.3,
-  rows_more text wide rows all.1 row more all.4 is,
-)
-
 -- the marks of rows with one more
 marks_more : (rows : List (List Mark)) (row : List Mark) → marks_in (rows ++ row ∷ []) ≡ marks_in rows ++ row
 marks_more [] row = append-nil row
 marks_more (one ∷ rows) row = ap (λ z. one ++ z) (marks_more rows row) ∙ sym (append_assoc one (marks_in rows) row)
 
+-- a row behind others
+rows_more : (text : List ℕ) (wide : ℕ) (rows : List (List Mark)) (told : List ℕ) (row later : List Mark) (more : List ℕ)
+    → AreRows text wide rows (row ++ later) told → IsRow text wide row later more
+    → AreRows text wide (rows ++ row ∷ []) later (told ++ more)
+rows_more text wide [] told row later more none is =
+    (more, [], ap (λ z. z ++ more) none ∙ sym (append-nil more), is, refl)
+rows_more text wide (one ∷ rows) told row later more all is = (
+  all.0,
+  all.1 ++ more,
+  ap (λ z. z ++ more) all.2 ∙ append_assoc all.0 all.1 more,
+  subst (λ z. IsRow text wide one z all.0)
+      (sym (append_assoc (marks_in rows) row later) ∙ ap (λ z. z ++ later) (sym (marks_more rows row))) all.3,
+  rows_more text wide rows all.1 row later more all.4 is,
+)
+
 -- the first n marks are shown
 abbrev pub Shown : List ℕ → ℕ → List Mark → ℕ → List ℕ → List ℕ → Type 0
 Shown text wide marks n old new =
     (all : List (List Mark)) × (told : List ℕ) × (n ≤ length marks) × (marks_in all ++ drop n marks ≡ marks)
-    × AreRows text wide all told × (new ≡ old ++ told)
+    × AreRows text wide all (drop n marks) told × (new ≡ old ++ told)
 
 pub none_shown : (text : List ℕ) (wide : ℕ) (marks : List Mark) (old : List ℕ) → Shown text wide marks 0 old old
 none_shown text wide marks old = ([], [], omega arith, refl, refl, sym (append-nil old))
 
 pub more_shown : (text : List ℕ) (wide : ℕ) (marks rest : List Mark) (n count : ℕ) (old new more : List ℕ)
     → Shown text wide marks n old new → rest ≡ drop n marks → count ≤ length rest
-    → AddsRow text wide (take count rest) new more → Shown text wide marks (n + count) old more
+    → AddsRow text wide (take count rest) (drop count rest) new more → Shown text wide marks (n + count) old more
 more_shown text wide marks rest n count old new more shown is fits row =
     let front = marks_in shown.0 in
     let next = take count rest in
     let behind : drop (n + count) marks ≡ drop count rest =
     sym (drop-drop count n marks) ∙ ap (λ z. drop count z) (sym is) in
     let long : length rest ≡ length marks - n = ap length is ∙ length-drop n marks in
-    let within : n ≤ length marks = shown.2 in (
+    let within : n ≤ length marks = shown.2 in
+    let split : drop n marks ≡ next ++ drop (n + count) marks =
+    sym is ∙ sym (take-append-drop count rest) ∙ ap (λ z. next ++ z) (sym behind) in (
       shown.0 ++ next ∷ [],
       shown.1 ++ row.0,
       omega (arith, fits, long, within),
       ap (λ z. z ++ drop (n + count) marks) (marks_more shown.0 next) ∙ append_assoc front next (drop (n + count) marks)
           ∙ ap (λ z. front ++ (next ++ z)) behind ∙ ap (λ z. front ++ z) (take-append-drop count rest ∙ is) ∙ shown.3,
-      rows_more text wide shown.0 shown.1 next row.0 shown.4 row.1,
+      rows_more text wide shown.0 shown.1 next (drop (n + count) marks) row.0
+          (subst (λ z. AreRows text wide shown.0 z shown.1) split shown.4)
+          (subst (λ z. IsRow text wide next z row.0) (sym behind) row.1),
       row.2 ∙ ap (λ z. z ++ row.0) shown.5 ∙ append_assoc old shown.1 row.0,
     )
 
 pub all_shown : (text : List ℕ) (wide : ℕ) (marks : List Mark) (n : ℕ) (old new : List ℕ) → length marks ≤ n
     → Shown text wide marks n old new
-    → (all : List (List Mark)) × (told : List ℕ) × (marks_in all ≡ marks) × AreRows text wide all told × (new ≡ old ++ told)
+    → (all : List (List Mark)) × (told : List ℕ) × (marks_in all ≡ marks) × AreRows text wide all [] told
+    × (new ≡ old ++ told)
 all_shown text wide marks n old new end shown = (
   shown.0,
   shown.1,
   sym (append-nil (marks_in shown.0)) ∙ ap (λ z. marks_in shown.0 ++ z) (sym (drop_all n marks end)) ∙ shown.3,
-  shown.4,
+  subst (λ z. AreRows text wide shown.0 z shown.1) (drop_all n marks end) shown.4,
   shown.5,
 )

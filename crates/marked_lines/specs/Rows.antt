@@ -1,5 +1,5 @@
 -- Lines of a text with marks under them.
-use Rattle.std.specs.Prelude.{◌≡◌, ◌≢◌, ℕ, ◌+◌, ◌-◌, ◌<◌, ◌≤◌, Bool, false, ◌&&◌, nat_le, if◌then◌else◌, List, [], ◌∷◌, ◌++◌, length, max, min, sum_by, replicate, flat_map, slice_index, slice_range, codes, decimal, encode_utf8}
+use Rattle.std.specs.Prelude.{◌≡◌, ◌≢◌, ◌⊎◌, ℕ, ◌+◌, ◌-◌, ◌<◌, ◌≤◌, Bool, false, true, ◌&&◌, nat_le, nat_lt, if◌then◌else◌, List, [], ◌∷◌, ◌++◌, length, max, min, sum_by, replicate, flat_map, slice_index, slice_range, codes, decimal, encode_utf8}
 use Rattle.bstr.specs.Utf8.{lossy_chars}
 use Rattle.source_places.specs.Places.{BeginsLine, ends_before, line_end, within}
 use Rattle.marked_lines.specs.Marks.{blank, blanks_under, columns, shown, signs}
@@ -39,11 +39,13 @@ abbrev pub mark_signs : List ℕ → ℕ → List ℕ
 mark_signs bytes sign = signs (max 1 (columns_of bytes)) sign
 
 -- the signs of marks, the first behind the byte at `behind`: each begins under the first character that it marks, and
--- has a sign under each column up to its end, or that of the part. A mark of no bytes has one sign or more
+-- has a sign under each column up to its end, or that of the part. A mark of no bytes has one sign or more, up to where
+-- a character of four bytes ends
 abbrev pub IsSigns : List ℕ → Part → ℕ → List Mark → List ℕ → Type 0
 IsSigns text part behind [] told = told ≡ []
 IsSigns text part behind (mark ∷ marks) told =
     (stop : ℕ) × (rest : List ℕ) × (mark.start < mark.stop → stop ≡ min mark.stop part.to)
+    × (mark.stop ≤ mark.start → stop ≤ mark.start + 4)
     × (told ≡ blanks_under (lossy_chars (between text behind mark.start)) ++ mark_signs (between text mark.start stop)
     mark.sign ++ rest)
     × IsSigns text part (max stop mark.start) marks rest
@@ -72,6 +74,18 @@ note_rows text part wide (mark ∷ []) = []
 note_rows text part wide (mark ∷ next ∷ marks) =
     note_rows text part wide (next ∷ marks) ++ note_row text part wide mark.start mark.note.now
 
+-- a line ends there, or the text does
+abbrev pub IsEnd : List ℕ → ℕ → Type 0
+IsEnd text end = (end ≡ length text) ⊎ (slice_index text end ≡ line_end)
+
+-- so does what is shown of a line, without a byte 13 that ends it
+abbrev pub EndsShown : List ℕ → ℕ → Type 0
+EndsShown text end = IsEnd text end ⊎ ((slice_index text end ≡ 13) × IsEnd text (end + 1))
+
+-- so many bytes are shown at least of a line of which some behind them are cut off
+abbrev pub least_shown : ℕ
+least_shown = 160
+
 -- the part is one of the line of the byte at the offset, and all of it where nothing is cut off. A byte 13 at its end
 -- belongs to it where `keeps_return` is set
 pub record IsPartAt (text : List ℕ) (offset : ℕ) (part : Part) : Type 0 where
@@ -81,6 +95,11 @@ pub record IsPartAt (text : List ℕ) (offset : ℕ) (part : Part) : Type 0 wher
   pub behind : start ≤ part.from
   pub whole : part.is_cut_before ≡ false → part.from ≡ start
   pub inside : (k : ℕ) → part.from ≤ k → k < part.to → k < length text → slice_index text k ≢ line_end
+  -- it goes up to the end of the line, or is long and has the byte in it
+  pub all : part.is_cut_behind ≡ false → EndsShown text part.to
+  pub long : part.is_cut_behind ≡ true → part.from + least_shown ≤ part.to
+  pub ahead : part.from ≤ within text offset
+  pub reached : part.is_cut_behind ≡ true → within text offset ≤ part.to
 
 -- a part of a line, under it these signs, and then what is said of the marks
 abbrev pub row_text : List ℕ → ℕ → Part → List ℕ → List Mark → List ℕ
@@ -89,28 +108,43 @@ row_text text wide part signs marks =
     ++ gutter [] wide ++ under_cut part.is_cut_before ++ signs ++ behind_blank (last_note marks) ++ codes "\n"
     ++ note_rows text part wide marks
 
--- a row shows a part of the line of its first mark, and under it the marks
-abbrev pub IsRow : List ℕ → ℕ → List Mark → List ℕ → Type 0
-IsRow text wide [] told = ⊥
-IsRow text wide (mark ∷ marks) told =
-    (part : Part) × (signs : List ℕ) × IsPartAt text mark.start part × IsSigns text part part.from (mark ∷ marks) signs
-    × (told ≡ row_text text wide part signs (mark ∷ marks))
+-- whether a mark shares a row with the one before it: it begins behind that, in the part or behind its last byte
+abbrev pub goes_on : Part → Mark → Mark → Bool
+goes_on part before mark =
+    nat_le part.from mark.start && nat_le mark.start part.to && nat_le before.stop mark.start
+    && nat_lt before.start mark.start
+
+-- these marks share a row with the one before them, and the next one does not
+abbrev pub ShareRow : Part → Mark → List Mark → List Mark → Type 0
+ShareRow part before [] [] = Unit {0}
+ShareRow part before [] (next ∷ later) = goes_on part before next ≡ false
+ShareRow part before (mark ∷ marks) later = (goes_on part before mark ≡ true) × ShareRow part mark marks later
+
+-- A row shows a part of the line of its first mark, and under it the marks: as many as can share the row, where these
+-- come later.
+abbrev pub IsRow : List ℕ → ℕ → List Mark → List Mark → List ℕ → Type 0
+IsRow text wide [] later told = ⊥
+IsRow text wide (mark ∷ marks) later told =
+    (part : Part) × (signs : List ℕ) × IsPartAt text mark.start part × ShareRow part mark marks later
+    × IsSigns text part part.from (mark ∷ marks) signs × (told ≡ row_text text wide part signs (mark ∷ marks))
 
 -- one more row is there
-abbrev pub AddsRow : List ℕ → ℕ → List Mark → List ℕ → List ℕ → Type 0
-AddsRow text wide row old new = (told : List ℕ) × IsRow text wide row told × (new ≡ old ++ told)
-
-abbrev pub AreRows : List ℕ → ℕ → List (List Mark) → List ℕ → Type 0
-AreRows text wide [] told = told ≡ []
-AreRows text wide (row ∷ rows) told =
-    (first : List ℕ) × (rest : List ℕ) × (told ≡ first ++ rest) × IsRow text wide row first × AreRows text wide rows rest
+abbrev pub AddsRow : List ℕ → ℕ → List Mark → List Mark → List ℕ → List ℕ → Type 0
+AddsRow text wide row later old new = (told : List ℕ) × IsRow text wide row later told × (new ≡ old ++ told)
 
 -- the marks of all rows
 abbrev pub marks_in : List (List Mark) → List Mark
 marks_in [] = []
 marks_in (row ∷ rows) = row ++ marks_in rows
 
+-- rows, where these marks come later
+abbrev pub AreRows : List ℕ → ℕ → List (List Mark) → List Mark → List ℕ → Type 0
+AreRows text wide [] later told = told ≡ []
+AreRows text wide (row ∷ rows) later told =
+    (first : List ℕ) × (rest : List ℕ) × (told ≡ first ++ rest) × IsRow text wide row (marks_in rows ++ later) first
+    × AreRows text wide rows later rest
+
 -- rows, each with some of the marks, all of them in turn
 abbrev pub AreMarked : List ℕ → List Mark → List ℕ → Type 0
 AreMarked text marks told =
-    (wide : ℕ) × (rows : List (List Mark)) × (marks_in rows ≡ marks) × AreRows text wide rows told
+    (wide : ℕ) × (rows : List (List Mark)) × (marks_in rows ≡ marks) × AreRows text wide rows [] told

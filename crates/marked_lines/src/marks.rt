@@ -1,5 +1,5 @@
 // Rows of a text, each with the marks under it.
-ghost use Rattle.std.specs.Prelude.{◌≡◌, ◌++◌, ◌<◌, ◌≤◌, ℕ, List, IfOk, codes, decimal, length, min, string_bytes, take};
+ghost use Rattle.std.specs.Prelude.{◌≡◌, ◌++◌, ◌+◌, ◌<◌, ◌≤◌, ℕ, [], List, IfOk, codes, decimal, drop, length, min, string_bytes, take};
 ghost use Rattle.marked_lines.specs.declared.marks.Mark.{Mark};
 ghost use Rattle.marked_lines.specs.Rows as rows;
 
@@ -28,15 +28,27 @@ fn add_gutter(out: &mut String, number: &str, columns: usize) -> Result<(), Allo
 }
 
 impl Part {
+    /// Whether a mark shares a row with the one before it: it begins behind that, in the part or behind its last byte.
+    fn goes_on(self, before: Mark<'_>, mark: Mark<'_>) -> bool
+        ensures { result ≡ rows.goes_on self before.entry mark.entry }
+    {
+        self.from <= mark.start
+            && mark.start <= self.to
+            && before.stop <= mark.start
+            && before.start < mark.start
+    }
+
     /// Where what stands over the signs of a mark ends. A mark of no bytes has the character behind it over its sign,
     /// but a tab stands behind the sign.
     fn stop_of(self, text: &[u8], mark: Mark<'_>) -> usize
-        ensures { mark.entry.start < mark.entry.stop → result ≡ min mark.entry.stop self.to }
+        ensures some { mark.entry.start < mark.entry.stop → result ≡ min mark.entry.stop self.to }
+        ensures none { mark.entry.stop ≤ mark.entry.start → result ≤ mark.entry.start + 4 }
     {
         if mark.start < mark.stop || text.get(mark.start) == Some(&b'\t') {
             return mark.stop.min(self.to);
         }
-        character_from(text, mark.start.saturating_add(1)).min(self.to)
+        let behind = character_from(text, mark.start.saturating_add(1));
+        behind.min(mark.start.saturating_add(4)).min(self.to)
     }
 }
 
@@ -182,23 +194,21 @@ fn gutter_columns(alloc: Global, text: &[u8], marks: &[Mark<'_>]) -> Result<usiz
     Ok(line_text(alloc, last)?.len())
 }
 
-/// How many of the marks, the first of which stands in the part, stand in it one behind the other.
-fn marks_within(part: Part, marks: &[Mark<'_>]) -> usize
-    ensures { result ≤ length marks.now }
+/// How many of the marks share the row of the one before them.
+fn marks_within(part: Part, before: Mark<'_>, marks: &[Mark<'_>]) -> usize
+    ensures within { result ≤ length marks.now }
+    ensures share { rows.ShareRow part before.entry (take result marks.now) (drop result marks.now) }
 {
-    let mut count = 0_usize;
-    let mut behind = 0;
-    for mark in marks {
-        if !part.has(mark.start) || mark.start < behind {
-            return count;
-        }
-        behind = mark.stop.max(mark.start.saturating_add(1));
-        count += 1;
+    let Some((mark, rest)) = marks.split_first() else {
+        return 0;
+    };
+    if !part.goes_on(before, *mark) {
+        return 0;
     }
-    count
+    1 + marks_within(part, *mark, rest)
 }
 
-/// Adds a row with the first of the marks, and those of its line. How many there are.
+/// Adds a row with the first of the marks, and those that share it. How many there are.
 fn add_next(
     alloc: Global,
     out: &mut String,
@@ -209,16 +219,19 @@ fn add_next(
 ) -> Result<usize, AllocError>
     requires { 0 < length marks.now }
     ensures { IfOk result (λ count. (0 < count) × (count ≤ length marks.now) × rows.AddsRow text.now columns
-        (take count marks.now) (string_bytes out.old) (string_bytes out.new)) }
+        (take count marks.now) (drop count marks.now) (string_bytes out.old) (string_bytes out.new)) }
 {
-    let part = part_around(text, marks[0].start, keeps_return);
-    let count = marks_within(part, marks).max(1);
+    let Some((first, behind)) = marks.split_first() else {
+        return Ok(0);
+    };
+    let part = part_around(text, first.start, keeps_return);
+    let count = 1 + marks_within(part, *first, behind);
     let (row, _) = marks.split_at(count);
     add_row(alloc, out, text, part, row, columns)?;
     Ok(count)
 }
 
-/// Adds rows with all the marks, those of one line in one row.
+/// Adds rows with all the marks, those that can share a row in one.
 fn add_rows(
     alloc: Global,
     out: &mut String,
@@ -228,7 +241,7 @@ fn add_rows(
     columns: usize,
 ) -> Result<(), AllocError>
     ensures { IfOk result (λ _. (all : List (List Mark)) × (told : List ℕ) × (rows.marks_in all ≡ marks.now)
-        × rows.AreRows text.now columns all told × (string_bytes out.new ≡ string_bytes out.old ++ told)) }
+        × rows.AreRows text.now columns all [] told × (string_bytes out.new ≡ string_bytes out.old ++ told)) }
 {
     let mut shown = 0;
     'shown: while shown < marks.len() {

@@ -1,9 +1,9 @@
 // The part of a line that is shown.
-ghost use Rattle.std.specs.Prelude.{◌≡◌, ◌≢◌, ◌++◌, ◌+◌, ◌<◌, ◌≤◌, ℕ, IfOk, length, nat_lt, slice_index, string_bytes};
+ghost use Rattle.std.specs.Prelude.{◌≡◌, ◌≢◌, ◌++◌, ◌+◌, ◌-◌, ◌<◌, ◌≤◌, ℕ, IfOk, length, min, nat_lt, slice_index, string_bytes};
 ghost use Rattle.bstr.specs.Utf8.{lossy_chars};
 ghost use Rattle.source_places.specs.Places.{line_end, within};
 ghost use Rattle.marked_lines.specs.Marks.{blanks_under, signs, under};
-ghost use Rattle.marked_lines.specs.Rows.{IsPartAt, between, columns_of, cut_off, mark_signs, part_text, shown_text, under_cut};
+ghost use Rattle.marked_lines.specs.Rows.{EndsShown, IsPartAt, between, columns_of, cut_off, least_shown, mark_signs, part_text, shown_text, under_cut};
 
 use crate::shown::{add_blanks, add_signs, columns, shown};
 use bstr::ByteSlice;
@@ -46,6 +46,7 @@ fn shown_end(text: &[u8], start: usize, keeps_return: bool) -> usize
     ensures within { result ≤ length text.now }
     ensures behind { within text.now start ≤ result }
     ensures inside { (k : ℕ) → within text.now start ≤ k → k < result → slice_index text.now k ≢ line_end }
+    ensures end { EndsShown text.now result }
 {
     let end = end_of_line(text, start);
     if keeps_return || end <= start || text.get(end - 1) != Some(&b'\r') {
@@ -58,10 +59,15 @@ fn shown_end(text: &[u8], start: usize, keeps_return: bool) -> usize
 fn part_start(text: &[u8], start: usize, end: usize, offset: usize) -> usize
     requires order { start ≤ end }
     requires within { end ≤ length text.now }
-    ensures { start ≤ result }
+    ensures behind { start ≤ result }
+    ensures end { result ≤ end }
+    ensures ahead { start ≤ offset → result ≤ offset }
+    ensures near { min offset (end - 100) ≤ result + 60 }
 {
     if end.saturating_sub(start) > LONGEST && offset.saturating_sub(start) > BEFORE {
-        character_from(text, offset.saturating_sub(BEFORE)).min(end)
+        character_from(text, offset.saturating_sub(BEFORE))
+            .min(offset)
+            .min(end)
     } else {
         start
     }
@@ -69,7 +75,8 @@ fn part_start(text: &[u8], start: usize, end: usize, offset: usize) -> usize
 
 /// Where the part of a line ends that begins at `from`.
 fn part_stop(text: &[u8], from: usize, end: usize) -> usize
-    ensures { result ≤ end }
+    ensures within { result ≤ end }
+    ensures long { end ≤ length text.now → result < end → from + least_shown ≤ result }
 {
     if end.saturating_sub(from) > LONGEST {
         character_from(text, from.saturating_add(LONGEST)).min(end)
@@ -104,11 +111,6 @@ pub fn bytes_between(text: &[u8], from: usize, to: usize) -> &[u8]
 }
 
 impl Part {
-    /// Whether the byte stands in it, or behind its last one.
-    pub fn has(self, offset: usize) -> bool {
-        self.from <= offset && offset <= self.to
-    }
-
     /// Adds it as it is shown.
     pub fn add(self, out: &mut String, text: &[u8]) -> Result<(), AllocError>
         ensures { IfOk result (λ _. string_bytes out.new ≡ string_bytes out.old ++ part_text text.now self) }

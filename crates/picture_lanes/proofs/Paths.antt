@@ -1,6 +1,5 @@
 -- Lanes by their paths: the first that has a path, and that no two have one.
 use Rattle.std.proofs.Common.{◌≡◌, ℕ, zero, suc, ◌+◌, List, [], ◌∷◌, ◌++◌, Bool, true, false, true≢false, cond, Option, None, Some, refl, sym, ◌∙◌, ap, subst, arith}
-use Rattle.std.specs.Prelude.{slice_get}
 use Rattle.std.specs.Cmp.Lexicographic.{bytes_decides}
 use Rattle.picture_lanes.specs.Lanes.{EachOnce, HasPath, NoneHas, index_from, lane_index, same_path, stop_if_new, with_stop_lane}
 use Rattle.picture_lanes.specs.declared.lane.Lane.{Lane}

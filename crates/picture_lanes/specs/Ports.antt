@@ -5,7 +5,6 @@ use Rattle.system.specs.declared.system.Branch.TheVariants.{Feed, Drain, Syncs}
 use Rattle.picture_lanes.specs.declared.lane.Lane.{Lane}
 use Rattle.picture_lanes.specs.declared.lane.LaneKind.{LaneKind}
 use Rattle.picture_lanes.specs.declared.walk.ChannelUse.{ChannelUse}
-use Rattle.picture_lanes.specs.declared.walk.Way.{Way}
 use Rattle.picture_lanes.specs.declared.walk.Way.TheVariants as way
 
 abbrev pub port_kind : Branch → LaneKind

@@ -10,9 +10,7 @@ use Rattle.typed.specs.declared.tree.Command as typed
 use Rattle.typed.specs.declared.tree.Procedure.{Procedure}
 use Rattle.picture_lanes.specs.Calls.{At, behind_calls}
 use Rattle.picture_lanes.specs.Written.{last_part, part}
-use Rattle.picture_lanes.specs.declared.walk.ChannelUse.{ChannelUse}
 use Rattle.picture_lanes.specs.declared.walk.Found.{Found}
-use Rattle.picture_lanes.specs.declared.walk.Stop.{Stop}
 use Rattle.picture_lanes.specs.declared.walk.Way.{Way}
 use Rattle.picture_lanes.specs.declared.walk.Way.TheVariants.{Sends, Receives, Syncs, Opens}
 

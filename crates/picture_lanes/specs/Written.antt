@@ -1,5 +1,5 @@
 -- The parts of a command as it is written.
-use Rattle.std.specs.Prelude.{ℕ, zero, suc, List, Option, None, Some, slice_get}
+use Rattle.std.specs.Prelude.{ℕ, zero, suc, Option, None, Some, slice_get}
 use Rattle.std.specs.Option.{option_map}
 use Rattle.typed.specs.declared.tree.Action.{Action, out-Action}
 use Rattle.typed.specs.declared.tree.Action.TheOpen.{Action-F}

@@ -173,7 +173,6 @@ fn body_lanes(alloc: Global, stops: &[Stop]) -> Result<Vec<Lane>, AllocError>
 }
 
 /// Puts the lane of the command where it belongs, if it is not there. It is looked for by halves first.
-#[tactic(auto, using(crate::proofs::Paths::kept_where_there))]
 fn note_stop(alloc: Global, lanes: &mut Vec<Lane>, stop: &Stop) -> Result<(), AllocError>
     ensures { OnOk result (lanes.new.items ≡ model.with_stop_lane lanes.old.items stop.now) }
 {

@@ -1,5 +1,5 @@
 -- Pictures of equal runs show the same.
-use Rattle.std.proofs.Common.{◌≡◌, ℕ, zero, suc, ◌+◌, ◌||◌, ◌&&◌, Bool, List, [], ◌∷◌, ◌++◌, map, Option, None, Some, refl, sym, ◌∙◌, ap, ap₂, subst, arith}
+use Rattle.std.proofs.Common.{◌≡◌, ℕ, zero, suc, ◌+◌, ◌||◌, ◌&&◌, Bool, List, [], ◌∷◌, ◌++◌, map, Option, None, Some, refl, sym, ◌∙◌, ap, subst, arith}
 use Rattle.std.proofs.Math.Path.{fun_ext}
 use Rattle.std.specs.Prelude.{is_some, slice_get}
 use Rattle.syntax.specs.Lists.{In}
@@ -27,7 +27,7 @@ use Rattle.rings.specs.Rings.{Helped, IsRing}
 use Rattle.rings.specs.declared.partner.Partner.{Partner}
 use Rattle.rings.specs.declared.partner.Partner.TheVariants as partner
 use Rattle.waiting.specs.Input.{fed_channel, helped_in, is_starved, takes_input}
-use Rattle.waiting.specs.Progress.{StandsLike, is_outlet}
+use Rattle.waiting.specs.Progress.{StandsLike, is_in_body, is_outlet}
 use Rattle.waiting.specs.Told.{IsTold}
 use Rattle.waiting.specs.Waits.{OneList, Waits}
 use Rattle.waiting.specs.declared.waiting.Waiting.{Waiting}
@@ -81,16 +81,13 @@ both-reach m n S T one equal here there =
     one_state m.checked (events n.live) T S same (respecting_orders m.checked (events m.live) (events n.live) S here equal.forth)
 
 -- what helps an action is the same of both
-takes-agree : (m n : AtMachine) (x : LocalAction) → m.checked ≡ n.checked → AreEqualRuns m.checked m.live n.live → takes_input m x ≡ takes_input n x
-takes-agree m n x one equal =
-    ap₂ (λ (line channel : Option ℕ). is_some line && is_some channel)
-    (lines-agree m.checked m.live n.live x.place equal ∙ ap (λ (c : Checked). line_after (events n.live) c x.place) one)
-    (ap (λ (c : Checked). fed_channel c x.action) one)
+takes-agree : (m n : AtMachine) (x : LocalAction) → m.checked ≡ n.checked → takes_input m x ≡ takes_input n x
+takes-agree m n x one = ap (λ (c : Checked). is_in_body x.place && is_some (fed_channel c x.action)) one
 
 starved-agree : (m n : AtMachine) (x : LocalAction) (p : Option Partner) → m.checked ≡ n.checked → AreEqualRuns m.checked m.live n.live →
     is_starved m x p ≡ is_starved n x p
 starved-agree m n x None one equal = refl
-starved-agree m n x (Some partner.Gone) one equal = takes-agree m n x one equal
+starved-agree m n x (Some partner.Gone) one equal = takes-agree m n x one
 starved-agree m n x (Some (partner.Behind a)) one equal = refl
 starved-agree m n x (Some partner.Open) one equal = refl
 

@@ -6,7 +6,9 @@ use Rattle.system.specs.declared.system.System.{System}
 use Rattle.runs.specs.Live.{Live, LastWriter, NoneAt, NoWriter}
 use Rattle.past.specs.Past.{ListsPast}
 use Rattle.past.specs.declared.past.Past.{Past}
+use Rattle.machine.specs.AtMachine.{AtMachine}
 use Rattle.questions.specs.Asking.{AnswersWhy, Explains, IsAboutNone, Tells, variable_of}
+use Rattle.questions.specs.WhyText.{TellsIn}
 use Rattle.questions.specs.declared.reason.Reason.{Reason}
 use Rattle.questions.specs.declared.why.Why.{Why}
 
@@ -63,3 +65,16 @@ answers system live subject all (Reason.Step t past) (Why.Refused why words) e h
 answers system live subject all Reason.Unwritten (Why.Told lines) e h = absurd h
 answers system live subject all Reason.Missing (Why.Told lines) e h = absurd h
 answers system live subject all Reason.Unknown (Why.Told lines) e h = absurd h
+
+-- what tells a reason in its words tells it
+pub tells : (m : AtMachine) (subject : List ℕ) (reason : Reason) (why : Why) → TellsIn m subject reason why → Tells reason why
+tells m subject (Reason.Value x past) (Why.Told lines) h = tt
+tells m subject (Reason.Step t past) (Why.Told lines) h = tt
+tells m subject Reason.Unwritten (Why.Refused why words) h = h.0
+tells m subject Reason.Missing (Why.Refused why words) h = h.0
+tells m subject Reason.Unknown (Why.Refused why words) h = h
+tells m subject (Reason.Value x past) (Why.Refused why words) h = absurd h
+tells m subject (Reason.Step t past) (Why.Refused why words) h = absurd h
+tells m subject Reason.Unwritten (Why.Told lines) h = absurd h
+tells m subject Reason.Missing (Why.Told lines) h = absurd h
+tells m subject Reason.Unknown (Why.Told lines) h = absurd h

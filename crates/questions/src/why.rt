@@ -1,6 +1,7 @@
-ghost use Rattle.std.specs.Prelude.{IfOk, MatchResult};
+ghost use Rattle.std.specs.Prelude.{◌≡◌, ◌++◌, IfOk, MatchResult, OnOk, length};
 ghost use Rattle.trace_file.specs.Loading.{IsRefused};
-ghost use Rattle.questions.specs.Asking.{IsAnswered, Tells};
+ghost use Rattle.questions.specs.Asking.{IsAnswered};
+ghost use Rattle.questions.specs.WhyText as model;
 
 use crate::reason::{Reason, reason_of};
 use crate::unknown_name::unknown_text;
@@ -9,8 +10,9 @@ use past::{Past, write_past};
 use runs::Refusal;
 use sharing_check::Checked;
 use std::alloc::{AllocError, Global};
-use std::io::Write;
+use text_parts::{Piece, add_pieces, add_words};
 use trace_file::{Fault, load_text};
+use value::Value;
 
 /// What is answered to the question why.
 #[derive(Drop)]
@@ -34,8 +36,9 @@ pub fn why_text(
     subject: &str,
     all: bool,
 ) -> Result<Why, Fault>
-    ensures { MatchResult result (IsAnswered checked trace.now subject.now) (λ fault.
+    ensures answered { MatchResult result (IsAnswered checked trace.now subject.now) (λ fault.
         IsRefused checked trace.now fault) }
+    ensures text { IfOk result (model.IsWhyText checked trace.now subject.now all) }
 {
     let machine = load_text(alloc, checked, trace)?;
     let reason = reason_of(alloc, &machine, subject, all)?;
@@ -49,7 +52,7 @@ fn answer(
     subject: &str,
     reason: &Reason,
 ) -> Result<Why, AllocError>
-    ensures { IfOk result (Tells reason.now) }
+    ensures { IfOk result (model.TellsIn machine.now subject.now reason.now) }
 {
     match reason {
         Reason::Value(variable, past) => {
@@ -78,9 +81,10 @@ fn value_text(
     name: &str,
     variable: u32,
     past: &Past,
-) -> Result<Vec<u8>, AllocError> {
-    let mut text = Vec::new(alloc);
-    write_value(&mut text, machine, name, variable)?;
+) -> Result<Vec<u8>, AllocError>
+    ensures { IfOk result (λ text. model.IsValueText machine.now name.now variable past.now text.items) }
+{
+    let mut text = value_line(alloc, machine, name, variable)?;
     write_past(
         alloc,
         &mut text,
@@ -91,22 +95,58 @@ fn value_text(
     Ok(text)
 }
 
-/// Adds the value of the variable, and the step that wrote it.
-fn write_value(
-    out: &mut Vec<u8>,
+/// The value of the variable, and the step that wrote it.
+fn value_line(
+    alloc: Global,
     machine: &Machine,
     name: &str,
     variable: u32,
-) -> Result<(), AllocError> {
-    out.extend_from_slice(name.as_bytes())?;
-    if let Some(value) = machine.value(variable) {
-        let bits = value.bits();
-        write!(out, " is {bits}").map_err(|_| AllocError)?;
+) -> Result<Vec<u8>, AllocError>
+    ensures { IfOk result (λ text. model.IsValueLine machine.now name.now variable text.items) }
+{
+    let value = machine.value(variable);
+    let writer = machine.live_events().last_writer(variable);
+    let mut text = Vec::new(alloc);
+    write_value_line(&mut text, name, value, writer)?;
+    Ok(text)
+}
+
+/// Adds a name, the value, and the step that wrote it.
+fn write_value_line(
+    out: &mut Vec<u8>,
+    name: &str,
+    value: Option<Value>,
+    writer: Option<u64>,
+) -> Result<(), AllocError>
+    ensures { OnOk result (out.new.items ≡ out.old.items ++ model.value_line name.now value writer) }
+{
+    add_words(out, name.as_bytes())?;
+    write_is(out, value)?;
+    write_written(out, writer)?;
+    add_words(out, b"\n")
+}
+
+/// Adds the value, if there is one.
+fn write_is(out: &mut Vec<u8>, value: Option<Value>) -> Result<(), AllocError>
+    ensures { OnOk result (out.new.items ≡ out.old.items ++ model.is_text value) }
+{
+    match value {
+        Some(value) => add_pieces(out, &[Piece::Words(b" is "), Piece::Number(value.bits())]),
+        None => Ok(()),
     }
-    if let Some(ticket) = machine.live_events().last_writer(variable) {
-        write!(out, ", written by step {ticket}").map_err(|_| AllocError)?;
+}
+
+/// Adds the step that wrote it, if one did.
+fn write_written(out: &mut Vec<u8>, writer: Option<u64>) -> Result<(), AllocError>
+    ensures { OnOk result (out.new.items ≡ out.old.items ++ model.written_text writer) }
+{
+    match writer {
+        Some(ticket) => add_pieces(
+            out,
+            &[Piece::Words(b", written by step "), Piece::Number(ticket)],
+        ),
+        None => Ok(()),
     }
-    out.extend_from_slice(b"\n")
 }
 
 /// The step, and those that led to it.
@@ -115,9 +155,18 @@ fn step_text(
     machine: &Machine,
     ticket: u64,
     past: &Past,
-) -> Result<Vec<u8>, AllocError> {
+) -> Result<Vec<u8>, AllocError>
+    ensures { IfOk result (λ text. text.items ≡ model.step_text machine.now ticket past.now) }
+{
     let mut text = Vec::new(alloc);
-    write!(text, "step {ticket}\n").map_err(|_| AllocError)?;
+    add_pieces(
+        &mut text,
+        &[
+            Piece::Words(b"step "),
+            Piece::Number(ticket),
+            Piece::Words(b"\n"),
+        ],
+    )?;
     write_past(
         alloc,
         &mut text,
@@ -129,19 +178,35 @@ fn step_text(
 }
 
 /// What is said of a variable that no step wrote.
-fn unwritten_text(alloc: Global, name: &str) -> Result<Vec<u8>, AllocError> {
+fn unwritten_text(alloc: Global, name: &str) -> Result<Vec<u8>, AllocError>
+    ensures { IfOk result (λ text. text.items ≡ model.unwritten_text name.now) }
+{
     let mut text = Vec::new(alloc);
-    write!(text, "no step of the trace wrote `{name}`, so it is 0\n").map_err(|_| AllocError)?;
+    add_pieces(
+        &mut text,
+        &[
+            Piece::Words(b"no step of the trace wrote `"),
+            Piece::Words(name.as_bytes()),
+            Piece::Words(b"`, so it is 0\n"),
+        ],
+    )?;
     Ok(text)
 }
 
 /// What is said of a step that a trace of so many steps does not have.
-fn missing_text(alloc: Global, subject: &str, count: usize) -> Result<Vec<u8>, AllocError> {
+fn missing_text(alloc: Global, subject: &str, count: usize) -> Result<Vec<u8>, AllocError>
+    ensures { IfOk result (λ text. text.items ≡ model.missing_text subject.now count) }
+{
     let mut text = Vec::new(alloc);
-    write!(
-        text,
-        "the trace has no step {subject}: it has {count} steps\n"
-    )
-    .map_err(|_| AllocError)?;
+    add_pieces(
+        &mut text,
+        &[
+            Piece::Words(b"the trace has no step "),
+            Piece::Words(subject.as_bytes()),
+            Piece::Words(b": it has "),
+            Piece::Number(count as u64),
+            Piece::Words(b" steps\n"),
+        ],
+    )?;
     Ok(text)
 }

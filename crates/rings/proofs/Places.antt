@@ -15,7 +15,7 @@ use Rattle.rings.specs.Rings.{Helped, IsBehind, IsDeadlocked, Waiters, WaitsFor,
 use Rattle.rings.specs.declared.partner.Partner.{Partner}
 use Rattle.rings.specs.declared.partner.Partner.TheVariants as partner
 use Rattle.rings.specs.internal.Loosened.{is_marked}
-use Rattle.rings.specs.internal.Search.{is_behind, behind_at, place_at, waits, same_places, same_at, Apart, Chain, Ring, Names}
+use Rattle.rings.specs.internal.Search.{is_behind, behind_at, comes_behind, may_wait, place_at, waits, same_places, same_at, Apart, Chain, Ring, Names}
 
 -- ---- behind a place
 pub behind-true : (p : Partner) (a : Place) → is_behind p a ≡ true → IsBehind p a
@@ -27,6 +27,21 @@ pub behind-is : (p : Partner) (a : Place) → IsBehind p a → is_behind p a ≡
 behind-is (partner.Behind b) a h = under-told b a h
 behind-is partner.Gone a h = absurd h
 behind-is partner.Open a h = absurd h
+
+-- what may wait for no place waits for none
+behind_comes : (p : Option Partner) (y : Option LocalAction) → behind_at p y ≡ true → comes_behind p ≡ true
+behind_comes None y h = cc
+behind_comes (Some p) None h = cc
+behind_comes (Some (partner.Behind b)) (Some y) h = refl
+behind_comes (Some partner.Gone) (Some y) h = cc
+behind_comes (Some partner.Open) (Some y) h = cc
+
+pub waits_may : (xs : List LocalAction) (ps : List Partner) (ms : List Bool) (i j : ℕ) → waits xs ps ms i j ≡ true
+    → may_wait ps ms i ≡ true
+waits_may xs ps ms i j h =
+    let both = and_parts (is_marked (slice_get ms i)) (behind_at (slice_get ps i) (slice_get xs j)) h in
+    and_from (is_marked (slice_get ms i)) (comes_behind (slice_get ps i)) both.0
+    (behind_comes (slice_get ps i) (slice_get xs j) both.1)
 
 -- these actions wait
 abbrev pub Among : List LocalAction → Waiters

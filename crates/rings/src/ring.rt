@@ -7,7 +7,7 @@ ghost use Rattle.rings.specs.Rings.{Helped, TellsDeadlocked, TellsRing};
 ghost use Rattle.rings.specs.internal.Search as model;
 
 use crate::partner::Partner;
-use crate::waits::{is_at_one, waits};
+use crate::waits::{is_at_one, may_wait, waits};
 use local_actions::LocalAction;
 use std::alloc::{AllocError, Global};
 
@@ -133,6 +133,7 @@ fn note(seen: &mut [Seen], index: usize, state: Seen)
 }
 
 /// The first action for which the action waits, and at which the search is not done.
+#[tactic(auto, using(crate::proofs::Places::waits_may))]
 fn next_open(
     actions: &[LocalAction],
     partners: &[Partner],
@@ -143,6 +144,9 @@ fn next_open(
     requires { length partners.now ≡ length actions.now }
     ensures { model.NextOpen (length actions.now) (model.waits actions.now partners.now marks.now) seen.now top result }
 {
+    if !may_wait(partners, marks, top) {
+        return None;
+    }
     for next in 0..actions.len() {
         if is_open(seen, next) && waits(actions, partners, marks, top, next) {
             return Some(next);

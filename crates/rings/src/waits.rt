@@ -24,6 +24,23 @@ pub(crate) fn waits(
     is_marked(marks, one) && behind_at(partners.get(one), actions.get(other))
 }
 
+/// Whether the action of this index is marked, and its partner comes once something has gone on: else it waits for none.
+pub(crate) fn may_wait(partners: &[Partner], marks: &[bool], index: usize) -> bool
+    ensures { result ≡ model.may_wait partners.now marks.now index }
+{
+    is_marked(marks, index) && comes_behind(partners.get(index))
+}
+
+/// Whether there is a partner, and something has to go on before it comes.
+fn comes_behind(partner: Option<&Partner>) -> bool
+    ensures { result ≡ model.comes_behind (option_copied partner.entry) }
+{
+    match partner {
+        Some(Partner::Behind(_)) => true,
+        Some(Partner::Gone) | Some(Partner::Open) | None => false,
+    }
+}
+
 /// Whether the mark of this index is there, and set.
 pub(crate) fn is_marked(marks: &[bool], index: usize) -> bool
     ensures { result ≡ is_marked (slice_get marks.now index) }

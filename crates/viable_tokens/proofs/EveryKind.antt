@@ -4,8 +4,7 @@ use Rattle.syntax.specs.Lists.{In}
 use Rattle.lexer.specs.declared.token.Kind.{Kind}
 use Rattle.lexer.specs.declared.token.Kind.TheVariants as kind
 use Rattle.lexer.specs.declared.token.Token.{Token}
-use Rattle.viable_tokens.specs.Viable.{AreAllViable, AreViable}
-use Rattle.viable_tokens.specs.internal.Trials.{all_kinds}
+use Rattle.viable_tokens.specs.Viable.{all_kinds, AreAllViable, AreViable}
 
 among_all : (one : Kind) → In one all_kinds
 among_all kind.Name = inl refl
@@ -65,4 +64,5 @@ pub all_viable : (front : List Token) (viable : List Kind) → AreViable front a
 all_viable front viable sifted = record {
   right = sifted.right;
   every = λ one stands. sifted.every one (among_all one) stands;
+  in_order = sifted.in_order;
 }

@@ -3,7 +3,7 @@ use Rattle.std.proofs.Common.{◌≡◌, ◌⊎◌, inl, inr, List, [], ◌∷�
 use Rattle.syntax.specs.Lists.{Every, In}
 use Rattle.lexer.specs.declared.token.Kind.{Kind}
 use Rattle.lexer.specs.declared.token.Token.{Token}
-use Rattle.viable_tokens.specs.Viable.{AreViable, CanStand}
+use Rattle.viable_tokens.specs.Viable.{AreSomeOf, AreViable, CanStand}
 
 -- behind others
 in_front : {X : Type 0} (x : X) (xs ys : List X) → In x xs → In x (xs ++ ys)
@@ -25,6 +25,22 @@ every_push : {X : Type 0} (P : X → Type 0) (xs : List X) (y : X) → Every P x
 every_push P [] y all last = (last, tt)
 every_push P (x ∷ xs) y (first, all) last = (first, every_push P xs y all last)
 
+-- some of others, with one more behind both
+some_both : (kinds others : List Kind) (last : Kind) → AreSomeOf kinds others
+    → AreSomeOf (kinds ++ last ∷ []) (others ++ last ∷ [])
+some_both [] [] last some = inl (refl, tt)
+some_both [] (other ∷ others) last some = inr (some_both [] others last tt)
+some_both (kind ∷ kinds) [] last some = absurd some
+some_both (kind ∷ kinds) (other ∷ others) last (inl here) = inl (here.0, some_both kinds others last here.1)
+some_both (kind ∷ kinds) (other ∷ others) last (inr later) = inr (some_both (kind ∷ kinds) others last later)
+
+-- with one more behind the others alone
+some_past : (kinds others : List Kind) (last : Kind) → AreSomeOf kinds others → AreSomeOf kinds (others ++ last ∷ [])
+some_past [] others last some = tt
+some_past (kind ∷ kinds) [] last some = absurd some
+some_past (kind ∷ kinds) (other ∷ others) last (inl here) = inl (here.0, some_past kinds others last here.1)
+some_past (kind ∷ kinds) (other ∷ others) last (inr later) = inr (some_past (kind ∷ kinds) others last later)
+
 -- one more that can stand
 viable_with : (front : List Token) (among viable : List Kind) (kind : Kind) → AreViable front among viable
     → CanStand front kind → AreViable front (among ++ kind ∷ []) (viable ++ kind ∷ [])
@@ -34,6 +50,7 @@ viable_with front among viable kind sifted can = record {
     | inl before ↦ in_front other viable (kind ∷ []) (sifted.every other before stands)
     | inr same ↦ subst (λ k. In k (viable ++ kind ∷ [])) (sym same) (in_last kind viable)
   ];
+  in_order = some_both viable among kind sifted.in_order;
 }
 
 pub viable_on : (front : List Token) (kind : Kind) (viable : List Kind) → CanStand front kind
@@ -51,6 +68,7 @@ viable_without front among viable kind sifted cannot = record {
     | inl before ↦ sifted.every other before stands
     | inr same ↦ absurd (cannot (subst (CanStand front) same stands))
   ];
+  in_order = some_past viable among kind sifted.in_order;
 }
 
 pub viable_past : (front : List Token) (kind : Kind) (viable : List Kind) → (CanStand front kind → ⊥)

@@ -10,14 +10,13 @@ use Rattle.runs.specs.Steps.{State}
 use Rattle.runs.specs.Tests.{same_place}
 use Rattle.runs.specs.declared.event.Event.{Event}
 use Rattle.runs.proofs.public.Lists.{every-of, every-in}
-use Rattle.local_actions.specs.Actions.{OffersExactly, NotBehind}
+use Rattle.local_actions.specs.Actions.{OffersExactly, NotBehind, Precedes}
 use Rattle.local_actions.specs.declared.action.LocalAction.{LocalAction}
 use Rattle.local_actions.proofs.public.PlacedActions.{place-true, place-itself}
-use Rattle.waiting.specs.Waits.{Waits, ListsWaiting}
-use Rattle.waiting.specs.Progress.{is_outlet, NoneAllowed, StandsLike}
-use Rattle.waiting.specs.internal.Repeats.{each_once}
-use Rattle.waiting.proofs.Repeated.{waits-once}
-use Rattle.waiting.specs.internal.Among.{is_second, has_place, has_any, left_over, all_outlets, at_rest, progress_of}
+use Rattle.waiting.specs.Waits.{ArmsRise, ListsWaiting, Waits}
+use Rattle.waiting.specs.Progress.{is_idle, NoneAllowed, StandsLike}
+use Rattle.waiting.proofs.InOneOrder.{all-rise, arms-once}
+use Rattle.waiting.specs.internal.Among.{is_second, has_place, has_any, left_over, all_idle, at_rest, progress_of}
 
 or-parts : (a b : Bool) → (a || b) ≡ true → (a ≡ true) ⊎ (b ≡ true)
 or-parts true b h = inl refl
@@ -94,16 +93,18 @@ in-left es (y ∷ xs) x (inl is) h =
     (cond-here (has_any y.place es) x (left_over es xs) (subst (λ (z : LocalAction). has_any z.place es ≡ false) is h))
 in-left es (y ∷ xs) x (inr i) h = cond-later (has_any y.place es) x y (left_over es xs) (in-left es xs x i h)
 
-cond-order : (b : Bool) (y : LocalAction) (rest : List LocalAction) → Every (NotBehind y) rest → InOrder NotBehind rest → InOrder NotBehind (cond b rest (y ∷ rest))
-cond-order true y rest e o = o
-cond-order false y rest e o = (e, o)
+-- in whatever order they were
+module _ (before : LocalAction → LocalAction → Type 0) where
+  cond-order : (b : Bool) (y : LocalAction) (rest : List LocalAction) → Every (before y) rest → InOrder before rest → InOrder before (cond b rest (y ∷ rest))
+  cond-order true y rest e o = o
+  cond-order false y rest e o = (e, o)
 
-left-order : (es : List Event) (xs : List LocalAction) → InOrder NotBehind xs → InOrder NotBehind (left_over es xs)
-left-order es [] o = tt
-left-order es (y ∷ xs) o =
-    cond-order (has_any y.place es) y (left_over es xs)
-    (every-of (NotBehind y) (left_over es xs) (λ x i. every-in (NotBehind y) xs x o.0 (left-in es xs x i).0))
-    (left-order es xs o.1)
+  left-order : (es : List Event) (xs : List LocalAction) → InOrder before xs → InOrder before (left_over es xs)
+  left-order es [] o = tt
+  left-order es (y ∷ xs) o =
+      cond-order (has_any y.place es) y (left_over es xs)
+      (every-of (before y) (left_over es xs) (λ x i. every-in (before y) xs x o.0 (left-in es xs x i).0))
+      (left-order es xs o.1)
 
 none-any : (a : Place) (es : List Event) (b : Bool) → has_any a es ≡ b → ((e : Event) → In e es → In a (places e) → ⊥) → b ≡ false
 none-any a es true h none = let found = any-in a es h in absurd (none found.0 found.1 found.2)
@@ -125,32 +126,37 @@ waits-exactly S xs es offers ready x = (
       (none-any x.place es (has_any x.place es) refl (λ e i j. w.alone e ((ready.exactly e).0 i) j)),
 )
 
-pub lists-waiting : (S : State) (xs : List LocalAction) (es : List Event) → OffersExactly S xs → InOrder NotBehind xs → ReadyList S es
-    → ListsWaiting S (each_once (left_over es xs))
-lists-waiting S xs es offers order ready =
-    waits-once S (left_over es xs) offers.formed (waits-exactly S xs es offers ready) (left-order es xs order)
+pub lists-waiting : (S : State) (xs : List LocalAction) (es : List Event) → OffersExactly S xs → InOrder NotBehind xs → InOrder Precedes xs → ReadyList S es
+    → ListsWaiting S (left_over es xs)
+lists-waiting S xs es offers order strict ready =
+    let arms : InOrder ArmsRise (left_over es xs) = all-rise (left_over es xs) (left-order Precedes es xs strict) in record {
+      exactly = waits-exactly S xs es offers ready;
+      in_order = left-order NotBehind es xs order;
+      arms = arms;
+      once = arms-once (left_over es xs) arms;
+    }
 
 -- ---- how a state stands
-each-outlet : (xs : List LocalAction) (x : LocalAction) → all_outlets xs ≡ true → In x xs → is_outlet x.action ≡ true
-each-outlet [] x h i = absurd i
-each-outlet (y ∷ xs) x h (inl is) = ap (λ (z : LocalAction). is_outlet z.action) is ∙ (and_parts (is_outlet y.action) (all_outlets xs) h).0
-each-outlet (y ∷ xs) x h (inr i) = each-outlet xs x (and_parts (is_outlet y.action) (all_outlets xs) h).1 i
+each-idle : (xs : List LocalAction) (x : LocalAction) → all_idle xs ≡ true → In x xs → is_idle x ≡ true
+each-idle [] x h i = absurd i
+each-idle (y ∷ xs) x h (inl is) = ap (λ (z : LocalAction). is_idle z) is ∙ (and_parts (is_idle y) (all_idle xs) h).0
+each-idle (y ∷ xs) x h (inr i) = each-idle xs x (and_parts (is_idle y) (all_idle xs) h).1 i
 
 and-false : (a b : Bool) → (a && b) ≡ false → (a ≡ false) ⊎ (b ≡ false)
 and-false true b h = inr h
 and-false false b h = inl refl
 
-some-other : (xs : List LocalAction) → all_outlets xs ≡ false → (x : LocalAction) × In x xs × (is_outlet x.action ≡ false)
+some-other : (xs : List LocalAction) → all_idle xs ≡ false → (x : LocalAction) × In x xs × (is_idle x ≡ false)
 some-other [] h = cc
-some-other (y ∷ xs) h = elim (and-false (is_outlet y.action) (all_outlets xs) h) [
+some-other (y ∷ xs) h = elim (and-false (is_idle y) (all_idle xs) h) [
   | inl here ↦ (y, inl refl, here)
   | inr later ↦ let rest = some-other xs later in (rest.0, inr rest.1, rest.2)
 ]
 
-rests : (S : State) (xs : List LocalAction) (b : Bool) → all_outlets xs ≡ b → OffersExactly S xs → NoneAllowed S → StandsLike S (at_rest b)
-rests S xs true h offers none = (none, λ x o. each-outlet xs x h ((offers.exactly x).1 o))
+rests : (S : State) (xs : List LocalAction) (b : Bool) → all_idle xs ≡ b → OffersExactly S xs → NoneAllowed S → StandsLike S (at_rest b)
+rests S xs true h offers none = (none, λ x o. each-idle xs x h ((offers.exactly x).1 o))
 rests S xs false h offers none = let found = some-other xs h in (none, (found.0, (offers.exactly found.0).0 found.1, found.2))
 
 pub stands-like : (S : State) (xs : List LocalAction) (es : List Event) → OffersExactly S xs → ReadyList S es → StandsLike S (progress_of xs es)
-stands-like S xs [] offers ready = rests S xs (all_outlets xs) refl offers (λ e a. (ready.exactly e).1 a)
+stands-like S xs [] offers ready = rests S xs (all_idle xs) refl offers (λ e a. (ready.exactly e).1 a)
 stands-like S xs (e ∷ es) offers ready = (e, (ready.exactly e).0 (inl refl))

@@ -1,6 +1,5 @@
 mod Leftover
-mod Remade
-mod Repeated
+mod InOneOrder
 mod RingOfState
 mod HelpsEach
 mod HeldPlaces

@@ -15,7 +15,7 @@ use Rattle.local_actions.specs.declared.action.ActionKind.TheVariants as action
 use Rattle.rings.specs.Partners.{partner_in}
 use Rattle.rings.specs.declared.partner.Partner.{Partner}
 use Rattle.rings.specs.declared.partner.Partner.TheVariants as partner
-use Rattle.waiting.specs.Progress.{is_outlet}
+use Rattle.waiting.specs.Progress.{is_in_body, is_outlet}
 use Rattle.waiting.specs.declared.progress.Progress.{Progress}
 use Rattle.waiting.specs.declared.progress.Progress.TheVariants.{GoesOn, Done, Stuck}
 use Rattle.waiting.specs.declared.waiting.Waiting.{Waiting}
@@ -44,13 +44,9 @@ fed_channel system (action.Opens c k) = fed_if (is_fed c system.environment) c
 fed_channel system (action.Syncs c) = fed_if (is_fed c system.environment) c
 fed_channel system _ = None
 
--- an action in the body
-abbrev pub is_in_body : AtMachine → LocalAction → Bool
-is_in_body m x = is_some (line_at m x.place)
-
 -- an action in the body that takes what the environment has a number of
 abbrev pub takes_input : AtMachine → LocalAction → Bool
-takes_input m x = is_in_body m x && is_some (fed_channel m.checked x.action)
+takes_input m x = is_in_body x.place && is_some (fed_channel m.checked x.action)
 
 -- an action in the body that waits for what the environment has no more of, with this partner
 abbrev pub is_starved : AtMachine → LocalAction → Option Partner → Bool
@@ -100,10 +96,10 @@ is_set (Some b) = b
 is_set None = false
 
 -- none of these actions, of which the first has the mark of number n, stands in the body and is deadlocked
-abbrev pub none_deadlocked : AtMachine → List Bool → ℕ → List LocalAction → Bool
-none_deadlocked m marks n [] = true
-none_deadlocked m marks n (x ∷ xs) =
-    not (is_in_body m x && is_set (slice_get marks n)) && none_deadlocked m marks (n + 1) xs
+abbrev pub none_deadlocked : List Bool → ℕ → List LocalAction → Bool
+none_deadlocked marks n [] = true
+none_deadlocked marks n (x ∷ xs) =
+    not (is_in_body x.place && is_set (slice_get marks n)) && none_deadlocked marks (n + 1) xs
 
 -- Nothing can go on, and nothing in the body is deadlocked, so that each that waits there waits for the environment in
 -- the end, by whichever of its arms, and one action does so itself. (What the environment has left over, and nobody
@@ -111,6 +107,6 @@ none_deadlocked m marks n (x ∷ xs) =
 abbrev pub lacks_input : AtMachine → Waiting → Bool
 lacks_input m w =
     is_stuck w.progress
-    && none_deadlocked m w.deadlocked.items 0 w.actions
+    && none_deadlocked w.deadlocked.items 0 w.actions
     && any_starved m w.partners.items 0 w.actions
     && all_settled w.partners.items 0 w.actions

@@ -1,12 +1,15 @@
--- Whether a run goes on, is done or is stuck. (Own. The environment takes what comes out at an output port for ever, so
--- its offer to do so does not keep a run from being done.)
-use Rattle.std.specs.Prelude.{◌≡◌, Bool, true, false, None}
+-- Whether a run goes on, is done or is stuck. (Own. At an output port the environment takes what comes for ever, and at
+-- an input port it keeps what nobody takes: neither keeps a run from being done. A handshake that the body has begun, and
+-- never ends, does.)
+use Rattle.std.specs.Prelude.{◌≡◌, ◌==◌, ◌||◌, Bool, true, false, not, [], ◌∷◌, None}
+use Rattle.address.specs.declared.Entry.TheVariants.{Ordered, Branch}
+use Rattle.runs.specs.Moves.{Place}
 use Rattle.runs.specs.Steps.{State, Allowed}
 use Rattle.runs.specs.declared.event.Event.{Event}
 use Rattle.local_actions.specs.Actions.{Offered}
 use Rattle.local_actions.specs.declared.action.LocalAction.{LocalAction}
 use Rattle.local_actions.specs.declared.action.ActionKind.{ActionKind}
-use Rattle.local_actions.specs.declared.action.ActionKind.TheVariants.{Receives}
+use Rattle.local_actions.specs.declared.action.ActionKind.TheVariants.{Receives, Releases}
 use Rattle.waiting.specs.declared.progress.Progress.{Progress}
 use Rattle.waiting.specs.declared.progress.Progress.TheVariants.{GoesOn, Done, Stuck}
 
@@ -15,6 +18,21 @@ abbrev pub is_outlet : ActionKind → Bool
 is_outlet (Receives c None) = true
 is_outlet _ = false
 
+-- whether it is that of a sender whose partner has opened, and not yet closed
+abbrev pub is_held : ActionKind → Bool
+is_held (Releases c) = true
+is_held _ = false
+
+-- whether a place lies in the body, which is branch 0 of the whole; beside it stands the environment, a branch a port
+abbrev pub is_in_body : Place → Bool
+is_in_body [] = false
+is_in_body (Ordered n ∷ rest) = false
+is_in_body (Branch n ∷ rest) = n == 0
+
+-- whether an action keeps no run from being done: the environment offers it, and the body does not hold it
+abbrev pub is_idle : LocalAction → Bool
+is_idle x = not (is_in_body x.place || is_held x.action)
+
 -- no event is allowed
 abbrev pub NoneAllowed : State → Type 0
 NoneAllowed S = (e : Event) → Allowed S e → ⊥
@@ -22,5 +40,5 @@ NoneAllowed S = (e : Event) → Allowed S e → ⊥
 -- how a state stands, a line for each
 abbrev pub StandsLike : State → Progress → Type 0
 StandsLike S GoesOn = (e : Event) × Allowed S e
-StandsLike S Done = NoneAllowed S × ((x : LocalAction) → Offered S x → is_outlet x.action ≡ true)
-StandsLike S Stuck = NoneAllowed S × ((x : LocalAction) × Offered S x × (is_outlet x.action ≡ false))
+StandsLike S Done = NoneAllowed S × ((x : LocalAction) → Offered S x → is_idle x ≡ true)
+StandsLike S Stuck = NoneAllowed S × ((x : LocalAction) × Offered S x × (is_idle x ≡ false))

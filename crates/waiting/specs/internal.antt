@@ -1,5 +1,3 @@
 pub mod Among
 pub mod Held
 pub mod Helps
-pub mod Repeats
-pub mod Replayed

@@ -4,7 +4,7 @@ ghost use Rattle.std.specs.Option.{option_copied};
 ghost use Rattle.waiting.specs.Input as model;
 ghost use Rattle.waiting.specs.internal.Helps.{helps};
 
-use crate::progress::{Progress, is_outlet};
+use crate::progress::{Progress, is_in_body, is_outlet};
 use crate::text::partner_at;
 use crate::waiting::Waiting;
 use local_actions::{ActionKind, LocalAction};
@@ -24,7 +24,7 @@ impl Waiting {
         let actions = self.actions.as_slice();
         let partners = self.partners.as_slice();
         is_stuck(self.progress)
-            && none_deadlocked(machine, actions, self.deadlocked.as_slice())
+            && none_deadlocked(actions, self.deadlocked.as_slice())
             && any_starved(machine, actions, partners)
             && all_settled(actions, partners)
     }
@@ -82,11 +82,11 @@ fn all_settled(actions: &[LocalAction], partners: &[Partner]) -> bool
 }
 
 /// Whether none of the actions, which have these marks, stands in the body and is deadlocked.
-fn none_deadlocked(machine: &Machine, actions: &[LocalAction], marks: &[bool]) -> bool
-    ensures { result ≡ model.none_deadlocked machine.now marks.now 0 actions.now }
+fn none_deadlocked(actions: &[LocalAction], marks: &[bool]) -> bool
+    ensures { result ≡ model.none_deadlocked marks.now 0 actions.now }
 {
     for (index, action) in actions.iter().enumerate() {
-        if is_in_body(machine, action) && is_set(marks, index) {
+        if is_in_body(&action.place) && is_set(marks, index) {
             return false;
         }
     }
@@ -101,13 +101,6 @@ fn is_set(marks: &[bool], index: usize) -> bool
         Some(mark) => *mark,
         None => false,
     }
-}
-
-/// Whether the action stands in the body.
-fn is_in_body(machine: &Machine, offered: &LocalAction) -> bool
-    ensures { result ≡ model.is_in_body machine.now offered.now }
-{
-    machine.line(&offered.place).is_some()
 }
 
 /// Whether the action is an output port's, or waits for more input.
@@ -148,8 +141,7 @@ fn is_starved(machine: &Machine, offered: &LocalAction, partner: Option<&Partner
 fn takes_input(machine: &Machine, offered: &LocalAction) -> bool
     ensures { result ≡ model.takes_input machine.now offered.now }
 {
-    is_in_body(machine, offered)
-        && fed_channel(machine.checked().system(), &offered.action).is_some()
+    is_in_body(&offered.place) && fed_channel(machine.checked().system(), &offered.action).is_some()
 }
 
 /// The channel on which the action takes what the environment has a number of, if it is one.

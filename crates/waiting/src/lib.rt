@@ -5,10 +5,8 @@
 mod actions;
 mod input;
 mod laws;
-mod once;
 mod places;
 mod progress;
-mod replay;
 mod text;
 mod waiting;
 

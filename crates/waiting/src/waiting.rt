@@ -12,10 +12,8 @@ ghost use Rattle.waiting.specs.Told.{TellsWaits};
 
 use crate::actions::left_over;
 use crate::input::helped_among;
-use crate::once::each_once;
 use crate::places::Places;
 use crate::progress::{Progress, progress_of};
-use crate::replay::made_again;
 use local_actions::{LocalAction, actions_of};
 use machine::Machine;
 use rings::{Partner, deadlocked_among, partners_of, ring_among};
@@ -43,19 +41,19 @@ pub struct Waiting {
 
 /// Exactly the actions that the state of the machine offers and whose place no allowed event has, each once, in order
 /// of place, the allowed events, how the run stands, what each of the actions waits for, which are deadlocked, and a
-/// ring exactly where there is one. It makes the live events again, and takes two walks of the tree. It is an error if
+/// ring exactly where there is one. It takes two walks of the tree, however many events are live. It is an error if
 /// there is no memory.
 pub fn who_waits(alloc: Global, machine: &Machine) -> Result<Waiting, AllocError>
     ensures { IfOk result (λ told. TellsWaits machine.now told) }
 {
     machine.is_sound();
-    let state = made_again(alloc, machine)?;
-    let actions = actions_of(alloc, &state.tree, &state.store)?;
+    let (tree, store) = machine.state();
+    let actions = actions_of(alloc, tree, store)?;
     let ready = ready_events(machine)?;
     let progress = progress_of(actions.as_slice(), ready.as_slice());
     let places = Places::of(alloc, ready.as_slice())?;
-    let actions = each_once(alloc, left_over(actions, &places))?;
-    let partners = partners_of(alloc, &state.tree, actions.as_slice())?;
+    let actions = left_over(actions, &places);
+    let partners = partners_of(alloc, tree, actions.as_slice())?;
     let deadlocked = deadlocked_of(alloc, machine, actions.as_slice(), partners.as_slice())?;
     let ring = ring_among(
         alloc,

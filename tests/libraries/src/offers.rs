@@ -2,7 +2,8 @@
 
 use crate::examples::*;
 use crate::told::place;
-use calculus::Ask;
+use calculus::{Ask, Choice};
+use machine::Machine;
 use process_tree::{Offer, OfferKind, Tree};
 use std::alloc::{AllocError, Global};
 use std::test::Fail;
@@ -139,5 +140,27 @@ fn an_untidy_tree_offers_its_first_unfinished_child(rt: HostRuntime) -> Result<(
     let at = place(alloc, b"/0.0")?;
     tree.retreat(at.entries(), None);
     assert!(rt; offers(alloc, &tree, &[first])?);
+    Ok(())
+}
+
+#[test]
+fn a_machine_lends_the_tree_and_the_values_of_its_live_events(rt: HostRuntime) -> Result<(), Fail> {
+    let alloc = rt.alloc();
+    let mut machine = Machine::new(alloc, BUFFER.checked(alloc)?)?;
+    let sends = (b"/1.0.0".as_slice(), OfferKind::Sends(0));
+    let drains = (b"/2.0".as_slice(), OfferKind::Receives(1, None));
+    let receives = (b"/0.1.0".as_slice(), OfferKind::Receives(0, Some(0)));
+    for at in [b"/0.0".as_slice(), b"/0.1.0"] {
+        let choice = Choice {
+            place: place(alloc, at)?,
+            arm: 0,
+        };
+        machine.step(&choice)?;
+    }
+    assert!(rt; machine.state().1.get(0).bits() == 5);
+    machine.undo(2)?;
+    let (tree, store) = machine.state();
+    assert!(rt; offers(alloc, tree, &[receives, sends, drains])?);
+    assert!(rt; store.get(0).bits() == 0);
     Ok(())
 }

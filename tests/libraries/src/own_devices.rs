@@ -50,6 +50,7 @@ impl CountedLines for Script<'_> {
 struct Paper {
     taken: Vec<u8>,
     good: usize,
+    wanted: usize,
 }
 
 impl CountedWrite for Paper {
@@ -59,7 +60,12 @@ impl CountedWrite for Paper {
 
     ghost tries = { λ _. 0 };
 
+    ghost unsent = { λ _. 0 };
+
+    ghost wanted = { λ paper. paper.wanted };
+
     fn write_some(&mut self, bytes: &[u8]) -> Result<usize, WriteFailed> {
+        self.wanted = bytes.len();
         if self.taken.len() >= self.good || self.taken.extend_from_slice(&bytes[..1]).is_err() {
             return Err(WriteFailed);
         }
@@ -92,6 +98,7 @@ fn a_session_is_over_any_devices(rt: HostRuntime) -> Result<(), Fail> {
         let mut paper = Paper {
             taken: Vec::with_capacity(rt.alloc(), 256)?,
             good,
+            wanted: 0,
         };
         let (ended, _) = ended(rt.alloc(), lines, &mut paper)?;
         assert_eq!(rt; ended.is_ok(), good == answers.len());
@@ -111,6 +118,7 @@ fn behind_a_failed_write_no_line_is_taken(rt: HostRuntime) -> Result<(), Fail> {
         let mut paper = Paper {
             taken: Vec::with_capacity(rt.alloc(), 16_384)?,
             good,
+            wanted: 0,
         };
         let (ended, rest) = ended(rt.alloc(), lines.as_slice(), &mut paper)?;
         assert!(rt; matches!(ended, Err(Fault::WriteFailed)));

@@ -1,5 +1,5 @@
 -- Known bytes that are read or written one text after another.
-use Rattle.std.proofs.Common.{◌≡◌, ℕ, List, [], ◌++◌, Option, Some, None, refl, sym, ap, ◌∙◌, append_assoc, append-nil, take, drop, subst, MatchResult, Result, Err}
+use Rattle.std.proofs.Common.{◌≡◌, ℕ, List, [], ◌++◌, Option, Some, None, refl, sym, ap, ◌∙◌, append_assoc, append-nil, take, drop, length, length-append, length-take, subst, arith, ◌+◌, ◌≤◌, MatchResult, Result, Err}
 use Rattle.std.proofs.lemmas.List.{take-append-drop}
 use Rattle.devices.specs.Counting.{IsBeginning}
 use Rattle.std.specs.Option.{IfSome}
@@ -43,13 +43,15 @@ end-known (Some xs) None w a x y = absurd x
 end-known (Some xs) (Some ys) w a x y = y
 
 -- a writer took some of the rest
-pub write-more : (u v w : Option (List ℕ)) (given rest left bytes : List ℕ) (count : ℕ) → Appends u v given → given ++ rest ≡ bytes
-    → Appends v w (take count rest) → left ≡ drop count rest → (x : List ℕ) × Appends u w x × (x ++ left ≡ bytes)
-write-more u v w given rest left bytes count x e y l = (
+pub write-more : (u v w : Option (List ℕ)) (given rest left bytes : List ℕ) (count first unsent unsent' : ℕ) → Appends u v given → given ++ rest ≡ bytes
+    → unsent ≤ first + length given → Appends v w (take count rest) → left ≡ drop count rest → count ≤ length rest → unsent' ≤ unsent + count
+    → (x : List ℕ) × Appends u w x × (x ++ left ≡ bytes) × (unsent' ≤ first + length x)
+write-more u v w given rest left bytes count first unsent unsent' x e n y l some more = (
   given ++ take count rest,
   Appends-then u v w given (take count rest) x y,
   append_assoc given (take count rest) left
       ∙ (ap (λ t. given ++ (take count rest ++ t)) l ∙ (ap (λ t. given ++ t) (take-append-drop count rest) ∙ e)),
+  omega (arith, n, more, some, length-append given (take count rest), length-take count rest),
 )
 
 -- what is kept has nothing more
@@ -69,9 +71,15 @@ pub nothing-taken : (u v : Option (List ℕ)) (bytes : List ℕ) → Appends u v
 nothing-taken u v bytes h = none-Keeps u v h
 
 -- a writer failed with some of the bytes taken
-pub write-failed : {E : Type 0} (u v w : Option (List ℕ)) (given rest bytes : List ℕ) (fault : E) (r : Result (Unit {0}) E)
-    → Appends u v given → given ++ rest ≡ bytes → Keeps v w → r ≡ Err fault
+pub write-failed : {E : Type 0} (u v w : Option (List ℕ)) (given rest bytes : List ℕ) (first unsent unsent' wanted : ℕ) (fault : E) (r : Result (Unit {0}) E)
+    → Appends u v given → given ++ rest ≡ bytes → unsent ≤ first + length given → Keeps v w → (unsent' ≤ unsent) × (wanted ≡ length rest) → r ≡ Err fault
     → (x : List ℕ) × Appends u w x × MatchResult r (λ _. x ≡ bytes) (λ _. IsBeginning bytes x)
-write-failed u v w given rest bytes fault r x e h is =
-    subst (λ q. (x : List ℕ) × Appends u w x × MatchResult q (λ _. x ≡ bytes) (λ _. IsBeginning bytes x)) (sym is)
-    (given, Appends-kept u v w given x h, (rest, sym e))
+    × MatchResult r (λ _. unsent' ≡ 0) (λ _. (length x + wanted ≡ length bytes) × (unsent' ≤ first + length x))
+write-failed u v w given rest bytes first unsent unsent' wanted fault r x e n h (less, all) is =
+    subst (λ q. (x : List ℕ) × Appends u w x × MatchResult q (λ _. x ≡ bytes) (λ _. IsBeginning bytes x)
+    × MatchResult q (λ _. unsent' ≡ 0) (λ _. (length x + wanted ≡ length bytes) × (unsent' ≤ first + length x))) (sym is) (
+      given,
+      Appends-kept u v w given x h,
+      (rest, sym e),
+      (omega (arith, all, length-append given rest, ap length e), omega (arith, n, less)),
+    )

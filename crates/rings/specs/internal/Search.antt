@@ -30,6 +30,17 @@ abbrev pub waits : List LocalAction → List Partner → List Bool → ℕ → �
 waits actions partners marks i j =
     is_marked (slice_get marks i) && behind_at (slice_get partners i) (slice_get actions j)
 
+-- whether something has to go on before the partner comes, of one that may be there
+abbrev pub comes_behind : Option Partner → Bool
+comes_behind (Some (partner.Behind p)) = true
+comes_behind (Some partner.Gone) = false
+comes_behind (Some partner.Open) = false
+comes_behind None = false
+
+-- whether action i is marked and may wait for some place; else it waits for none
+abbrev pub may_wait : List Partner → List Bool → ℕ → Bool
+may_wait partners marks i = is_marked (slice_get marks i) && comes_behind (slice_get partners i)
+
 -- the place of action i
 abbrev pub place_at : List LocalAction → ℕ → Option Place
 place_at actions i = option_map (λ (x : LocalAction). x.place) (slice_get actions i)

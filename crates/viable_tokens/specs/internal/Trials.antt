@@ -1,8 +1,6 @@
 -- What is tried to find the tokens that can stand.
 -- No reader has to believe it: the contract of `viable_kinds` ties it to `Begins` of the grammar.
-use Rattle.std.specs.Prelude.{◌≡◌, ◌⊎◌, ◌++◌, ℕ, List, [], ◌∷◌, take, drop}
-use Rattle.lexer.specs.declared.token.Kind.{Kind}
-use Rattle.lexer.specs.declared.token.Kind.TheVariants as kind
+use Rattle.std.specs.Prelude.{◌≡◌, ◌⊎◌, ◌++◌, ℕ, List, take, drop}
 use Rattle.lexer.specs.declared.token.Token.{Token}
 use Rattle.lexer.specs.internal.Parts.{BeginsProcedure, HasNoEnd}
 use Rattle.parser.specs.Accepted.{Begins, IsRefused, Parses}
@@ -26,16 +24,3 @@ pub record Passes (before : List Token) : Type 0 where
 -- the tokens from `first` on count: nothing stands before them, or they begin with `procedure` behind what is whole
 abbrev pub Counts : List Token → ℕ → Type 0
 Counts tokens first = (first ≡ 0) ⊎ (BeginsProcedure (drop first tokens) × Passes (take first tokens))
-
--- all kinds of tokens
-abbrev pub all_kinds : List Kind
-all_kinds =
-    kind.Name ∷ kind.Number ∷ kind.AndWord ∷ kind.ArbitrateWord ∷ kind.AsWord ∷ kind.BeginWord ∷ kind.BitsWord ∷
-    kind.CaseWord ∷ kind.ChannelWord ∷ kind.ContinueWord ∷ kind.ElseWord ∷ kind.EndWord ∷ kind.EnumerationWord ∷
-    kind.HaltWord ∷ kind.IfWord ∷ kind.InputWord ∷ kind.IsWord ∷ kind.LoopWord ∷ kind.NotWord ∷ kind.OfWord ∷
-    kind.OrWord ∷ kind.OutputWord ∷ kind.ProcedureWord ∷ kind.SelectWord ∷ kind.SharedWord ∷ kind.SyncWord ∷
-    kind.ThenWord ∷ kind.TypeWord ∷ kind.VariableWord ∷ kind.WhileWord ∷ kind.XorWord ∷ kind.AssignSign ∷
-    kind.SendSign ∷ kind.ReceiveSign ∷ kind.DoubleBar ∷ kind.Bar ∷ kind.Semicolon ∷ kind.Colon ∷ kind.Comma ∷
-    kind.LeftParenthesis ∷ kind.RightParenthesis ∷ kind.LeftBracket ∷ kind.RightBracket ∷ kind.PlusSign ∷
-    kind.MinusSign ∷ kind.EqualSign ∷ kind.NotEqualSign ∷ kind.LessSign ∷ kind.GreaterSign ∷ kind.LessOrEqualSign ∷
-    kind.GreaterOrEqualSign ∷ kind.End ∷ []

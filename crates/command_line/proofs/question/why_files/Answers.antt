@@ -28,7 +28,7 @@ returns-in_err-why g c =
         c.in_ok-read_trace.ensures,
         trace-refused c.in_ok-checked.checked c.read_trace.new.texts.trace.items c.in_err-why.field-0.0
             (subst (λ (t : List ℕ). trace.IsRefused c.in_ok-checked.checked t c.in_err-why.field-0.0)
-            c.as_slice.ensures.value c.in_err-why.ensures),
+            c.as_slice.ensures.value c.in_err-why.ensures.answered),
       ),
     )))
     c.from_residual-in_err-why.ensures.1
@@ -39,5 +39,5 @@ returns g c =
     c.args.asked.now.trace.now c.args.asked.now.subject.now c.in_ok-checked.checked c.read_trace.new.texts.trace.items
     c.in_ok-why.why c.told_why.result c.in_ok-checked.ensures c.in_ok-read_trace.ensures
     (subst (λ (t : List ℕ). IsAnswered c.in_ok-checked.checked t c.args.asked.now.subject.now c.in_ok-why.why)
-    c.as_slice.ensures.value c.in_ok-why.ensures)
+    c.as_slice.ensures.value c.in_ok-why.ensures.answered)
     c.told_why.ensures

@@ -1,5 +1,5 @@
 use Rattle.std.proofs.Common.{◌≡◌, ◌-◌, length}
-use Rattle.picture_lanes.specs.Calls.{At, behind_calls}
+use Rattle.picture_lanes.specs.Calls.{behind_calls}
 use Rattle.picture_lanes.proofs.calls.behind_calls.Given as goal
 
 abbrev pub invariant-loop-passed : goal.invariant-loop-passed

@@ -1,4 +1,4 @@
-use Rattle.std.proofs.Common.{◌≡◌, ℕ, ◌+◌, ◌∙◌, List, length, ap, arith, refl, subst, sym}
+use Rattle.std.proofs.Common.{ℕ, ◌+◌, ◌∙◌, List, length, ap, arith, refl, subst, sym}
 use Rattle.std.proofs.lemmas.List.{length_push}
 use Rattle.runs.specs.Live.{Live}
 use Rattle.dependence.proofs.public.Turns.{turn, turn-within, ended}

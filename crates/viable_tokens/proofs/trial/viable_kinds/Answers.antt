@@ -1,7 +1,6 @@
 use Rattle.std.proofs.Common.{subst, take}
 use Rattle.std.proofs.lemmas.Result.{IfOk-weaker}
-use Rattle.viable_tokens.specs.Viable.{AreAllViable, AreViable}
-use Rattle.viable_tokens.specs.internal.Trials.{all_kinds}
+use Rattle.viable_tokens.specs.Viable.{all_kinds, AreAllViable, AreViable}
 use Rattle.viable_tokens.proofs.EveryKind.{all_viable}
 use Rattle.viable_tokens.proofs.trial.viable_kinds.Goals as goal
 

@@ -5,4 +5,4 @@ use Rattle.waiting.proofs.input.none_deadlocked.Given as goal
 -- of those that are left the same holds
 abbrev pub invariant-loop-index : goal.invariant-loop-index
 invariant-loop-index l =
-    none_deadlocked l.machine l.marks l.index (drop l.index l.actions) ≡ none_deadlocked l.machine l.marks 0 l.actions
+    none_deadlocked l.marks l.index (drop l.index l.actions) ≡ none_deadlocked l.marks 0 l.actions

@@ -1,4 +1,4 @@
-use Rattle.waiting.proofs.Repeated.{one-list}
+use Rattle.waiting.proofs.InOneOrder.{one-list}
 use Rattle.waiting.proofs.laws.waiters_have_one_order.Goals as goal
 
 pub returns : goal.returns

@@ -13,7 +13,6 @@ use Rattle.waiting.specs.Waits.{ListsWaiting}
 use Rattle.waiting.specs.Progress.{StandsLike}
 use Rattle.waiting.specs.declared.progress.Progress.{Progress}
 use Rattle.waiting.specs.internal.Among.{left_over, progress_of}
-use Rattle.waiting.specs.internal.Repeats.{each_once}
 use Rattle.waiting.proofs.Leftover.{lists-waiting, stands-like}
 use Rattle.waiting.specs.internal.Held.{is_there, Has}
 use Rattle.waiting.proofs.HeldPlaces.{left-alike}
@@ -22,8 +21,8 @@ use Rattle.waiting.proofs.waiting.who_waits.Goals as goal
 
 pub returns : goal.returns
 returns c =
-    let S : State = state_of c.in_ok-state.state.tree c.in_ok-state.state.store in
-    let stands = c.in_ok-state.ensures in
+    let S : State = state_of c.state.result.0.now c.state.result.1.now in
+    let stands = c.state.ensures in
     let actions : List LocalAction = c.in_ok-actions.actions in
     let events : List Event = c.in_ok-ready.ready in
     let exact : OffersExactly S actions = c.in_ok-actions.ensures.exactly stands.tidy in
@@ -32,17 +31,17 @@ returns c =
     let same : ready.0 ≡ S = one.2 ready.0 ready.1 ∙ sym (one.2 S stands.reaches) in
     let list : ReadyList S events = subst (λ (T : State). ReadyList T events) same ready.2 in
     let held : Has c.in_ok-places.places events = subst (λ (es : List Event). Has c.in_ok-places.places es) c.as_slice-3.ensures c.in_ok-places.ensures in
-    let left : c.left_over.result ≡ left_over events actions = c.left_over.ensures ∙ left-alike (is_there c.in_ok-places.places) events actions held in
+    let kept : List LocalAction = c.left_over-actions.result in
+    let left : kept ≡ left_over events actions = c.left_over-actions.ensures ∙ left-alike (is_there c.in_ok-places.places) events actions held in
     let told : c.progress_of-progress.result ≡ progress_of actions events =
     c.progress_of-progress.ensures ∙ ap₂ (λ (xs : List LocalAction) (es : List Event). progress_of xs es) c.as_slice.ensures c.as_slice-2.ensures in
-    let kept : List LocalAction = c.in_ok-actions-2.actions in
-    let once : kept ≡ each_once (left_over events actions) = c.in_ok-actions-2.ensures ∙ ap each_once left in
     let waits : ListsWaiting S kept =
-    subst (λ (xs : List LocalAction). ListsWaiting S xs) (sym once) (lists-waiting S actions events exact (c.in_ok-actions.ensures.in_order stands.tidy) list) in
+    subst (λ (xs : List LocalAction). ListsWaiting S xs) (sym left)
+    (lists-waiting S actions events exact (c.in_ok-actions.ensures.in_order stands.tidy) (c.in_ok-actions.ensures.once stands.tidy) list) in
     let offered : (x : LocalAction) → In x c.as_slice-4.result.now → Offered S x =
     λ x i. ((waits.exactly x).0 (subst (λ (xs : List LocalAction). In x xs) c.as_slice-4.ensures i)).offered in
     let partners : c.in_ok-partners.partners.items ≡ map (partner_in S.residual) kept =
-    c.in_ok-partners.ensures.partners c.in_ok-state.state.store offered ∙ ap (λ (xs : List LocalAction). map (partner_in S.residual) xs) c.as_slice-4.ensures in
+    c.in_ok-partners.ensures.partners c.state.result.1.now offered ∙ ap (λ (xs : List LocalAction). map (partner_in S.residual) xs) c.as_slice-4.ensures in
     let given : c.as_slice-6.result.now ≡ map (partner_in S.residual) c.as_slice-5.result.now =
     c.as_slice-6.ensures.value ∙ partners ∙ ap (λ (xs : List LocalAction). map (partner_in S.residual) xs) (sym c.as_slice-5.ensures) in
     let marks : List Bool = c.in_ok-deadlocked.deadlocked.items in
