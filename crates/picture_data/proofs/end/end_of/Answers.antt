@@ -1,14 +1,16 @@
 use Rattle.std.proofs.Common.{◌∙◌, ℕ, List, ap, sym, subst}
 use Rattle.runs.specs.Live.{Live}
 use Rattle.runs.specs.declared.event.Event.{Event}
+use Rattle.picture_data.specs.Lines.{line_of}
 use Rattle.picture_data.specs.Shown.{EachStandsIn, HasDepths}
-use Rattle.picture_data.specs.Spots.{ready_spots, ring_of}
+use Rattle.picture_data.specs.Spots.{Deep, ready_spots, ring_of}
+use Rattle.picture_data.specs.Wanted.{Seen}
 use Rattle.picture_data.specs.internal.SpotsSoFar.{AddsSpots}
 use Rattle.picture_data.proofs.WaitLaws.{shows-waits-by}
 use Rattle.picture_data.proofs.end.end_of.Goals as goal
 
-pub waiting_places-shown-requires : goal.waiting_places-shown-requires
-waiting_places-shown-requires c = subst (λ (l : Live). HasDepths l c.args.depths.now) (sym c.live_events-live.ensures) c.requires
+pub waiting_places-requires : goal.waiting_places-requires
+waiting_places-requires c = subst (λ (l : Live). HasDepths l c.args.depths.now) (sym c.live_events-live.ensures) c.requires
 
 pub add_ready_places-requires : goal.add_ready_places-requires
 add_ready_places-requires c = subst (λ (l : Live). HasDepths l c.args.depths.now) (sym c.live_events-live.ensures) c.requires
@@ -16,6 +18,16 @@ add_ready_places-requires c = subst (λ (l : Live). HasDepths l c.args.depths.no
 pub returns : goal.returns
 returns c =
     let told = c.in_ok-waiting.ensures in
+    let deep : Deep = record { live = c.live_events-live.result.now.live; depths = c.args.depths.now } in
+    let seen : Seen = record {
+      line = line_of c.args.machine.now;
+      around = record {
+        lanes = c.args.table.now;
+        uses = c.args.uses.now;
+        actions = c.as_slice-actions.result.now;
+        ready = c.as_slice-events.result.now;
+      };
+    } in
     record {
       ready = c.in_ok-ready.ensures;
       actions = subst (λ (es : List Event). EachStandsIn c.args.machine.now c.args.table.now es c.in_ok-ready_actions.ready_actions.items)
@@ -25,7 +37,7 @@ returns c =
           c.in_ok-shown.shown.places.items c.in_ok-shown.shown.place_of_action.items c.as_slice-actions.result.now c.as_slice-events.result.now
           c.live_events-live.result.now.live c.as_slice-actions.ensures c.as_slice-events.ensures c.live_events-live.ensures c.in_ok-waiting.ensures
           c.in_ok-shown.ensures
-          (subst (λ (es : List Event). AddsSpots _ c.in_ok-shown.shown.places.items c.add_ready_places.new.places.items (ready_spots _ es))
+          (subst (λ (es : List Event). AddsSpots deep c.in_ok-shown.shown.places.items c.add_ready_places.new.places.items (ready_spots seen es))
           c.as_slice-events.ensures c.in_ok-add_ready_places.ensures)
           (c.in_ok-ring.ensures
           ∙ ap (λ (found : List ℕ). ring_of found c.as_slice-ring_sides.result.now) c.as_slice-place_of_action.ensures.value

@@ -3,8 +3,8 @@ use Rattle.picture_data.specs.Shown.{HasDepths}
 use Rattle.picture_data.proofs.Whole.{shows_all}
 use Rattle.picture_data.proofs.picture.picture_of.Goals as goal
 
-pub end_of-end-requires : goal.end_of-end-requires
-end_of-end-requires c =
+pub end_of-requires : goal.end_of-requires
+end_of-requires c =
     subst (λ (ds : List ℕ). HasDepths c.args.machine.now.live ds) (sym c.as_slice-2.ensures.value)
     (c.in_ok-steps.ensures.shown.depths, c.in_ok-steps.ensures.small)
 
