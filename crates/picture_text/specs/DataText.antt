@@ -1,5 +1,5 @@
 -- The data of a picture as one JSON text, value by value.
-use Rattle.std.specs.Prelude.{ℕ, ◌+◌, ◌==◌, ◌&&◌, List, [], ◌∷◌, ◌++◌, Bool, true, false, cond, Option, None, Some, map, codes, slice_get}
+use Rattle.std.specs.Prelude.{ℕ, ◌+◌, ◌==◌, ◌&&◌, List, [], ◌∷◌, ◌++◌, Bool, true, cond, Option, None, Some, map, codes, slice_get}
 use Rattle.std.specs.Fmt.{decimal}
 use Rattle.std.specs.List.{flat_map}
 use Rattle.address.specs.Text.{text_of}
@@ -18,7 +18,6 @@ use Rattle.picture_lanes.specs.declared.lane.Instance.{Instance}
 use Rattle.picture_lanes.specs.declared.lane.Lane.{Lane}
 use Rattle.picture_lanes.specs.declared.lane.LaneKind.{LaneKind}
 use Rattle.json_text.specs.Values.{list_text, member_text, object_text, optional_text, string_text}
-use Rattle.picture_data.specs.declared.end.End.{End}
 use Rattle.picture_data.specs.declared.picture.Picture.{Picture}
 use Rattle.picture_data.specs.declared.places.Place.{Place}
 use Rattle.picture_data.specs.declared.places.Role.{Role}
