@@ -84,10 +84,10 @@ same-rows system s t n (x ∷ l) actions depths ahead since =
     ∙ ap (λ (rows : List (List ℕ)). event_row system t n x.1 ∷ rows) (same-rows system s t (n + 1) l actions depths ahead since)
 
 -- a place as it is written, by what is shown of it but for its depth
-want_text : Want → List ℕ
+abbrev want_text : Want → List ℕ
 want_text w = list_text (decimal w.channel ∷ numbers_text w.lanes ∷ decimal (flag w.can_come) ∷ [])
 
-spot_row : Spot → List ℕ
+abbrev spot_row : Spot → List ℕ
 spot_row s =
     list_text (optional_text s.lane ∷ string_text (text_of s.place) ∷ decimal s.line ∷ string_text (role_text s.role)
     ∷ list_text (map want_text s.wanted) ∷ decimal (flag s.is_ready) ∷ [])
@@ -127,7 +127,7 @@ same-system system p q one =
     ∙ ap (λ (fs : List Feed). made q.instances.items q.lanes.items fs) one.ground.feeds
 
 -- how the run stands, in one text
-ends : System → Live → List (List ℕ) → List Race → List Actions → List Event → List (List ℕ) → List ℕ → List (List ℕ)
+abbrev ends : System → Live → List (List ℕ) → List Race → List Actions → List Event → List (List ℕ) → List ℕ → List (List ℕ)
 ends system l rows races actions ready places ring =
     member_text (codes "tickets") (tickets_text l)
     ∷ member_text (codes "events") (list_text rows)
