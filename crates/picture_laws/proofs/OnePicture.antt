@@ -1,5 +1,5 @@
 -- Of one run pictures show the same, index by index.
-use Rattle.std.proofs.Common.{◌≡◌, ℕ, List, [], ◌∷◌, refl}
+use Rattle.std.proofs.Common.{ℕ, List, [], ◌∷◌, refl}
 use Rattle.runs.specs.Dependence.{Rearranged, Respecting}
 use Rattle.runs.specs.Live.{Rising, events}
 use Rattle.runs.specs.Object.{Reaches}
