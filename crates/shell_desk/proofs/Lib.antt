@@ -1,4 +1,6 @@
 mod AgainLemmas
+mod AwakeLemmas
 mod DeedLemmas
+mod SleepLemmas
 mod TidyLemmas
 mod WordLemmas
