@@ -11,9 +11,7 @@ use Rattle.locked_execution.specs.Performs.{Answers}
 use Rattle.locked_execution.specs.declared.command.Command.{Command}
 use Rattle.locked_execution.specs.declared.command.Reply.{Reply}
 use Rattle.shell_desk.specs.AtBench.{AtBench}
-use Rattle.shell_desk.specs.Does.{Asked, AsksIfAny, AwakeInTurn, AwakeTurn, GoesBack, InTurn, IsAsleep, IsNewest, NoneSleeps, OneTurn}
-use Rattle.shell_desk.specs.Does.{Runs, RunsAwake, RunsFrom, RunsPast, SleepsBehind, end_of, ended_at, ends_run, ends_way}
-use Rattle.shell_desk.specs.Does.{first_of, held_of, is_busy, next_of, numbered_as}
+use Rattle.shell_desk.specs.Does.{Asked, AsksIfAny, GoesBack, InTurn, IsNewest, OneTurn, Runs, RunsFrom, RunsPast, end_of, ended_at, ends_run, ends_way, first_of, held_of, is_busy, next_of, numbered_as}
 use Rattle.shell_desk.specs.Laws.{EachDeedIsCommands, Leaves, of_session}
 use Rattle.shell_desk.specs.declared.deed.Deed.{Deed}
 use Rattle.shell_desk.specs.declared.deed.Done.{Done}
@@ -32,11 +30,11 @@ pub true-false : true ≡ false → ⊥
 true-false h = cc
 
 -- a fact by a test
-pub by-false : (P : Type 0) {Q : Type 0} → (t : Bool) → t ≡ false → Q → MatchBool t P Q
+by-false : (P : Type 0) {Q : Type 0} → (t : Bool) → t ≡ false → Q → MatchBool t P Q
 by-false P true e q = absurd (true-false e)
 by-false P false e q = q
 
-pub by-true : {P : Type 0} (Q : Type 0) → (t : Bool) → t ≡ true → P → MatchBool t P Q
+by-true : {P : Type 0} (Q : Type 0) → (t : Bool) → t ≡ true → P → MatchBool t P Q
 by-true Q true e p = p
 by-true Q false e p = absurd (true-false (sym e))
 
@@ -86,33 +84,28 @@ turn-idle count i k b past =
     subst (λ (left : ℕ). InTurn count b left k Reply.Idle b) (sym none) (refl, refl)
 
 -- all steps are left at first
-pub run-begins : (limit : ℕ) (b : AtBench) (asleep : List Bool) → NoneSleeps asleep → (end : End) (b' : AtBench)
-    → RunsAwake b asleep (limit - 0) end b' → Runs b limit end b'
-run-begins limit b asleep none end b' h =
-    let all : limit - 0 ≡ limit = omega arith in
-    (asleep, none, subst (λ (left : ℕ). RunsAwake b asleep left end b') all h)
+pub run-begins : (limit : ℕ) (b : AtBench) (end : End) (b' : AtBench) → Runs b (limit - 0) end b' → Runs b limit end b'
+run-begins limit b end b' h =
+    let all : limit - 0 ≡ limit = omega arith in subst (λ (left : ℕ). Runs b left end b') all h
 
 -- one step more of a run
-pub run-goes-on : (limit i : ℕ) (b m : AtBench) (asleep s : List Bool) (r : Reply) → i < limit → AwakeTurn b asleep r m s
-    → ends_run r ≡ false → (end : End) (b' : AtBench) → RunsAwake m s (limit - (i + 1)) end b'
-    → RunsAwake b asleep (limit - i) end b'
-run-goes-on limit i b m asleep s r less turn step end b' rest =
-    subst (λ (left : ℕ). RunsAwake b asleep left end b') (sym (one-less limit i less))
-    (r, m, s, turn, by-false _ (ends_run r) step rest)
+pub run-goes-on : (limit i : ℕ) (b m : AtBench) (r : Reply) → i < limit → OneTurn b r m → ends_run r ≡ false
+    → (end : End) (b' : AtBench) → Runs m (limit - (i + 1)) end b' → Runs b (limit - i) end b'
+run-goes-on limit i b m r less turn step end b' rest =
+    subst (λ (left : ℕ). Runs b left end b') (sym (one-less limit i less)) (r, m, turn, by-false _ (ends_run r) step rest)
 
 -- a run that ends at a reply
-pub run-ends : (limit i : ℕ) (b m : AtBench) (asleep s : List Bool) (r : Reply) (end : End) → i < limit
-    → AwakeTurn b asleep r m s → ends_run r ≡ true → end ≡ end_of r → RunsAwake b asleep (limit - i) end m
-run-ends limit i b m asleep s r end less turn none e =
-    subst (λ (left : ℕ). RunsAwake b asleep left end m) (sym (one-less limit i less))
-    (r, m, s, turn, by-true _ (ends_run r) none (e, refl))
+pub run-ends : (limit i : ℕ) (b m : AtBench) (r : Reply) (end : End) → i < limit → OneTurn b r m → ends_run r ≡ true
+    → end ≡ end_of r → Runs b (limit - i) end m
+run-ends limit i b m r end less turn none e =
+    subst (λ (left : ℕ). Runs b left end m) (sym (one-less limit i less))
+    (r, m, turn, by-true _ (ends_run r) none (e, refl))
 
 -- a run of as many steps as were asked for
-pub run-enough : (limit i : ℕ) (b : AtBench) (asleep : List Bool) → limit ≤ i
-    → RunsAwake b asleep (limit - i) End.Enough b
-run-enough limit i b asleep past =
+pub run-enough : (limit i : ℕ) (b : AtBench) → limit ≤ i → Runs b (limit - i) End.Enough b
+run-enough limit i b past =
     let none : limit - i ≡ 0 = omega arith in
-    subst (λ (left : ℕ). RunsAwake b asleep left End.Enough b) (sym none) (refl, refl)
+    subst (λ (left : ℕ). Runs b left End.Enough b) (sym none) (refl, refl)
 
 -- one step past a breakpoint, and then the others
 pub past-goes-on : (line limit : ℕ) (b c d m b' : AtBench) (r r1 r2 : Reply) (end : End) → 0 < limit
@@ -226,36 +219,15 @@ turn-leaves session count (suc left) k b b' b'' reply same h rest =
     (λ done. unmoved session h.1 b' b'' done.1 (h.2.1 ∙ same) rest)
     (λ more. turn-leaves session count left (next_of count k) h.1 b' b'' reply (h.2.1 ∙ same) more rest))
 
--- the branches of a turn that are awake, and what comes behind
-awake-leaves : (session count left k : ℕ) (b b' b'' : AtBench) (asleep asleep' : List Bool) (reply : Reply)
-    → b.session ≡ session → AwakeInTurn count b asleep left k reply b' asleep'
-    → (b'.session ≡ session → Leaves session b' b'') → Leaves session b b''
-awake-leaves session count zero k b b' b'' asleep asleep' reply same h rest =
-    turn-leaves session (branch_count b.desk.machine.checked) (branch_count b.desk.machine.checked)
-    (first_of (branch_count b.desk.machine.checked) b.branch) b b' b'' reply same h.0 rest
-awake-leaves session count (suc left) k b b' b'' asleep asleep' reply same (inl (sleeps, more)) rest =
-    awake-leaves session count left (next_of count k) b b' b'' asleep asleep' reply same more rest
-awake-leaves session count (suc left) k b b' b'' asleep asleep' reply same (inr (r, m, s, asked, sleeps, next)) rest =
-    asked-then session b m b'' (Command.Branch k) r same asked
-    (by-cases ((reply ≡ r) × (b' ≡ m) × (asleep' ≡ s)) (AwakeInTurn count m s left (next_of count k) reply b' asleep')
-    (is_busy r) next
-    (λ done. unmoved session m b' b'' done.1 (asked.1 ∙ same) rest)
-    (λ more. awake-leaves session count left (next_of count k) m b' b'' s asleep' reply (asked.1 ∙ same) more rest))
-
--- the steps of a run where some sleep
-awake-runs-leave : (session left : ℕ) (b b' : AtBench) (asleep : List Bool) (end : End) → b.session ≡ session
-    → RunsAwake b asleep left end b' → Leaves session b b'
-awake-runs-leave session zero b b' asleep end same h = still session b b' h.1
-awake-runs-leave session (suc left) b b' asleep end same (r, m, s, turn, next) =
-    awake-leaves session (branch_count b.desk.machine.checked) (branch_count b.desk.machine.checked)
-    (first_of (branch_count b.desk.machine.checked) b.branch) b m b' asleep s r same turn
-    (λ same'. by-cases ((end ≡ end_of r) × (b' ≡ m)) (RunsAwake m s left end b') (ends_run r) next
-    (λ done. still session m b' done.1)
-    (λ more. awake-runs-leave session left m b' s end same' more))
-
 -- the steps of a run
 runs-leave : (session left : ℕ) (b b' : AtBench) (end : End) → b.session ≡ session → Runs b left end b' → Leaves session b b'
-runs-leave session left b b' end same (asleep, none, runs) = awake-runs-leave session left b b' asleep end same runs
+runs-leave session zero b b' end same h = still session b b' h.1
+runs-leave session (suc left) b b' end same h =
+    turn-leaves session (branch_count b.desk.machine.checked) (branch_count b.desk.machine.checked)
+    (first_of (branch_count b.desk.machine.checked) b.branch) b h.1 b' h.0 same h.2
+    (λ same'. by-cases ((end ≡ end_of h.0) × (b' ≡ h.1)) (Runs h.1 left end b') (ends_run h.0) h.3
+    (λ done. still session h.1 b' done.1)
+    (λ more. runs-leave session left h.1 b' end same' more))
 
 -- the steps of a run past a breakpoint
 runs-past-leave : (session line limit : ℕ) (b b' : AtBench) (end : End) → b.session ≡ session → RunsPast line b limit end b'

@@ -1,6 +1,4 @@
 mod AgainLemmas
-mod AwakeLemmas
 mod DeedLemmas
-mod SleepLemmas
 mod TidyLemmas
 mod WordLemmas

@@ -8,7 +8,6 @@ use Rattle.system_places.specs.SystemBranches.{branch_at, branch_count}
 use Rattle.runs.specs.Choices.{choice_of}
 use Rattle.runs.specs.Events.{acting}
 use Rattle.runs.specs.Live.{Live}
-use Rattle.runs.specs.Moves.{Place}
 use Rattle.runs.specs.declared.event.Event.{Event}
 use Rattle.machine.specs.AtMachine.{AtMachine}
 use Rattle.locked_execution.specs.AtDesk.{AtDesk, new_desk, breaks_of, sessions}
@@ -103,57 +102,13 @@ end_of (Reply.Stopped line) = End.AtBreak line
 end_of (Reply.Refused why) = End.Refused why
 end_of _ = End.Idle
 
--- whether a branch is asleep, where these are
-abbrev pub IsAsleep : List Bool → ℕ → Type 0
-IsAsleep asleep k = slice_get asleep k ≡ Some true
-
-abbrev pub NoneSleeps : List Bool → Type 0
-NoneSleeps asleep = (k : ℕ) → IsAsleep asleep k → ⊥
-
--- the branch of a side, where there is one
-abbrev pub branch_of_side : System → Option Place → Option ℕ
-branch_of_side system None = None
-branch_of_side system (Some place) = branch_at system place
-
--- a side of the step lies in branch k
-abbrev pub TakesPart : System → Event → ℕ → Type 0
-TakesPart system e k = (branch_at system e.first ≡ Some k) ⊎ (branch_of_side system e.second ≡ Some k)
-
--- who sleeps behind the reply to branch k: only who slept before and takes no part in the step, or k, where it has none
-abbrev pub SleepsBehind : System → ℕ → Reply → List Bool → List Bool → Type 0
-SleepsBehind system k (Reply.Stepped t e) before after =
-    (i : ℕ) → IsAsleep after i → IsAsleep before i × (TakesPart system e i → ⊥)
-SleepsBehind system k Reply.Idle before after = (i : ℕ) → IsAsleep after i → IsAsleep before i ⊎ (i ≡ k)
-SleepsBehind system k _ before after = (i : ℕ) → IsAsleep after i → IsAsleep before i
-
--- `left` branches from k on come in turn: one that sleeps is passed over, another is asked for a step, up to the first
--- that is not idle, which answers `reply`; where there is none, each is asked, and none sleeps any more
-abbrev pub AwakeInTurn : ℕ → AtBench → List Bool → ℕ → ℕ → Reply → AtBench → List Bool → Type 0
-AwakeInTurn count b asleep zero k reply b' asleep' = OneTurn b reply b' × NoneSleeps asleep'
-AwakeInTurn count b asleep (suc left) k reply b' asleep' =
-    (IsAsleep asleep k × AwakeInTurn count b asleep left (next_of count k) reply b' asleep')
-    ⊎ ((r : Reply) × (m : AtBench) × (s : List Bool) × Asked b (Command.Branch k) r m
-    × SleepsBehind m.desk.machine.checked k r asleep s
-    × MatchBool (is_busy r) ((reply ≡ r) × (b' ≡ m) × (asleep' ≡ s))
-    (AwakeInTurn count m s left (next_of count k) reply b' asleep'))
-
--- each branch that is awake once, from the one behind that which was stepped last
-abbrev pub AwakeTurn : AtBench → List Bool → Reply → AtBench → List Bool → Type 0
-AwakeTurn b asleep reply b' asleep' =
-    let count = branch_count b.desk.machine.checked in
-    AwakeInTurn count b asleep count (first_of count b.branch) reply b' asleep'
-
--- a run of so many steps at most, where these sleep: each is the first that the branches have in turn that are awake,
--- or that all have; and it ends before, where there is none
-abbrev pub RunsAwake : AtBench → List Bool → ℕ → End → AtBench → Type 0
-RunsAwake b asleep zero end b' = (end ≡ End.Enough) × (b' ≡ b)
-RunsAwake b asleep (suc left) end b' =
-    (r : Reply) × (m : AtBench) × (s : List Bool) × AwakeTurn b asleep r m s
-    × MatchBool (ends_run r) ((end ≡ end_of r) × (b' ≡ m)) (RunsAwake m s left end b')
-
--- a run of so many steps at most: who had no step when it was asked sleeps until it takes part in one
+-- a run of so many steps at most: each is the first that the branches have in turn, and it ends before, where there is
+-- none
 abbrev pub Runs : AtBench → ℕ → End → AtBench → Type 0
-Runs b limit end b' = (asleep : List Bool) × NoneSleeps asleep × RunsAwake b asleep limit end b'
+Runs b zero end b' = (end ≡ End.Enough) × (b' ≡ b)
+Runs b (suc left) end b' =
+    (r : Reply) × (m : AtBench) × OneTurn b r m
+    × MatchBool (ends_run r) ((end ≡ end_of r) × (b' ≡ m)) (Runs m left end b')
 
 -- the same where the last run ended at the breakpoint on this line: the first step is taken without it, and it is set
 -- again

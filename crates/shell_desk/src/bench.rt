@@ -4,7 +4,6 @@ ghost use Rattle.locked_execution.specs.AtDesk.{execution};
 ghost use Rattle.shell_desk.specs.AtBench.{new_bench};
 ghost use Rattle.shell_desk.specs.Does.{Does, NamesSession};
 
-use crate::neighbours::Neighbours;
 use crate::{Deed, Done, Watch};
 use locked_execution::{Command, Desk, Machine};
 use std::alloc::Global;
@@ -19,7 +18,6 @@ pub struct Bench {
     pub(crate) numbered: Vec<Command>,
     pub(crate) branch: Option<u32>,
     pub(crate) stopped: Option<u64>,
-    pub(crate) neighbours: Option<Neighbours>,
 }
 
 impl Model for Bench {
@@ -48,14 +46,12 @@ impl Bench {
     pub fn new(alloc: Global, machine: Machine) -> Bench
         ensures { result ≡ new_bench machine }
     {
-        let neighbours = Neighbours::of(alloc, machine.checked());
         Bench {
             desk: Desk::new(machine),
             session: 0,
             numbered: Vec::new(alloc),
             branch: None,
             stopped: None,
-            neighbours,
         }
     }
 

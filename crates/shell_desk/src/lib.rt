@@ -8,10 +8,7 @@ mod bench;
 mod deed;
 mod laws;
 mod loaded;
-mod neighbours;
-mod offers;
 mod run;
-mod sleepers;
 mod tidy;
 mod word;
 

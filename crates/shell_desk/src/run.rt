@@ -1,13 +1,10 @@
 // Runs in which the branches step in turn.
-ghost use Rattle.std.specs.Prelude.{◌≡◌, ◌≤◌};
+ghost use Rattle.std.specs.Prelude.{◌≡◌};
 ghost use Rattle.system_places.specs.SystemBranches.{branch_count as count_of};
 ghost use Rattle.shell_desk.specs.AtBench.{AtBench};
-ghost use Rattle.locked_execution.specs.declared.command.Command.{Command as CommandAt};
-ghost use Rattle.shell_desk.specs.Does.{Asked, AwakeTurn, OneTurn, Runs, RunsFrom, RunsPast, SleepsBehind, end_of, ended_at};
-ghost use Rattle.shell_desk.specs.Does.{ends_run, first_of, held_at, held_of, is_busy, next_of};
-ghost use Rattle.shell_desk.specs.internal.Sleeping.{AsksBetween};
+ghost use Rattle.shell_desk.specs.Does.{OneTurn, Runs, RunsFrom, RunsPast, end_of, ended_at, ends_run, first_of};
+ghost use Rattle.shell_desk.specs.Does.{held_at, held_of, is_busy, next_of};
 
-use crate::sleepers::Sleepers;
 use crate::{Bench, End, Watch};
 use locked_execution::{Command, Reply};
 use machine::Breaks;
@@ -67,77 +64,17 @@ impl Bench {
         self.run(limit - 1, watch)
     }
 
-    /// Takes so many steps at most, each the first that the branches have in turn. One that had no step is passed over
-    /// until it takes part in one; where all others have none, all are asked.
+    /// Takes so many steps at most, each the first that the branches have in turn.
     fn run<W: Watch>(&mut self, limit: u64, watch: &mut W) -> End
         ensures { Runs self.old limit result self.new }
     {
-        let mut sleepers = Sleepers::none(*self.numbered.allocator(), self.branch_count());
         for taken in 0..limit {
-            let reply = self.awake_turn(&mut sleepers, watch);
+            let reply = self.turn(watch);
             if ends_run(&reply) {
                 return end_of(&reply);
             }
         }
         End::Enough
-    }
-
-    /// Asks the branches that are awake in turn for a step, up to the first that is not idle; where there is none, all.
-    fn awake_turn<W: Watch>(&mut self, sleepers: &mut Sleepers, watch: &mut W) -> Reply
-        ensures { AwakeTurn self.old sleepers.old.asleep.items result self.new sleepers.new.asleep.items }
-    {
-        let count = self.branch_count();
-        let start = self.first(count);
-        if let Some(reply) = self.ask_awake(sleepers, start, count, watch) {
-            return reply;
-        }
-        if let Some(reply) = self.ask_awake(sleepers, 0, start, watch) {
-            return reply;
-        }
-        sleepers.wake_all();
-        self.turn(watch)
-    }
-
-    /// Asks the branches from one up to another that are awake for a step, up to the first that is not idle.
-    fn ask_awake<W: Watch>(
-        &mut self,
-        sleepers: &mut Sleepers,
-        from: u32,
-        to: u32,
-        watch: &mut W,
-    ) -> Option<Reply>
-        requires { from ≤ to }
-        ensures { AsksBetween from to self.old sleepers.old.asleep.items result self.new sleepers.new.asleep.items }
-    {
-        let mut branch = from;
-        while let Some(next) = sleepers.first_awake(branch, to) {
-            let reply = self.ask_noted(sleepers, next, watch);
-            if is_busy(&reply) {
-                return Some(reply);
-            }
-            branch = next + 1;
-        }
-        None
-    }
-
-    /// Asks the branch for a step, and keeps in mind who sleeps behind it.
-    fn ask_noted<W: Watch>(&mut self, sleepers: &mut Sleepers, branch: u32, watch: &mut W) -> Reply
-        ensures asked { Asked self.old (CommandAt.Branch branch) result self.new }
-        ensures sleep { SleepsBehind self.new.desk.machine.checked branch result
-            sleepers.old.asleep.items sleepers.new.asleep.items }
-    {
-        let reply = self.ask(&Command::Branch(branch), watch);
-        self.note(sleepers, branch, &reply);
-        reply
-    }
-
-    /// Keeps in mind who sleeps behind this reply to a branch.
-    fn note(&self, sleepers: &mut Sleepers, branch: u32, reply: &Reply)
-        ensures { SleepsBehind self.now.desk.machine.checked branch reply.now
-            sleepers.old.asleep.items sleepers.new.asleep.items }
-    {
-        let system = self.desk.machine().checked().system();
-        sleepers.note(system, self.neighbours.as_ref(), branch, reply);
     }
 
     /// Asks the branches in turn for a step, up to the first that is not idle.
@@ -165,8 +102,7 @@ impl Bench {
 
     /// The branch whose turn it is, of so many.
     fn first(&self, count: u32) -> u32
-        ensures first { result ≡ first_of count self.now.branch }
-        ensures range { result ≤ count }
+        ensures { result ≡ first_of count self.now.branch }
     {
         first_of(count, self.branch)
     }
@@ -184,8 +120,7 @@ fn held_at(stopped: Option<u64>, breaks: &Breaks) -> Option<u64>
 
 /// The branch whose turn it is where this was stepped last.
 fn first_of(count: u32, last: Option<u32>) -> u32
-    ensures first { result ≡ first_of count last }
-    ensures range { result ≤ count }
+    ensures { result ≡ first_of count last }
 {
     match last {
         Some(branch) => next_of(count, branch),
@@ -195,8 +130,7 @@ fn first_of(count: u32, last: Option<u32>) -> u32
 
 /// The branch behind this one, and behind the last the first.
 fn next_of(count: u32, branch: u32) -> u32
-    ensures next { result ≡ next_of count branch }
-    ensures range { result ≤ count }
+    ensures { result ≡ next_of count branch }
 {
     if branch < count && count - branch > 1 {
         branch + 1
