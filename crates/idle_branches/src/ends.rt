@@ -137,7 +137,7 @@ impl Ends {
 
     /// Ends the branch that is gone through.
     fn end_branch(&mut self, alloc: Global) -> Result<(), AllocError>
-        ensures { OnOk result (self.new.offers.items ≡ self.old.offers.items ++ self.old.used.offers ∷ []) }
+        ensures offers { OnOk result (self.new.offers.items ≡ self.old.offers.items ++ self.old.used.offers ∷ []) }
         ensures acting { self.new.used.acting ≡ self.old.used.acting }
     {
         let offers = mem::replace(&mut self.used.offers, Items::new(alloc));

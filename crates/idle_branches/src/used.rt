@@ -1,5 +1,5 @@
 // The channels that a command uses, by their sides.
-ghost use Rattle.std.specs.Prelude.{◌≡◌, ◌×◌, map, OnOk};
+ghost use Rattle.std.specs.Prelude.{◌≡◌, map, OnOk};
 ghost use Rattle.std.specs.Option.{option_map};
 ghost use Rattle.system.specs.Translation.{residual_of, branch_of};
 ghost use Rattle.system.specs.internal.ArmParts.{guarded_of, labelled_of, arm_of};
@@ -83,9 +83,8 @@ pub(crate) fn add_command(command: &Command, branch: u32, used: &mut Used) -> Re
             add_command(body, branch, used)
         }
         Action::Select(arms) | Action::Arbitrate(arms) => add_arms(arms.as_slice(), branch, used),
-        Action::Sequence(children) | Action::Parallel(children) => {
-            add_all(children.as_slice(), branch, used)
-        }
+        Action::Sequence(children) => add_all(children.as_slice(), branch, used),
+        Action::Parallel(children) => add_all(children.as_slice(), branch, used),
     }
 }
 
