@@ -17,7 +17,7 @@ use std::alloc::AllocError;
 use system_places::branch_count;
 
 /// For so few steps the ends of the branches are not looked at.
-const FEW_STEPS: u64 = 16;
+const FEW_STEPS: u64 = 4;
 
 impl Bench {
     /// Takes so many steps at most, each the first that the branches have in turn. Where the last run ended at a
