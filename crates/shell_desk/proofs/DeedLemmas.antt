@@ -30,11 +30,11 @@ pub true-false : true ≡ false → ⊥
 true-false h = cc
 
 -- a fact by a test
-by-false : (P : Type 0) {Q : Type 0} → (t : Bool) → t ≡ false → Q → MatchBool t P Q
+pub by-false : (P : Type 0) {Q : Type 0} → (t : Bool) → t ≡ false → Q → MatchBool t P Q
 by-false P true e q = absurd (true-false e)
 by-false P false e q = q
 
-by-true : {P : Type 0} (Q : Type 0) → (t : Bool) → t ≡ true → P → MatchBool t P Q
+pub by-true : {P : Type 0} (Q : Type 0) → (t : Bool) → t ≡ true → P → MatchBool t P Q
 by-true Q true e p = p
 by-true Q false e p = absurd (true-false (sym e))
 

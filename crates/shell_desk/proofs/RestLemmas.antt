@@ -81,7 +81,7 @@ asked-idle b k good rests =
     let none : in_branch b.desk.machine k ready.0 ≡ [] =
     filter-none (acts_in b.desk.machine k) ready.0
     (λ x i on. rests T reaches x ((ready.1.exactly x).0 i) (branch-is k (branch_at b.desk.machine.checked (acting x)) on)) in
-    (inl (BranchReply.Idle, refl, (T, ready.0, reaches, ready.1, none, refl), refl, refl), refl, refl, refl, refl)
+    (inl (BranchReply.Idle, refl, (T, ready.0, reaches, ready.1, (none, refl)), refl, refl), refl, refl, refl, refl)
 
 -- where the machine is the same, a branch still has none
 rests-same : (b m : AtBench) (k : ℕ) → m.desk.machine ≡ b.desk.machine → Rests b k → Rests m k
@@ -91,7 +91,7 @@ rests-same b m k same rests =
 -- one that was asked and is idle
 rests-asked : (b : AtBench) (k : ℕ) (h' : AtMachine) → Sound (execution b.desk)
     → StepsBranch b.desk.machine k (breaks_of b.desk b.session) BranchReply.Idle h' → Rests b k
-rests-asked b k h' sound (T, es, reaches, ready, none, same) U other x allowed acts =
+rests-asked b k h' sound (T, es, reaches, ready, (none, same)) U other x allowed acts =
     let one : U ≡ T = reaches-one (execution b.desk) U T sound other reaches in
     let here : Allowed T x = subst (λ (S : State). Allowed S x) one allowed in
     none-filter (acts_in b.desk.machine k) es x none ((ready.exactly x).1 here) (is-in k (branch_at b.desk.machine.checked (acting x)) acts)
@@ -126,47 +126,47 @@ module _ (law : StaysIdle) (ends : Ends) where
   rests-behind : (b m : AtBench) (k : ℕ) (answer : BranchReply) (asleep s : List Bool) → Good b
       → StepsBranch b.desk.machine k (breaks_of b.desk b.session) answer m.desk.machine → m.desk.machine.checked ≡ b.desk.machine.checked
       → SleepsBehind ends m.desk.machine.checked k (branch_reply answer) asleep s → Resting ends b asleep → Resting ends m s
-  rests-behind b m k (BranchReply.Stepped t e) asleep s good (T, es, reaches, ready, free, steps) system behind (are, rests) =
+  rests-behind b m k (BranchReply.Stepped t e) asleep s good (T, es, reaches, ready, (free, steps)) system behind (are, rests) =
       (
         subst (λ c. AreEnds c ends) (sym system) are,
         λ i sleeps.
             rests-stepped law ends b m.desk.machine e i good are system steps.4 (behind i sleeps).1 (rests i (behind i sleeps).0),
       )
-  rests-behind b m k (BranchReply.Stopped line) asleep s good (T, es, reaches, ready, kept, same) system behind resting =
+  rests-behind b m k (BranchReply.Stopped line) asleep s good (T, es, reaches, ready, (kept, same)) system behind resting =
       unmoved b m asleep s same behind resting
-  rests-behind b m k BranchReply.Idle asleep s good (T, es, reaches, ready, none, same) system behind (are, rests) =
+  rests-behind b m k BranchReply.Idle asleep s good (T, es, reaches, ready, (none, same)) system behind (are, rests) =
       (
         subst (λ (h : AtMachine). AreEnds h.checked ends) (sym same) are,
         λ i sleeps. elim (behind i sleeps) [
           | inl old ↦ rests-same b m i same (rests i old)
           | inr is ↦ rests-same b m i same
-              (subst (λ (n : ℕ). Rests b n) (sym is) (rests-asked b k m.desk.machine good.0 (T, es, reaches, ready, none, same)))
+              (subst (λ (n : ℕ). Rests b n) (sym is) (rests-asked b k m.desk.machine good.0 (T, es, reaches, ready, (none, same))))
         ],
       )
-  rests-behind b m k (BranchReply.Refused why) asleep s good (T, es, reaches, ready, first, same) system behind resting =
+  rests-behind b m k (BranchReply.Refused why) asleep s good (T, es, reaches, ready, (first, same)) system behind resting =
       unmoved b m asleep s same behind resting
 
   -- the same of what is asked
   pub rests-on : (b m : AtBench) (k : ℕ) (r : Reply) (asleep s : List Bool) → Good b → Asked b (Command.Branch k) r m
       → SleepsBehind ends m.desk.machine.checked k r asleep s → Resting ends b asleep → Resting ends m s
-  rests-on b m k r asleep s good (inl (answer, is, steps, system, breaks), _) behind resting =
+  rests-on b m k r asleep s good (inl (answer, is, steps, system, breaks), _, _, _, _) behind resting =
       rests-behind b m k answer asleep s good steps system
       (subst (λ (q : Reply). SleepsBehind ends m.desk.machine.checked k q asleep s) is behind) resting
-  rests-on b m k r asleep s good (inr (wanted, is, same), _) behind resting =
+  rests-on b m k r asleep s good (inr (wanted, is, same), _, _, _, _) behind resting =
       unmoved b m asleep s (ap (λ (d : AtDesk). d.machine) same)
       (subst (λ (q : Reply). SleepsBehind ends m.desk.machine.checked k q asleep s) is behind) resting
 
   -- who is idle leaves the machine
   idle-same : (b m : AtBench) (k : ℕ) (r : Reply) → is_busy r ≡ false → Asked b (Command.Branch k) r m → m.desk.machine ≡ b.desk.machine
-  idle-same b m k r idle (inr (wanted, is, same), _) = ap (λ (d : AtDesk). d.machine) same
-  idle-same b m k r idle (inl (answer, is, steps, system, breaks), _) =
+  idle-same b m k r idle (inr (wanted, is, same), _, _, _, _) = ap (λ (d : AtDesk). d.machine) same
+  idle-same b m k r idle (inl (answer, is, steps, system, breaks), _, _, _, _) =
       by-answer answer steps (sym (ap is_busy is) ∙ idle)
     where
       by-answer : (answer : BranchReply) → StepsBranch b.desk.machine k (breaks_of b.desk b.session) answer m.desk.machine
           → is_busy (branch_reply answer) ≡ false → m.desk.machine ≡ b.desk.machine
       by-answer (BranchReply.Stepped t e) steps no-step = cc
       by-answer (BranchReply.Stopped line) steps no-step = cc
-      by-answer BranchReply.Idle (T, es, reaches, ready, none, same) no-step = same
+      by-answer BranchReply.Idle (T, es, reaches, ready, (none, same)) no-step = same
       by-answer (BranchReply.Refused why) steps no-step = cc
 
   good-same : (b m : AtBench) → m.desk.machine ≡ b.desk.machine → Good b → Good m
@@ -186,21 +186,24 @@ module _ (law : StaysIdle) (ends : Ends) where
       ((Reply.Idle, b, asked-idle b k good (resting.1 k sleeps), rest.0), rest.1)
   in-turn count (suc left) k b b' asleep asleep' reply good resting (inr (r, m, s, asked, behind, next)) =
       by-busy (is_busy r) refl next
+      (λ idle more. in-turn count left (next_of count k) m b' s asleep' reply (good-same b m (idle-same b m k r idle asked) good) now more)
     where
       now : Resting ends m s
       now = rests-on b m k r asleep s good asked behind resting
 
       by-busy : (busy : Bool) → is_busy r ≡ busy
           → MatchBool busy ((reply ≡ r) × (b' ≡ m) × (asleep' ≡ s)) (AwakeInTurn ends count m s left (next_of count k) reply b' asleep')
+          → (is_busy r ≡ false → AwakeInTurn ends count m s left (next_of count k) reply b' asleep'
+          → InTurn count m left (next_of count k) reply b' × Resting ends b' asleep')
           → ((q : Reply) × (n : AtBench) × Asked b (Command.Branch k) q n
           × MatchBool (is_busy q) ((reply ≡ q) × (b' ≡ n)) (InTurn count n left (next_of count k) reply b')) × Resting ends b' asleep'
-      by-busy true is (told, same, alike) =
+      by-busy true is (told, same, alike) go-on =
           (
             (r, m, asked, subst (λ (t : Bool). MatchBool t ((reply ≡ r) × (b' ≡ m)) (InTurn count m left (next_of count k) reply b')) (sym is) (told, same)),
             subst (λ (c : AtBench). Resting ends c asleep') (sym same) (subst (λ (u : List Bool). Resting ends m u) (sym alike) now),
           )
-      by-busy false is more =
-          let rest = in-turn count left (next_of count k) m b' s asleep' reply (good-same b m (idle-same b m k r is asked) good) now more in
+      by-busy false is more go-on =
+          let rest = go-on is more in
           (
             (r, m, asked, subst (λ (t : Bool). MatchBool t ((reply ≡ r) × (b' ≡ m)) (InTurn count m left (next_of count k) reply b')) (sym is) rest.0),
             rest.1,

@@ -68,12 +68,12 @@ Kept all rest before after = (i : ℕ) → IsAsleep after i → IsAsleep before 
 pub each-begins : (all : List ℕ) (asleep : List Bool) → Kept all (drop 0 all) asleep asleep
 each-begins all asleep i h = (h, λ among. among)
 
-pub each-more : (all : List ℕ) (n x : ℕ) (before between after : List Bool) → n < length all → x ≡ get_or all n x
+pub each-more : (all : List ℕ) (n x : ℕ) (before between after : List Bool) → n < length all → x ≡ get_or all n 0
     → Kept all (drop n all) before between → SleepBut x between after → Kept all (drop (n + 1) all) before after
 each-more all n x before between after less is kept but i h =
     let one : IsAsleep between i × (i ≢ x) = but i h in
     let old = kept i one.0 in
-    (old.0, λ among. elim (subst (λ (rest : List ℕ). In i rest) (drop_more all n x less) (old.1 among)) [
+    (old.0, λ among. elim (subst (λ (rest : List ℕ). In i rest) (drop_more all n 0 less) (old.1 among)) [
       | inl e ↦ absurd (one.1 (e ∙ sym is))
       | inr more ↦ more
     ])
@@ -93,12 +93,12 @@ pub faced-begins : (acting : List (List ℕ)) (all : List ℕ) (asleep : List Bo
 faced-begins acting all asleep i h = (h, λ c among acts. among)
 
 pub faced-more : (acting : List (List ℕ)) (all : List ℕ) (n x : ℕ) (woken : List ℕ) (before between after : List Bool) → n < length all
-    → x ≡ get_or all n x → woken ≡ list_at acting x → KeptOn acting all (drop n all) before between
+    → x ≡ get_or all n 0 → woken ≡ list_at acting x → KeptOn acting all (drop n all) before between
     → SleepButThese woken between after → KeptOn acting all (drop (n + 1) all) before after
 faced-more acting all n x woken before between after less is on kept but i h =
     let one : IsAsleep between i × (In i woken → ⊥) = but i h in
     let old = kept i one.0 in
-    (old.0, λ c among acts. elim (subst (λ (rest : List ℕ). In c rest) (drop_more all n x less) (old.1 c among acts)) [
+    (old.0, λ c among acts. elim (subst (λ (rest : List ℕ). In c rest) (drop_more all n 0 less) (old.1 c among acts)) [
       | inl e ↦ absurd (one.1 (subst (λ (is : List ℕ). In i is) (sym on) (subst (λ (d : ℕ). ActsOn acting d i) (e ∙ sym is) acts)))
       | inr more ↦ more
     ])
@@ -118,7 +118,7 @@ wakes-at system ends a j before between after is one faced i h =
     let sooner = one i later.0 in
     (sooner.0, λ b among. elim among [
       | inl same ↦ (j, ap (branch_at system) same ∙ is, sooner.1, later.1)
-      | inr no ↦ absurd no
+      | inr bad ↦ absurd bad
     ])
 
 pub all-woken : (system : System) (ends : Ends) (reached : List Place) (before after : List Bool) → NoneSleeps after

@@ -1,4 +1,4 @@
-use Rattle.std.proofs.Common.{◌<◌, ◌≤◌, length, arith}
+use Rattle.std.proofs.Common.{◌<◌, ◌≤◌, length, arith, refl}
 use Rattle.shell_desk.proofs.SleepLemmas.{each-begins, each-ends, each-more}
 use Rattle.shell_desk.proofs.sleepers.Sleepers.wake_each.Goals as goal
 
@@ -8,8 +8,8 @@ loop-branch-init c = each-begins c.args.branches.now c.args.self.now.asleep.item
 pub loop-branch-preserved : goal.loop-branch-preserved
 loop-branch-preserved c =
     let less : c.loop-branch.branch-index < length c.args.branches.now = omega arith in
-    each-more c.args.branches.now c.loop-branch.branch-index c.branch-item.result c.args.self.now.asleep.items
-    c.loop-branch.self.asleep.items c.wake.new.self.asleep.items less c.branch-item.is c.loop-branch.invariant c.wake.ensures
+    each-more c.args.branches.now c.loop-branch.branch-index _ c.args.self.now.asleep.items
+    c.loop-branch.self.asleep.items c.wake.new.self.asleep.items less refl c.loop-branch.invariant c.wake.ensures
 
 pub returns : goal.returns
 returns c =

@@ -9,4 +9,4 @@ abbrev pub invariant-loop-channel : goal.invariant-loop-channel
 invariant-loop-channel l =
     (i : ℕ) → IsAsleep l.self.asleep.items i
     → IsAsleep l.initial.self.asleep.items i
-    × ((c : ℕ) → In c l.offered_by → ActsOn l.ends.used.acting.items c i → In c (drop l.channel-index l.offered_by))
+    × ((c : ℕ) → In c l.channel-items → ActsOn l.ends.used.acting.items c i → In c (drop l.channel-index l.channel-items))
