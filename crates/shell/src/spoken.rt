@@ -99,12 +99,17 @@ impl Session {
     {
         match self.bench.numbered(setting.alloc, number) {
             Ok(Some(command)) => self.answer_command(setting, &command),
-            Ok(None) => {
-                let words = unknown_text(&self.scene(setting), &Deed::Take(number));
-                spoken(setting.alloc, Outcome::Done, words)
-            }
+            Ok(None) => self.answer_no_step(setting, number),
             Err(_) => unread(setting.alloc),
         }
+    }
+
+    /// Tells that no step has the number.
+    fn answer_no_step(&self, setting: &Setting<'_>, number: u64) -> Answer
+        ensures { result.outcome ≡ outcomes.Done }
+    {
+        let words = unknown_text(&self.scene(setting), &Deed::Take(number));
+        spoken(setting.alloc, Outcome::Done, words)
     }
 
     /// Answers a line that begins with a word, if that is one.

@@ -1,6 +1,6 @@
 -- What the parts of a line ask, as the code reads them.
 -- No reader has to believe it: `proofs/LeavesLemmas.antt` ties it to `Asking.antt`.
-use Rattle.std.specs.Prelude.{ℕ, ◌≡◌, ◌≢◌, ◌⊎◌, List, [], Bool, true, false, Some}
+use Rattle.std.specs.Prelude.{ℕ, ◌≡◌, ◌≢◌, ◌⊎◌, List, [], ◌∷◌, Bool, true, false, Some}
 use Rattle.machine.specs.AtMachine.{AtMachine}
 use Rattle.line_text.specs.Fields.{CutAtSpace}
 use Rattle.debug_session.specs.declared.fault.Fault.{Fault}

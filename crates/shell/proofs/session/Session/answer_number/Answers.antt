@@ -14,9 +14,9 @@ returns-in-Ok-Some-clause-own c =
 
 pub returns-in-Ok-None-clause-done : goal.returns-in-Ok-None-clause-done
 returns-in-Ok-None-clause-done c =
-    takes-none c.args.self.now.bench c.args.number c.spoken.result.outcome c.spoken.ensures.outcome c.in-Ok-None.ensures
+    takes-none c.args.self.now.bench c.args.number c.answer_no_step.result.outcome c.answer_no_step.ensures c.in-Ok-None.ensures
 
 pub returns-in-Ok-None-clause-own : goal.returns-in-Ok-None-clause-own
 returns-in-Ok-None-clause-own c =
     none-owns (λ v. v.items) c.args.setting.now.texts.source.now c.args.self.now.bench c.args.self.now.bench
-    c.args.number c.spoken.result.own c.in-Ok-None.ensures
+    c.args.number c.answer_no_step.result.own c.in-Ok-None.ensures
