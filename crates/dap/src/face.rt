@@ -2,10 +2,8 @@
 ghost use Rattle.std.specs.Prelude.{◌≡◌, ◌⊎◌, None, Some, true, false};
 ghost use Rattle.dap_messages.specs.Notes.{IsRefusal};
 ghost use Rattle.dap_messages.specs.declared.kind.Kind.{Kind as Asks};
-ghost use Rattle.dap_requests.specs.Said.{Runs};
 ghost use Rattle.dap_server.specs.Kinds.{moves};
-ghost use Rattle.dap.specs.Goes.{Comes, DeskGoes, Goes, IsSound};
-ghost use Rattle.dap.specs.Launching.{Stands};
+ghost use Rattle.dap.specs.Goes.{Comes, Goes, IsSound, LaunchedGoes, Restarts};
 ghost use Rattle.dap.specs.declared.launch.Launched.{Launched as Started};
 
 use crate::dispatch::perform;
@@ -68,8 +66,7 @@ impl Face {
 
     /// Answers a request in this answer.
     fn hear<F: Sources>(&mut self, files: &F, request: &Request, answer: &mut Answer)
-        ensures goes { Goes self.old.launched request.now self.new.launched }
-        ensures stops { moves request.now.kind ≡ true → Runs answer.old answer.new }
+        ensures goes { Goes self.old.launched request.now answer.old answer.new self.new.launched }
         ensures early { self.old.launched ≡ None → moves request.now.kind ≡ true
             → IsRefusal answer.new.outcome × (answer.new.notes ≡ answer.old.notes) × (self.new ≡ self.old) }
     {
@@ -81,16 +78,15 @@ impl Face {
     }
 
     /// Answers a request that asks a thread to move, or to stand.
-    #[tactic(auto, using(crate::proofs::Going::launched_goes, dap_requests::proofs::public::Saying::run_ends))]
+    #[tactic(auto, using(crate::proofs::Going::launched_goes))]
     fn make_move(&mut self, request: &Request, answer: &mut Answer)
-        ensures goes { Goes self.old.launched request.now self.new.launched }
-        ensures stops { moves request.now.kind ≡ true → Runs answer.old answer.new }
+        ensures goes { Goes self.old.launched request.now answer.old answer.new self.new.launched }
         ensures early { self.old.launched ≡ None
             → IsRefusal answer.new.outcome × (answer.new.notes ≡ answer.old.notes) × (self.new ≡ self.old) }
     {
         let alloc = self.alloc;
         match &mut self.launched {
-            Some(launched) => perform_on(alloc, launched, request, answer),
+            Some(launched) => perform(alloc, launched, request, answer),
             None => self.refuse_early(answer),
         }
     }
@@ -108,7 +104,7 @@ impl Face {
     /// Answers another request.
     fn serve<F: Sources>(&mut self, files: &F, request: &Request, answer: &mut Answer)
         requires { moves request.now.kind ≡ false }
-        ensures { Goes self.old.launched request.now self.new.launched }
+        ensures { Goes self.old.launched request.now answer.old answer.new self.new.launched }
     {
         match self.client {
             Some(counting) => self.serve_client(files, counting, request, answer),
@@ -126,7 +122,7 @@ impl Face {
         answer: &mut Answer,
     )
         requires { moves request.now.kind ≡ false }
-        ensures { Goes self.old.launched request.now self.new.launched }
+        ensures { Goes self.old.launched request.now answer.old answer.new self.new.launched }
     {
         match request.kind {
             Kind::Initialize => self.initialize(request, answer),
@@ -140,7 +136,7 @@ impl Face {
     #[tactic(auto, using(crate::proofs::Going::launched_goes))]
     fn meet(&mut self, request: &Request, answer: &mut Answer)
         requires { moves request.now.kind ≡ false }
-        ensures { Goes self.old.launched request.now self.new.launched }
+        ensures { Goes self.old.launched request.now answer.old answer.new self.new.launched }
     {
         match request.kind {
             Kind::Initialize => self.initialize(request, answer),
@@ -184,7 +180,7 @@ impl Face {
     )
         requires launches { request.now.kind ≡ Asks.Launch }
         requires stands { moves request.now.kind ≡ false }
-        ensures { Goes self.old.launched request.now self.new.launched }
+        ensures { Goes self.old.launched request.now answer.old answer.new self.new.launched }
     {
         match &self.launched {
             Some(_) => answer.refuse(107, "a program is launched already"),
@@ -203,7 +199,7 @@ impl Face {
     )
         requires launches { request.now.kind ≡ Asks.Launch }
         requires none { self.old.launched ≡ None }
-        ensures { Goes self.old.launched request.now self.new.launched }
+        ensures { Goes self.old.launched request.now answer.old answer.new self.new.launched }
     {
         match start(self.alloc, files, counting, request.arguments(), answer) {
             Some(found) => self.keep(found, answer),
@@ -224,7 +220,7 @@ impl Face {
     #[tactic(auto, using(crate::proofs::Going::launched_goes))]
     fn ask<F: Sources>(&mut self, files: &F, request: &Request, answer: &mut Answer)
         requires { moves request.now.kind ≡ false }
-        ensures { Goes self.old.launched request.now self.new.launched }
+        ensures { Goes self.old.launched request.now answer.old answer.new self.new.launched }
     {
         let alloc = self.alloc;
         match &mut self.launched {
@@ -261,29 +257,13 @@ fn ask_of<F: Sources>(
     request: &Request,
     answer: &mut Answer,
 )
-    ensures { ((request.now.kind ≡ Asks.Restart) × Stands launched.new.desk)
-        ⊎ DeskGoes launched.old.program.ended launched.old.program.stops.items launched.old.desk request.now
-        launched.new.desk }
+    ensures { ((request.now.kind ≡ Asks.Restart) × Restarts launched.old answer.new launched.new)
+        ⊎ LaunchedGoes launched.old request.now answer.old answer.new launched.new }
 {
     match request.kind {
         Kind::Restart => restart(alloc, files, launched, request, answer),
-        _ => perform_on(alloc, launched, request, answer),
+        _ => perform(alloc, launched, request, answer),
     }
-}
-
-/// Answers a request of which the desk is asked nothing but what commands of sessions may ask.
-fn perform_on(alloc: Global, launched: &mut Launched, request: &Request, answer: &mut Answer)
-    ensures goes { DeskGoes launched.old.program.ended launched.old.program.stops.items launched.old.desk request.now
-        launched.new.desk }
-    ensures stops { moves request.now.kind ≡ true → Runs answer.old answer.new }
-{
-    perform(
-        alloc,
-        &mut launched.desk,
-        &mut launched.program,
-        request,
-        answer,
-    );
 }
 
 /// Answers before something is launched what needs nothing of a session.

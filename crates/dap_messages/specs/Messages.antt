@@ -13,7 +13,7 @@ use Rattle.dap_messages.specs.declared.told.Told.{Told}
 abbrev pub event_name : Told → List ℕ
 event_name Told.Initialized = codes "initialized"
 event_name Told.Output = codes "output"
-event_name Told.Stopped = codes "stopped"
+event_name (Told.Stopped stop) = codes "stopped"
 event_name Told.Exited = codes "exited"
 event_name Told.Terminated = codes "terminated"
 event_name Told.Breakpoint = codes "breakpoint"

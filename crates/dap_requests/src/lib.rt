@@ -9,6 +9,7 @@ mod hints;
 mod moves;
 mod said;
 mod still;
+mod typed;
 mod watches;
 
 pub use breakpoints::{
@@ -20,4 +21,5 @@ pub use completion::completions;
 pub use console::evaluate;
 pub use moves::{back_in, go_in, reverse, reverse_in, run, run_free, step_in};
 pub use said::{stop, tell};
+pub use typed::is_typed;
 pub use watches::{data_info, set_data, set_data_before};

@@ -1,0 +1,13 @@
+use Rattle.std.proofs.Common.{sym, ◌∙◌}
+use Rattle.dap.proofs.Going.{look_goes, moves_goes}
+use Rattle.dap.proofs.dispatch.change.Goals as goal
+
+pub returns-then-is_move : goal.returns-then-is_move
+returns-then-is_move c =
+    moves_goes c.args.launched.now c.args.request.now c.args.answer.now c.make_move.new.answer c.make_move.new.desk c.make_move.new.memo
+    (sym c.is_move.ensures ∙ c.if-is_move.true) c.requires c.make_move.ensures.led c.make_move.ensures.goes c.make_move.ensures.keeps
+
+pub returns-else-is_asked : goal.returns-else-is_asked
+returns-else-is_asked c =
+    look_goes c.args.launched.now c.args.request.now c.args.answer.now c.look.new.answer c.look.new.program
+    (sym c.is_move.ensures ∙ c.if-is_move.false) (sym c.is_asked.ensures ∙ c.if-is_asked.false) c.look.ensures

@@ -1,0 +1,45 @@
+// Whether an expression was typed as a line, or is only looked at.
+ghost use Rattle.std.specs.Prelude.{◌≡◌};
+ghost use Rattle.std.specs.Option.{option_map};
+ghost use Rattle.dap_requests.specs.Typed as model;
+
+use dap_messages::Request;
+
+/// Whether the expression was typed as a line: in the console, or behind a `!`.
+pub fn is_typed(request: &Request) -> bool
+    ensures { result ≡ model.is_typed request.now }
+{
+    is_console(request.text("context")) || is_marked(request.text("expression"))
+}
+
+/// Whether this is the console.
+fn is_console(context: Option<&str>) -> bool
+    ensures { result ≡ model.is_console (option_map (λ s. s.now) context) }
+{
+    match context {
+        Some(word) => word.as_bytes() == b"repl".as_slice(),
+        None => false,
+    }
+}
+
+/// Whether a mark stands before the expression.
+fn is_marked(expression: Option<&str>) -> bool
+    ensures { result ≡ model.is_marked (option_map (λ s. s.now) expression) }
+{
+    match expression {
+        Some(text) => begins_marked(text.as_bytes()),
+        None => false,
+    }
+}
+
+/// Whether the first byte that is not blank is the mark.
+fn begins_marked(text: &[u8]) -> bool
+    ensures { result ≡ model.begins_marked text.now }
+{
+    for byte in text {
+        if !byte.is_ascii_whitespace() {
+            return *byte == b'!';
+        }
+    }
+    false
+}
