@@ -1,5 +1,5 @@
 -- How a run ends that begins with an empty answer.
-use Rattle.std.proofs.Common.{◌≡◌, ◌⊎◌, List, [], ◌∷◌, ◌++◌, inl, inr, ◌∙◌, ap, sym, refl, append_assoc, Option, None, Some, true, false}
+use Rattle.std.proofs.Common.{◌≡◌, ◌⊎◌, ◌||◌, Bool, List, [], ◌∷◌, ◌++◌, inl, inr, ◌∙◌, ap, sym, refl, append_assoc, Option, None, Some, true, false}
 use Rattle.locked_execution.specs.AtDesk.{AtDesk}
 use Rattle.dap_messages.specs.Notes.{IsDone, IsRefusal, told_by}
 use Rattle.dap_messages.specs.declared.answer.Answer.{Answer}
@@ -12,8 +12,10 @@ use Rattle.dap_requests.specs.Said.{Runs}
 use Rattle.dap_server.specs.Kinds.{moves}
 use Rattle.dap.specs.Begins.{Begins}
 use Rattle.dap.specs.Goes.{Goes}
+use Rattle.dap.specs.Kinds.{ends}
 use Rattle.dap.specs.Steps.{Steps}
 use Rattle.dap.specs.Stops.{BeginsOnce, StopsOnce}
+use Rattle.dap.specs.declared.face.Face.{Face}
 use Rattle.dap.specs.declared.launch.Launched.{Launched}
 
 pub stops_once : (a b : Answer) (d d' : AtDesk) (goes : Stop → Type 0) → a.notes.items ≡ [] → IsDone a.outcome → Runs a b d d' goes → StopsOnce b
@@ -72,3 +74,17 @@ moves_stop (Some l) (Some m) request a b empty done is goes early = elim goes [
       stops_once a b l.desk m.desk
       (λ (stop : Stop). Steps l.program l.memo.seen.items m.memo.seen.items l.desk request.kind request stop m.desk) empty done (on.moved is)
 ]
+
+-- a request to move does not end the session
+no-end : (kind : Kind) → moves kind ≡ true → ends kind ≡ false
+no-end Kind.Disconnect is = absurd (cc)
+no-end _ is = refl
+
+or-not : (a b : Bool) → b ≡ false → (a || b) ≡ a
+or-not true b none = refl
+or-not false b none = none
+
+pub stays_over : (x h : Face) (over : Bool) (kind : Kind) → h ≡ x → over ≡ (x.over || ends kind) → moves kind ≡ true → record h { over = over } ≡ x
+stays_over x h over kind same is moving =
+    let stays : over ≡ x.over = is ∙ or-not x.over (ends kind) (no-end kind moving) in
+    λ i. record (same i) { over = stays i }

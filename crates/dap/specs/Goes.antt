@@ -1,5 +1,5 @@
 -- What a request does to what is launched.
-use Rattle.std.specs.Prelude.{◌≡◌, ◌⊎◌, false, true, Option, None, Some, []}
+use Rattle.std.specs.Prelude.{◌≡◌, ◌⊎◌, ◌||◌, false, true, Option, None, Some, []}
 use Rattle.machine.specs.Headline.{Headline}
 use Rattle.locked_execution.specs.AtDesk.{execution}
 use Rattle.dap_messages.specs.Notes.{IsDone, IsRefusal}
@@ -12,7 +12,7 @@ use Rattle.dap_requests.specs.Typed.{KeepsSome, is_typed}
 use Rattle.dap_server.specs.Kinds.{moves}
 use Rattle.dap_views.specs.Kept.{unseen}
 use Rattle.dap.specs.Begins.{Begins}
-use Rattle.dap.specs.Kinds.{changes}
+use Rattle.dap.specs.Kinds.{changes, ends}
 use Rattle.dap.specs.Launching.{IsBegun, Stands}
 use Rattle.dap.specs.Sets.{Sets}
 use Rattle.dap.specs.Steps.{Steps}
@@ -69,3 +69,4 @@ pub record Comes (x : Face) (request : Request) (answer : Answer) (y : Face) : T
   pub sound : IsSound y.launched
   pub stops : moves request.kind ≡ true → StopsOnce answer
   pub early : RefusedEarly x request answer y
+  pub over : y.over ≡ (x.over || ends request.kind)

@@ -38,8 +38,9 @@ GoesOn program before after d request None stop d' = ⊥
 GoesOn program before after d request (Some k) stop d' =
     RunsBy (going_of program (only_of request k)) (Some k) d before stop d' after
 
--- a request that is not refused acts on the branch of its thread, and how that went is told. `before` are the steps
--- before which a run has stood, and `after` those that are kept in mind
+-- what a request does that is not refused, and how that went is told: a step forth or back is one of the branch of its
+-- thread, and a run begins there. `before` are the steps before which a run has stood, and `after` those that are kept
+-- in mind
 abbrev pub Steps : Program → List Choice → List Choice → AtDesk → Kind → Request → Stop → AtDesk → Type 0
 Steps program before after d Kind.StepBack request stop d' = Backward d (thread_of d request) stop d'
 Steps program before after d Kind.Next request stop d' = Forward d request (thread_of d request) stop d'

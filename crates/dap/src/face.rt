@@ -1,9 +1,10 @@
 // A session: who the client is, and what is launched.
-ghost use Rattle.std.specs.Prelude.{◌≡◌, ◌⊎◌, None, Some, true, false};
+ghost use Rattle.std.specs.Prelude.{◌≡◌, ◌⊎◌, ◌||◌, None, Some, true, false};
 ghost use Rattle.dap_messages.specs.Notes.{IsRefusal};
 ghost use Rattle.dap_messages.specs.declared.kind.Kind.{Kind as Asks};
 ghost use Rattle.dap_server.specs.Kinds.{moves};
 ghost use Rattle.dap.specs.Goes.{Comes, Goes, IsSound, LaunchedGoes, Restarts};
+ghost use Rattle.dap.specs.Kinds.{ends};
 ghost use Rattle.dap.specs.declared.launch.Launched.{Launched as Started};
 
 use crate::dispatch::perform;
@@ -32,7 +33,8 @@ pub struct Face {
 impl Face {
     /// A session of which nothing is known yet.
     pub fn new(alloc: Global) -> Face
-        ensures { result.launched ≡ None }
+        ensures launched { result.launched ≡ None }
+        ensures over { result.over ≡ false }
     {
         Face {
             alloc,
@@ -47,10 +49,19 @@ impl Face {
     pub fn respond<F: Sources>(&mut self, files: &F, request: &Request) -> Answer
         ensures { Comes self.old request.now result self.new }
     {
+        let over = self.is_over_behind(request.kind);
         let mut answer = Answer::new(self.alloc);
         self.hear(files, request, &mut answer);
+        self.over = over;
         self.is_sound();
         answer
+    }
+
+    /// Whether the client has ended the session behind a request of this kind.
+    fn is_over_behind(&self, kind: Kind) -> bool
+        ensures { result ≡ (self.now.over || ends kind) }
+    {
+        self.over || kind == Kind::Disconnect
     }
 
     /// What holds of what is launched at every moment: nothing is done, the contract says it.
@@ -126,7 +137,7 @@ impl Face {
     {
         match request.kind {
             Kind::Initialize => self.initialize(request, answer),
-            Kind::Disconnect => self.finish(answer),
+            Kind::Disconnect => answer.did(),
             Kind::Launch => self.launch(files, counting, request, answer),
             _ => self.ask(files, request, answer),
         }
@@ -140,17 +151,9 @@ impl Face {
     {
         match request.kind {
             Kind::Initialize => self.initialize(request, answer),
-            Kind::Disconnect => self.finish(answer),
+            Kind::Disconnect => answer.did(),
             _ => self.refuse_early(answer),
         }
-    }
-
-    /// Answers `disconnect`.
-    fn finish(&mut self, answer: &mut Answer)
-        ensures { self.new.launched ≡ self.old.launched }
-    {
-        self.over = true;
-        answer.did();
     }
 
     /// Answers `initialize`.

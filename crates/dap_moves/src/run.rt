@@ -117,7 +117,8 @@ fn go_on_from(
 /// Why a run ends that took as many steps as there may be: no step is ready, or that is why.
 fn after_most(desk: &mut Desk, plan: &Plan<'_>, turn: u32) -> Ended
     ensures same { desk.new ≡ desk.old }
-    ensures ends { ((result ≡ ends.Ended.Nothing) × NothingGoes desk.old plan.now.only) ⊎ (result ≡ ends.Ended.Most turn) }
+    ensures ends { ((result ≡ ends.Ended.Nothing) × NothingGoes desk.old plan.now.only)
+        ⊎ (result ≡ ends.Ended.Most turn) }
 {
     if is_stuck(desk, plan) {
         Ended::Nothing

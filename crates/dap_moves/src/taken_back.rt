@@ -1,5 +1,5 @@
 // Runs back: the newest steps go, one by one, until something stops them.
-ghost use Rattle.std.specs.Prelude.{◌≡◌, List, [], IfSome, MatchOption, None, Some};
+ghost use Rattle.std.specs.Prelude.{◌≡◌, ◌+◌, List, [], IfSome, MatchOption, None, Some};
 ghost use Rattle.runs.specs.declared.event.Choice.{Choice as Kept};
 ghost use Rattle.locked_execution.specs.declared.command.Reply as replied;
 ghost use Rattle.dap_moves.specs.Led.{Led};
@@ -82,11 +82,18 @@ fn last_ticket(desk: &Desk) -> Option<u64>
     ensures { IfSome result (λ ticket. IsLast desk.now ticket) }
 {
     let live = desk.machine().live_events();
-    let last = live.len().checked_sub(1)?;
+    let last = index_of_last(live.len())?;
     match live.pair_at(last as u64) {
         Some((ticket, _)) => Some(ticket),
         None => None,
     }
+}
+
+/// The index of the last of so many.
+fn index_of_last(count: usize) -> Option<usize>
+    ensures { IfSome result (λ last. last + 1 ≡ count) }
+{
+    count.checked_sub(1)
 }
 
 /// Takes the newest live step back in which the branch took part, with all that depend on it, again and again;
@@ -152,7 +159,8 @@ fn roll_newest(
 
 /// What came of the rollback of the step at this index, behind which a run back ends for this reason, if it does.
 fn outcome_of(stop: Option<Rewound>, index: usize) -> Rolled
-    ensures { (kept : List Kept) → MatchOption stop (kept ≡ []) (λ ended. KeepsBack ended kept) → RolledKeeps result kept }
+    ensures { (kept : List Kept) → MatchOption stop (kept ≡ []) (λ ended. KeepsBack ended kept)
+        → RolledKeeps result kept }
 {
     match stop {
         Some(ended) => Rolled::Ended(ended),

@@ -40,8 +40,8 @@ StepsForth d k number stop d' =
     × Takes d (slice_get (targets d.machine.checked k es) number) stop d')
     ⊎ ((stop ≡ Stop.Refused 1) × (d' ≡ d))
 
--- which step a request of this kind asks for, from 0, where this one is named, from 1: `stepIn` may name any, the others
--- ask for the first
+-- which step a request of this kind asks for, from 0, where this one is named, from 1: `stepIn` may name any, the
+-- others ask for the first
 abbrev pub target_of : Kind → Option ℕ → ℕ
 target_of Kind.StepIn (Some named) = named - 1
 target_of _ _ = 0
@@ -95,8 +95,8 @@ pub record IsPlanned (going : Going) (plan : Plan) : Type 0 where
   pub most : plan.most ≡ going.most
   pub only : plan.only ≡ going.only
 
--- a run goes on from d, where branch k stands, to d', and how it ended is told. It passes no line but at its first step,
--- where it has stood before that: `before` are the steps that were kept in mind, `after` those that are
+-- a run goes on from d, where branch k stands, to d', and how it ended is told. It passes no line but at its first
+-- step, where it has stood before that: `before` are the steps that were kept in mind, `after` those that are
 pub record RunsBy (going : Going) (k : Option ℕ) (d : AtDesk) (before : List Choice) (stop : Stop) (d' : AtDesk)
     (after : List Choice) : Type 0 where
   pub plan : Plan

@@ -1,5 +1,5 @@
 use Rattle.std.proofs.Common.{ap, ◌∙◌}
-use Rattle.dap.proofs.Stopping.{moves_stop}
+use Rattle.dap.proofs.Stopping.{moves_stop, stays_over}
 use Rattle.dap.proofs.face.Face.respond.Goals as goal
 
 pub returns : goal.returns
@@ -13,5 +13,10 @@ returns g c = record {
       c.new-answer.ensures.notes c.new-answer.ensures.done is c.hear.ensures.goes
       (λ none. let early = c.hear.ensures.early none is in (early.0, early.1));
   early = λ none is. let early = c.hear.ensures.early none is in
-      (early.0, ap (λ notes. notes.items) early.1 ∙ c.new-answer.ensures.notes, early.2);
+      (
+        early.0,
+        ap (λ notes. notes.items) early.1 ∙ c.new-answer.ensures.notes,
+        stays_over c.args.self.now c.hear.new.self c.is_over_behind-over.result c.args.request.now.kind early.2 c.is_over_behind-over.ensures is,
+      );
+  over = c.is_over_behind-over.ensures;
 }
