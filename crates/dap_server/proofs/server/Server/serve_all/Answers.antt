@@ -1,4 +1,4 @@
-use Rattle.std.proofs.Common.{◌≡◌, ◌⊎◌, Bool, false, true, refl}
+use Rattle.std.proofs.Common.{◌≡◌, ◌⊎◌, Bool, false, true}
 use Rattle.std.specs.Io.KnownBytes.{IsAtEnd}
 use Rattle.std.proofs.lemmas.Result.{IfOk-at_ok}
 use Rattle.dap_server.specs.Session.{Serves}
@@ -33,4 +33,4 @@ returns-in-Ok-false-clause-ends g c =
     IfOk-at_ok
     (λ (more : Bool). more ≡ false
     → (g.A.Adapter.over c.serve_next.new.adapter ≡ true) ⊎ IsAtEnd (g.R.Read.remaining c.serve_next.new.reader))
-    c.in-Ok-false.is c.serve_next.ensures.ends ?
+    c.in-Ok-false.is c.serve_next.ensures.ends c.in-Ok-false.field-0-test

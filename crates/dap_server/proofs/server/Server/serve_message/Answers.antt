@@ -1,4 +1,4 @@
-use Rattle.std.proofs.Common.{inl, inr}
+use Rattle.std.proofs.Common.{inl}
 use Rattle.std.proofs.lemmas.Result.{IfOk-weaker}
 use Rattle.dap_server.proofs.Sessions.{goes_on, serves_nothing, serves_other}
 use Rattle.dap_server.proofs.server.Server.serve_message.Goals as goal
