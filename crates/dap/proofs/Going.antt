@@ -1,7 +1,8 @@
 -- What a session keeps.
-use Rattle.std.proofs.Common.{ℕ, codes, ◌≡◌, ◌⊎◌, ◌||◌, List, Bool, true, false, Option, None, Some, inl, inr, refl, sym, ◌∙◌, ap, subst}
+use Rattle.std.proofs.Common.{ℕ, codes, ◌≡◌, ◌⊎◌, ◌||◌, ◌&&◌, List, Bool, true, false, Option, None, Some, inl, inr, refl, sym, ◌∙◌, ap, subst}
 use Rattle.serde_json.specs.View.{view}
 use Rattle.system_places.specs.SystemBranches.{branch_count}
+use Rattle.runs.specs.Choices.{choice_of}
 use Rattle.runs.specs.declared.event.Choice.{Choice}
 use Rattle.machine.specs.AtMachine.{AtMachine}
 use Rattle.machine.specs.Headline.{Headline}
@@ -9,13 +10,17 @@ use Rattle.locked_execution.specs.AtDesk.{AtDesk, execution}
 use Rattle.dap_messages.specs.Arguments.{number_named}
 use Rattle.dap_messages.specs.Notes.{IsDone, IsRefusal}
 use Rattle.dap_messages.specs.declared.answer.Answer.{Answer}
+use Rattle.dap_messages.specs.declared.answer.Effect.{Effect}
 use Rattle.dap_messages.specs.declared.kind.Kind.{Kind}
 use Rattle.dap_messages.specs.declared.request.Request.{Request}
 use Rattle.dap_messages.specs.declared.told.Stop.{Stop}
+use Rattle.dap_messages.specs.declared.told.Told.{Told}
 use Rattle.dap_moves.specs.Led.{Led}
+use Rattle.dap_moves.specs.Running.{KeepsChoice}
+use Rattle.dap_moves.specs.declared.run.Ended.{Ended}
 use Rattle.dap_moves.proofs.public.Leading.{led_nowhere}
-use Rattle.dap_requests.specs.Back.{Remembers}
-use Rattle.dap_requests.specs.Said.{Runs}
+use Rattle.dap_requests.specs.Forth.{Going, RunsBy, stop_at}
+use Rattle.dap_requests.specs.Said.{Runs, TellsStop}
 use Rattle.dap_requests.specs.Typed.{KeepsSome, is_typed}
 use Rattle.dap_requests.proofs.public.Saying.{runs_after, runs_weaker}
 use Rattle.dap_server.specs.Kinds.{moves}
@@ -75,11 +80,21 @@ pauses a b d h =
 pub keeps_same : (b : Answer) (before : List Choice) → KeepsSome b before before
 keeps_same b before = inr (inl refl)
 
-pub keeps_of : (d d' : AtDesk) (b : Answer) (before after : List Choice) → Remembers d d' b before after → KeepsSome b before after
-keeps_of d d' b before after h = elim h [
+-- behind a run
+keeps-ended : (lines : List ℕ) (d : AtDesk) (b : Answer) (before after : List Choice) (stop : Stop) (ended : Ended) →
+    b.effect ≡ Effect.Due (Told.Stopped stop) → stop ≡ stop_at ended → KeepsChoice lines d ended after → KeepsSome b before after
+keeps-ended lines d b before after stop (Ended.AtLine branch line) effect told keeps = elim keeps [
   | inl none ↦ inl none
-  | inr more ↦ elim more [ inl same ↦ inr (inl same.0) | inr one ↦ inr (inr one) ]
+  | inr one ↦ inr (inr (effect ∙ ap (λ (s : Stop). Effect.Due (Told.Stopped s)) told, (choice_of one.0, one.1)))
 ]
+keeps-ended lines d b before after stop Ended.Nothing effect told keeps = inl keeps
+keeps-ended lines d b before after stop (Ended.Watched branch ticket) effect told keeps = inl keeps
+keeps-ended lines d b before after stop (Ended.Most branch) effect told keeps = inl keeps
+keeps-ended lines d b before after stop (Ended.Refused branch why) effect told keeps = inl keeps
+
+pub keeps_run : (going : Going) (k : Option ℕ) (d d' : AtDesk) (before after : List Choice) (a b : Answer) →
+    (stop : Stop) × TellsStop a stop b × RunsBy going k d before stop d' after → KeepsSome b before after
+keeps_run going k d d' before after a b h = keeps-ended going.lines d' b before after h.0 h.2.ended h.1.effect h.2.told h.2.keeps
 
 -- a request to move sets nothing
 sets-moving : (kind : Kind) (p : Program) → moves kind ≡ true → Sets kind p p
@@ -90,8 +105,8 @@ sets-moving Kind.Terminate p is = absurd (cc)
 sets-moving Kind.ConfigurationDone p is = absurd (cc)
 sets-moving _ p is = refl
 
-ends-same : (p : Program) → EndsFree p p
-ends-same p = record { same = refl; debugged = λ free. refl }
+pub ends_same : (p : Program) → EndsFree p p
+ends_same p = record { same = refl; debugged = λ free. refl }
 
 -- nor does one that asks, where it is not done
 sets-asking : (kind : Kind) (p : Program) → asks kind ≡ true → Sets kind p p
@@ -99,8 +114,49 @@ sets-asking Kind.SetBreakpoints p is = absurd (cc)
 sets-asking Kind.SetDataBreakpoints p is = absurd (cc)
 sets-asking Kind.SetExceptionBreakpoints p is = absurd (cc)
 sets-asking Kind.Terminate p is = absurd (cc)
-sets-asking Kind.ConfigurationDone p is = ends-same p
+sets-asking Kind.ConfigurationDone p is = ends_same p
 sets-asking _ p is = refl
+
+-- where nobody debugs it, it is over
+pub ends_free : (p : Program) → p.launch.free ≡ true → EndsFree p (record p { begun = true; ended = true })
+ends_free p free = record { same = refl; debugged = λ not. let no : true ≡ false = sym free ∙ not in absurd (cc) }
+
+pub begins_only : (p : Program) → EndsFree p (record p { begun = true })
+begins_only p = record { same = refl; debugged = λ not. refl }
+
+-- what only shows sets nothing
+pub sets_none : (kind : Kind) (p : Program) → (kind ≡ Kind.SetBreakpoints → ⊥) → (kind ≡ Kind.SetDataBreakpoints → ⊥) →
+    (kind ≡ Kind.SetExceptionBreakpoints → ⊥) → (kind ≡ Kind.Terminate → ⊥) → Sets kind p p
+sets_none Kind.SetBreakpoints p one two three four = absurd (one refl)
+sets_none Kind.SetDataBreakpoints p one two three four = absurd (two refl)
+sets_none Kind.SetExceptionBreakpoints p one two three four = absurd (three refl)
+sets_none Kind.Terminate p one two three four = absurd (four refl)
+sets_none Kind.ConfigurationDone p one two three four = ends_same p
+sets_none _ p one two three four = refl
+
+-- a request of a known kind sets what that does
+pub sets_as : (kind known : Kind) (p q : Program) → kind ≡ known → Sets known p q → Sets kind p q
+sets_as kind known p q is h = subst (λ (k : Kind). Sets k p q) (sym is) h
+
+-- what is held back where it is over
+pub held_is : (over moving asking : Bool) → (over && (moving || asking)) ≡ true → (moving ≡ true) ⊎ (asking ≡ true)
+held_is true true asking h = inl refl
+held_is true false asking h = inr h
+held_is false moving asking h = absurd (cc)
+
+pub not_held : (over moving asking : Bool) → (over && (moving || asking)) ≡ false → over ≡ true → (moving ≡ false) × (asking ≡ false)
+not_held true true asking h is = absurd (cc)
+not_held true false asking h is = (refl, h)
+not_held false moving asking h is = absurd (cc)
+
+pub running_of : (over moving asking : Bool) → (over ≡ true → (moving ≡ false) × (asking ≡ false)) → asking ≡ true → over ≡ false
+running_of true moving asking h is = let no : true ≡ false = sym is ∙ (h refl).1 in absurd (cc)
+running_of false moving asking h is = refl
+
+pub asks_still : (kind : Kind) → asks kind ≡ true → moves kind ≡ false
+asks_still Kind.ConfigurationDone is = refl
+asks_still Kind.Evaluate is = refl
+asks_still _ is = absurd (cc)
 
 -- what is shown does not matter
 sets-unseen : (kind : Kind) (p q : Program) → Sets kind p q → Sets kind (unseen p) (unseen q)

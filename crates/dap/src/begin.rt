@@ -15,7 +15,7 @@ use dap_views::{Memo, Program};
 use std::alloc::Global;
 
 /// Begins, unless it has begun already.
-#[tactic(auto, using(crate::proofs::Going::led_still))]
+#[tactic(auto, using(crate::proofs::Going::led_still, crate::proofs::Going::ends_same, crate::proofs::Going::keeps_same))]
 pub(crate) fn begin_once(alloc: Global, launched: &mut Launched, answer: &mut Answer)
     ensures led { Led launched.old.desk launched.new.desk }
     ensures begins { (IsRefusal answer.new.outcome × (answer.new.notes ≡ answer.old.notes)
@@ -31,7 +31,7 @@ pub(crate) fn begin_once(alloc: Global, launched: &mut Launched, answer: &mut An
 }
 
 /// Begins, once the client has set what it wants to set: it stops before the first step, or goes on.
-#[tactic(auto, using(crate::proofs::Going::led_still))]
+#[tactic(auto, using(crate::proofs::Going::led_still, crate::proofs::Going::ends_same, crate::proofs::Going::keeps_same))]
 pub(crate) fn begin(alloc: Global, launched: &mut Launched, answer: &mut Answer)
     ensures led { Led launched.old.desk launched.new.desk }
     ensures begins { Begins answer.old answer.new }
@@ -54,7 +54,7 @@ pub(crate) fn begin(alloc: Global, launched: &mut Launched, answer: &mut Answer)
 }
 
 /// Begins a run that is debugged.
-#[tactic(auto, using(crate::proofs::Going::led_still))]
+#[tactic(auto, using(crate::proofs::Going::led_still, crate::proofs::Going::ends_same, crate::proofs::Going::keeps_same))]
 fn begin_stopping(
     alloc: Global,
     desk: &mut Desk,

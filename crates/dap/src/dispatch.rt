@@ -1,5 +1,5 @@
 // What is asked of a program that is launched.
-ghost use Rattle.std.specs.Prelude.{◌≡◌, true, false};
+ghost use Rattle.std.specs.Prelude.{◌≡◌, ◌&&◌, ◌||◌, true, false};
 ghost use Rattle.dap_messages.specs.Notes.{IsRefusal};
 ghost use Rattle.dap_messages.specs.declared.kind.Kind as asked;
 ghost use Rattle.dap_requests.specs.Typed.{is_typed};
@@ -35,10 +35,21 @@ pub(crate) fn perform(
 {
     keep_sight(launched.desk.machine(), &mut launched.program.sight);
     act(alloc, launched, request, answer);
-    if is_move(request.kind) || request.kind == Kind::ConfigurationDone || is_typed(request) {
-        launched.program.sight = None;
+    let moved = may_move(request);
+    renew_sight(launched.desk.machine(), &mut launched.program.sight, moved);
+}
+
+/// Whether the request may move something.
+fn may_move(request: &Request) -> bool {
+    is_move(request.kind) || request.kind == Kind::ConfigurationDone || is_typed(request)
+}
+
+/// Looks at what the state offers anew where something may have moved.
+fn renew_sight(machine: &Machine, sight: &mut Option<Sight>, moved: bool) {
+    if moved {
+        *sight = None;
     }
-    keep_sight(launched.desk.machine(), &mut launched.program.sight);
+    keep_sight(machine, sight);
 }
 
 /// Looks at what the state offers, where that is not known. Without memory it stays unknown.
@@ -59,11 +70,18 @@ fn is_asked(kind: Kind) -> bool
 fn act(alloc: Global, launched: &mut Launched, request: &Request, answer: &mut Answer)
     ensures { LaunchedGoes launched.old request.now answer.old answer.new launched.new }
 {
-    if launched.program.ended && (is_move(request.kind) || is_asked(request.kind)) {
+    if is_held(launched.program.ended, request.kind) {
         refuse_over(answer);
     } else {
         change(alloc, launched, request, answer);
     }
+}
+
+/// Whether a request of this kind is held back where it may be over.
+fn is_held(over: bool, kind: Kind) -> bool
+    ensures { result ≡ (over && (moves kind || asks kind)) }
+{
+    over && (is_move(kind) || is_asked(kind))
 }
 
 /// Refuses what would move something where the client was told that it is over.

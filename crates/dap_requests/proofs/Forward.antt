@@ -1,9 +1,10 @@
 -- Steps forth, and runs.
 use Rattle.std.proofs.Common.{◌≡◌, ◌⊎◌, ◌∙◌, ℕ, ◌-◌, List, [], ◌∷◌, ◌++◌, Option, None, Some, Bool, true, false, inl, inr, ap, subst, refl, sym, codes}
-use Rattle.std.specs.Prelude.{slice_get}
+use Rattle.std.specs.Prelude.{slice_get, unwrap_or}
 use Rattle.serde_json.specs.View.{view}
 use Rattle.syntax.specs.Lists.{Every, In}
 use Rattle.system.specs.declared.system.System.{System}
+use Rattle.system_places.specs.SystemBranches.{branch_count}
 use Rattle.runs.specs.Choices.{choice_of}
 use Rattle.runs.specs.Object.{Reaches}
 use Rattle.runs.specs.Ready.{ReadyList}
@@ -14,9 +15,11 @@ use Rattle.runs.specs.declared.event.Event.{Event}
 use Rattle.machine.specs.AtMachine.{AtMachine, object}
 use Rattle.locked_execution.specs.AtDesk.{AtDesk, execution}
 use Rattle.locked_execution.specs.declared.command.Reply.{Reply}
+use Rattle.dap_messages.specs.Arguments.{flag_named, number_named}
 use Rattle.dap_messages.specs.declared.answer.Answer.{Answer}
 use Rattle.dap_messages.specs.declared.answer.Effect.{Effect}
 use Rattle.dap_messages.specs.declared.kind.Kind.{Kind}
+use Rattle.dap_messages.specs.declared.request.Request.{Request}
 use Rattle.dap_messages.specs.declared.told.Stop.{Stop}
 use Rattle.dap_messages.specs.declared.told.Told.{Told}
 use Rattle.dap_moves.specs.Moves.{StepsAt, StepsBack, targets}
@@ -26,7 +29,8 @@ use Rattle.dap_moves.specs.declared.back.Back.{Back}
 use Rattle.dap_moves.specs.declared.run.Ended.{Ended}
 use Rattle.dap_moves.specs.declared.run.Plan.{Plan}
 use Rattle.dap_moves.specs.declared.taken_back.Rewound.{Rewound}
-use Rattle.dap_requests.specs.Back.{Backs, Remembers, Reverses, SeenBehind, stop_back, stop_behind}
+use Rattle.dap_threads.specs.Threads.{branch_named}
+use Rattle.dap_requests.specs.Back.{Backs, Remembers, Reverses, ReversesFor, ReversesIn, SeenBehind, stop_back, stop_behind}
 use Rattle.dap_requests.specs.Forth.{AreSeen, Going, IsFirst, IsPlanned, RunsBy, StepsForth, Takes, alone, stop_at, stop_of, target_of}
 use Rattle.dap_requests.specs.Said.{Runs, TellsOutputs, TellsStop}
 use Rattle.dap_requests.proofs.public.Saying.{runs_on, stops_behind, stops_on}
@@ -125,6 +129,39 @@ first_of d m system es fs k e c same checked list ready found is =
     let own : system ≡ d.machine.checked = checked ∙ sym (ap (λ (x : AtMachine). x.checked) same) in
     (there.0, es, e, there.1, there.2, sym (here d system es fs k 0 (Some e) own list found), is)
 
+-- what was kept in mind, or one step more
+pub seen_or_more : (d : AtDesk) (k : Option ℕ) (before after : List Choice) (c : Choice) → IsFirst d k c → (after ≡ before) ⊎ (after ≡ before ++ c ∷ []) →
+    AreSeen d k before after
+seen_or_more d k before after c first h = elim h [
+  | inl same ↦ subst (λ (xs : List Choice). AreSeen d k before xs) (sym same) (seen_same d k before)
+  | inr more ↦ subst (λ (xs : List Choice). AreSeen d k before xs) (sym more) (seen_more d k before c first)
+]
+
+-- a step that was not refused
+pub stop_other : (reply : Reply) → ((why : Refusal) → reply ≡ Reply.Refused why → ⊥) → stop_of reply ≡ Stop.Stands
+stop_other (Reply.Refused why) other = absurd (other why refl)
+stop_other _ other = refl
+
+-- the same `stopped`
+pub tells_as : (a b : Answer) (stop other : Stop) → stop ≡ other → TellsStop a stop b → TellsStop a other b
+tells_as a b stop other same h = subst (λ (s : Stop). TellsStop a s b) same h
+
+-- nothing is kept in mind behind a step back that was not refused
+pub seen_cleared : (t : ℕ) (reply : Reply) (before after : List Choice) → ((why : Refusal) → reply ≡ Reply.Refused why → ⊥) → after ≡ [] →
+    SeenBehind (Back.Asked t reply) before after
+seen_cleared t (Reply.Refused why) before after other none = absurd (other why refl)
+seen_cleared t _ before after other none = none
+
+-- steps are taken back for the branch of the thread that the request names
+pub reverses_thread : (d d' : AtDesk) (m : AtMachine) (request : Request) (found : Option ℕ) (k : ℕ) (single : Bool) (stop : Stop) → m ≡ d.machine →
+    found ≡ branch_named (branch_count m.checked) (number_named (codes "threadId") (view request.arguments)) → found ≡ Some k →
+    single ≡ unwrap_or (flag_named (codes "singleThread") (view request.arguments)) false → Reverses (alone k single) d stop d' →
+    ReversesFor d request stop d'
+reverses_thread d d' m request found k single stop same is some alone_is h =
+    subst (λ (o : Option ℕ). ReversesIn o request d stop d')
+    (sym some ∙ is ∙ ap (λ (x : AtMachine). branch_named (branch_count x.checked) (number_named (codes "threadId") (view request.arguments))) same)
+    (subst (λ (b : Bool). Reverses (alone k b) d stop d') alone_is h)
+
 -- how it ended is told
 pub run_told : (going : Going) (k : Option ℕ) (d d' : AtDesk) (before after : List Choice) (a m b : Answer) (ended : Ended) →
     TellsOutputs a m → TellsStop m (stop_at ended) b → RunsBy going k d before (stop_at ended) d' after →
@@ -140,6 +177,9 @@ run_behind going k d d' before after a m b outputs h = (h.0, stops_on a m b h.0 
 -- what is kept in mind
 pub remembers_same : (d d' : AtDesk) (b : Answer) (before : List Choice) → d' ≡ d → Remembers d d' b before before
 remembers_same d d' b before same = inr (inl (refl, same))
+
+pub remembers_still : (d d' : AtDesk) (b : Answer) (before after : List Choice) → after ≡ before → d' ≡ d → Remembers d d' b before after
+remembers_still d d' b before after seen same = inr (inl (seen, same))
 
 pub remembers_none : (d d' : AtDesk) (b : Answer) (before after : List Choice) → after ≡ [] → Remembers d d' b before after
 remembers_none d d' b before after none = inl none

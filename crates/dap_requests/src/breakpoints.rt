@@ -153,15 +153,22 @@ fn set_anew(
         answer.lacks = true;
         return;
     };
-    if own {
-        program.elsewhere = None;
-    }
+    forget_elsewhere(program, own);
     program.last_id = program.last_id.saturating_add(lines.len() as u64);
     answer.did();
     let shown = keep(program, placing, answer);
     let mut body = Members::new(alloc);
     body.value("breakpoints", Value::Array(shown));
     answer.body(body);
+}
+
+/// Forgets that the breakpoints were asked for in another file, where they are of the one that is debugged.
+fn forget_elsewhere(program: &mut Program, own: bool)
+    ensures { SameButLines program.old program.new }
+{
+    if own {
+        program.elsewhere = None;
+    }
 }
 
 /// Breakpoints on these lines, each with a number of its own; `None` where there is no memory.

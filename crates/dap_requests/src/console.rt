@@ -38,7 +38,7 @@ enum Line {
 
 /// Answers `evaluate`: a variable, a channel, or a line of a script. One that changes something is taken only where it
 /// was typed for that: in the console, or behind a `!`.
-#[tactic(auto, using(crate::proofs::Reading::led_still))]
+#[tactic(auto, using(crate::proofs::Reading::led_still, crate::proofs::public::Saying::keeps_same))]
 pub fn evaluate(
     alloc: Global,
     desk: &mut Desk,
@@ -61,7 +61,7 @@ pub fn evaluate(
 }
 
 /// Answers an expression that was typed as a line.
-#[tactic(auto, using(crate::proofs::Reading::led_still))]
+#[tactic(auto, using(crate::proofs::Reading::led_still, crate::proofs::public::Saying::keeps_same))]
 fn evaluate_typed(
     alloc: Global,
     desk: &mut Desk,
@@ -107,7 +107,7 @@ fn line_in(request: &Request) -> &str {
 }
 
 /// Answers a line that was typed.
-#[tactic(auto, using(crate::proofs::Reading::led_still))]
+#[tactic(auto, using(crate::proofs::Reading::led_still, crate::proofs::public::Saying::keeps_same))]
 fn typed(
     alloc: Global,
     desk: &mut Desk,
@@ -171,6 +171,11 @@ fn is_own(line: &str) -> bool {
     line == "back" || line == "rewind"
 }
 
+/// Whether the line takes one step back.
+fn is_back(line: &str) -> bool {
+    line == "back"
+}
+
 /// Whether the line is one of a script that stands alone.
 fn is_bare(line: &str) -> bool {
     line == "ready" || line == "live" || line == "view" || line == "trace"
@@ -192,7 +197,7 @@ fn own_line(
     ensures keeps { KeepsSome answer.new memo.old.seen.items memo.new.seen.items }
 {
     result(alloc, line, "", answer);
-    if line == "back" {
+    if is_back(line) {
         back_in(alloc, desk, program, memo, branch, answer);
     } else {
         reverse_in(alloc, desk, program, memo, branch, false, answer);
@@ -267,7 +272,7 @@ fn told_channel(
 }
 
 /// Answers a line of a script that was typed.
-#[tactic(auto, using(crate::proofs::Reading::led_still))]
+#[tactic(auto, using(crate::proofs::Reading::led_still, crate::proofs::public::Saying::keeps_same))]
 fn typed_line(
     alloc: Global,
     desk: &mut Desk,
@@ -381,13 +386,21 @@ fn ask(
 fn tell_set(alloc: Global, command: &Command, reply: &Reply, answer: &mut Answer)
     ensures { IsDone answer.old.outcome → IsDone answer.new.outcome }
 {
-    if let Command::Break(_) | Command::Clear(_) = command {
-        answer.did();
-    }
+    keep_set(command, answer);
     if is_set(command, reply) {
         let words =
             "`branch` in the console stops there. `continue` stops where the editor has a breakpoint.";
         tell(alloc, words, "console", answer);
+    }
+}
+
+/// Keeps in mind that breakpoints were set or cleared, if they were.
+fn keep_set(command: &Command, answer: &mut Answer)
+    ensures { IsDone answer.old.outcome → IsDone answer.new.outcome }
+{
+    match command {
+        Command::Break(_) | Command::Clear(_) => answer.did(),
+        _ => {}
     }
 }
 

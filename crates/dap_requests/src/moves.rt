@@ -1,7 +1,12 @@
 // Requests to run: forth and back. Each that succeeds ends with one `stopped`.
-ghost use Rattle.std.specs.Prelude.{◌≡◌, [], MatchOption, Some, slice_get};
-ghost use Rattle.locked_execution.specs.AtDesk.{AtDesk};
+ghost use Rattle.std.specs.Prelude.{◌≡◌, ◌⊎◌, ◌++◌, [], ◌∷◌, MatchOption, Some, slice_get};
+ghost use Rattle.runs.specs.Choices.{choice_of};
+ghost use Rattle.runs.specs.Object.{Reaches};
+ghost use Rattle.runs.specs.Ready.{ReadyList};
 ghost use Rattle.runs.specs.Refusals.{refusal_number};
+ghost use Rattle.runs.specs.Steps.{State};
+ghost use Rattle.machine.specs.AtMachine.{object};
+ghost use Rattle.locked_execution.specs.AtDesk.{AtDesk};
 ghost use Rattle.dap_moves.specs.Led.{Led};
 ghost use Rattle.dap_moves.specs.Moves.{targets};
 ghost use Rattle.dap_moves.specs.TakingBack.{GoesBack, KeepsBack};
@@ -369,13 +374,57 @@ fn tell_free_end(alloc: Global, machine: &Machine, ended: Ended, answer: &mut An
 fn see_first(alloc: Global, machine: &Machine, branch: Option<u32>, seen: &mut Vec<Choice>)
     ensures { (d : AtDesk) → d.machine ≡ machine.now → AreSeen d branch seen.old.items seen.new.items }
 {
-    if let (Some(branch), Ok(events)) = (branch, machine.ready()) {
-        let system = machine.checked().system();
-        if let Some(event) = target_at(system, events.as_slice(), branch, 0) {
-            if let Ok(choice) = event.choice(alloc) {
-                let _ = seen.push(choice);
-            }
-        }
+    match branch {
+        Some(branch) => see_in(alloc, machine, branch, seen),
+        None => {}
+    }
+}
+
+/// Keeps in mind the first step of the branch, if it has one.
+fn see_in(alloc: Global, machine: &Machine, branch: u32, seen: &mut Vec<Choice>)
+    ensures { (d : AtDesk) → d.machine ≡ machine.now → AreSeen d (Some branch) seen.old.items seen.new.items }
+{
+    match machine.ready() {
+        Ok(events) => see_among(alloc, machine, branch, &events, seen),
+        Err(_) => {}
+    }
+}
+
+/// Keeps in mind the first of these steps, which are ready, that the branch can take.
+fn see_among(
+    alloc: Global,
+    machine: &Machine,
+    branch: u32,
+    events: &Items<Event>,
+    seen: &mut Vec<Choice>,
+)
+    requires { (T : State) × Reaches (object machine.now) T × ReadyList T events.now }
+    ensures { (d : AtDesk) → d.machine ≡ machine.now → AreSeen d (Some branch) seen.old.items seen.new.items }
+{
+    let system = machine.checked().system();
+    match target_at(system, events.as_slice(), branch, 0) {
+        Some(event) => see(alloc, event, seen),
+        None => {}
+    }
+}
+
+/// Keeps the choice of the event in mind, where there is memory for it.
+fn see(alloc: Global, event: &Event, seen: &mut Vec<Choice>)
+    ensures { (seen.new.items ≡ seen.old.items) ⊎ (seen.new.items ≡ seen.old.items ++ choice_of event.now ∷ []) }
+{
+    match event.choice(alloc) {
+        Ok(choice) => add_seen(seen, choice),
+        Err(_) => {}
+    }
+}
+
+/// Keeps the choice in mind, where there is memory for it.
+fn add_seen(seen: &mut Vec<Choice>, choice: Choice)
+    ensures { (seen.new.items ≡ seen.old.items) ⊎ (seen.new.items ≡ seen.old.items ++ choice ∷ []) }
+{
+    match seen.push(choice) {
+        Ok(()) => {}
+        Err(_) => {}
     }
 }
 

@@ -2,6 +2,7 @@
 use Rattle.std.proofs.Common.{◌≡◌, ◌⊎◌, List, [], ◌∷◌, ◌++◌, Bool, false, true, inl, inr, refl, sym, ◌∙◌, ap, subst, append_assoc}
 use Rattle.std.proofs.lemmas.List.{append-nil}
 use Rattle.syntax.specs.Lists.{Every}
+use Rattle.runs.specs.declared.event.Choice.{Choice}
 use Rattle.dap_messages.specs.Notes.{Adds, IsDone, IsRefusal, told_by}
 use Rattle.dap_messages.specs.declared.answer.Answer.{Answer}
 use Rattle.dap_messages.specs.declared.answer.Effect.{Effect}
@@ -10,7 +11,9 @@ use Rattle.dap_messages.specs.declared.answer.Outcome.{Outcome}
 use Rattle.dap_messages.specs.declared.told.Stop.{Stop}
 use Rattle.dap_messages.specs.declared.told.Told.{Told}
 use Rattle.locked_execution.specs.AtDesk.{AtDesk}
-use Rattle.dap_requests.specs.Said.{Tells, AreOutputs, TellsOutputs, TellsStop, Runs}
+use Rattle.dap_requests.specs.Back.{Remembers}
+use Rattle.dap_requests.specs.Said.{Tells, AreOutputs, TellsEnd, TellsOutputs, TellsStop, Runs}
+use Rattle.dap_requests.specs.Typed.{KeepsSome}
 
 both-outputs : (ts us : List Told) → AreOutputs ts → AreOutputs us → AreOutputs (ts ++ us)
 both-outputs [] us h k = k
@@ -100,6 +103,29 @@ stops_on a m b stop h k = record {
   effect = k.effect;
 }
 
+-- that the run has ended
+pub ends_now : (a m b : Answer) → Adds a Told.Exited m → Adds m Told.Terminated b → TellsEnd a b
+ends_now a m b h k = record {
+  outputs = [];
+  are = tt;
+  told = tells_on a m b (Told.Exited ∷ []) (Told.Terminated ∷ []) (tells_one a m Told.Exited h) (tells_one m b Told.Terminated k);
+  done = λ done. done_same m.outcome b.outcome k.outcome (done_same a.outcome m.outcome h.outcome done);
+  effect = k.effect;
+}
+
+-- texts, and then that it has ended
+pub ends_on : (a m b : Answer) → TellsOutputs a m → TellsEnd m b → TellsEnd a b
+ends_on a m b h k = record {
+  outputs = h.outputs ++ k.outputs;
+  are = both-outputs h.outputs k.outputs h.are k.are;
+  told = λ full.
+      let end = Told.Exited ∷ Told.Terminated ∷ [] in
+      let it = tells_on a m b h.outputs (k.outputs ++ end) h.told k.told full in
+      (it.0, it.1 ∙ ap (λ (vs : List Told). told_by a.notes.items ++ vs) (sym (append_assoc h.outputs k.outputs end)));
+  done = λ done. k.done (h.done done);
+  effect = k.effect;
+}
+
 -- a body, and then one `stopped`
 pub stops_behind : (a m b : Answer) (stop : Stop) → m.notes ≡ a.notes → (m.lacks ≡ false → a.lacks ≡ false) → (IsDone a.outcome → IsDone m.outcome)
     → m.effect ≡ a.effect → TellsStop m stop b → TellsStop a stop b
@@ -123,3 +149,14 @@ runs_weaker a b d d' goes will more h = elim h [
   | inl refused ↦ inl refused
   | inr ends ↦ inr (ends.0, ends.1, more ends.0 ends.2)
 ]
+
+-- what a step back keeps in mind
+pub keeps_of : (d d' : AtDesk) (b : Answer) (before after : List Choice) → Remembers d d' b before after → KeepsSome b before after
+keeps_of d d' b before after h = elim h [
+  | inl none ↦ inl none
+  | inr more ↦ elim more [ inl same ↦ inr (inl same.0) | inr one ↦ inr (inr one) ]
+]
+
+-- or a request that moves nothing
+pub keeps_same : (b : Answer) (before : List Choice) → KeepsSome b before before
+keeps_same b before = inr (inl refl)

@@ -1,5 +1,6 @@
 use Rattle.dap_messages.specs.declared.kind.Kind.{Kind}
-use Rattle.dap.proofs.Going.{keeps_of, keeps_same, pauses, steps_as, steps_forward}
+use Rattle.dap_requests.proofs.public.Saying.{keeps_of}
+use Rattle.dap.proofs.Going.{keeps_same, pauses, steps_as, steps_forward}
 use Rattle.dap.proofs.moves.make_move.Goals as goal
 
 pub returns-in-StepBack-clause-goes : goal.returns-in-StepBack-clause-goes

@@ -1,8 +1,8 @@
 use Rattle.std.proofs.Common.{ℕ, Option, refl}
 use Rattle.dap_messages.specs.declared.told.Stop.{Stop}
 use Rattle.dap.specs.Steps.{Forward, thread_of}
-use Rattle.dap_requests.proofs.public.Saying.{runs_refused}
-use Rattle.dap.proofs.Going.{keeps_of, runs_in_thread}
+use Rattle.dap_requests.proofs.public.Saying.{keeps_of, runs_refused}
+use Rattle.dap.proofs.Going.{keeps_same, runs_in_thread}
 use Rattle.dap.proofs.moves.step.Goals as goal
 
 pub returns-in-Some-clause-goes : goal.returns-in-Some-clause-goes
@@ -17,3 +17,11 @@ returns-in-None-clause-goes c =
     runs_refused c.args.answer.now c.thread_in.new.answer c.args.desk.now c.args.desk.now
     (λ (stop : Stop). Forward c.args.desk.now c.args.request.now (thread_of c.args.desk.now c.args.request.now) stop c.args.desk.now) c.in-None.ensures.outcome.0
     c.in-None.ensures.outcome.1 refl
+
+pub returns-in-Some-clause-keeps : goal.returns-in-Some-clause-keeps
+returns-in-Some-clause-keeps c =
+    keeps_of c.args.desk.now c.step_in.new.desk c.step_in.new.answer c.args.memo.now.seen.items c.step_in.new.memo.seen.items
+    c.step_in.ensures.keeps
+
+pub returns-in-None-clause-keeps : goal.returns-in-None-clause-keeps
+returns-in-None-clause-keeps c = keeps_same c.thread_in.new.answer c.args.memo.now.seen.items

@@ -9,7 +9,7 @@ use Rattle.dap_moves.proofs.run.step_among.Goals as goal
 pub step_or_stop-requires-clause-ready : goal.step_or_stop-requires-clause-ready
 step_or_stop-requires-clause-ready c =
     let there : In c.in-Some.event.now c.args.events.now =
-        subst (λ (es : List Event). In c.in-Some.event.now es) c.as_slice.ensures c.in-Some.ensures in
+    subst (λ (es : List Event). In c.in-Some.event.now es) c.as_slice.ensures c.in-Some.ensures in
     ready_among c.args.desk.now c.args.desk.now c.args.events.now c.in-Some.event.now c.requires.ready refl there
 
 pub returns-in-None-clause-takes : goal.returns-in-None-clause-takes
