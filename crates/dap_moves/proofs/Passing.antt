@@ -1,5 +1,5 @@
 -- Runs that pass none of the lines, one behind another.
-use Rattle.std.proofs.Common.{◌≡◌, ◌⊎◌, ◌==◌, ℕ, zero, suc, ◌<◌, List, [], ◌∷◌, ◌++◌, length, get_or, Bool, true, false, Option, None, Some, inl, inr, refl, sym, ◌∙◌, ap, subst, arith}
+use Rattle.std.proofs.Common.{◌≡◌, ◌⊎◌, ◌==◌, ℕ, zero, suc, ◌<◌, List, [], ◌∷◌, length, get_or, true, false, Option, None, Some, inl, inr, refl, sym, ◌∙◌, ap, subst, arith}
 use Rattle.std.specs.Option.{MatchOption}
 use Rattle.std.proofs.lemmas.Bool.Decides.{nat_tests}
 use Rattle.std.proofs.lemmas.List.{nil_from_length}
@@ -18,12 +18,8 @@ use Rattle.runs.specs.declared.event.Kind.{Kind}
 use Rattle.event_places.specs.EventPlaces.{line_after}
 use Rattle.machine.specs.AtMachine.{AtMachine}
 use Rattle.locked_execution.specs.AtDesk.{AtDesk, execution}
-use Rattle.locked_execution.specs.Performs.{Answers}
-use Rattle.locked_execution.specs.declared.command.Command.{Command}
-use Rattle.locked_execution.specs.declared.command.Reply.{Reply}
 use Rattle.dap_moves.specs.Led.{Led}
-use Rattle.dap_moves.specs.Moves.{quiet}
-use Rattle.dap_moves.specs.Passing.{has_line, stands_on, IsAtLine, IsReady, MayAsk, PassesBy, StopsAt, Turned, Turns}
+use Rattle.dap_moves.specs.Passing.{has_line, stands_on, IsAtLine, IsReady, PassesBy, StopsAt}
 
 -- what stands at an index is in the list
 pub here_in : {X : Type 0} (xs : List X) (i : ℕ) (x : X) → i < length xs → x ≡ get_or xs i x → In x xs

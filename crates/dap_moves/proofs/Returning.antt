@@ -1,18 +1,14 @@
 -- Runs back, one command after another.
-use Rattle.std.proofs.Common.{◌≡◌, ℕ, ◌+◌, List, [], ◌∷◌, ◌++◌, Option, None, Some, length, inl, inr, refl, sym, subst}
-use Rattle.std.specs.Prelude.{slice_get}
-use Rattle.runs.specs.declared.event.Event.{Event}
+use Rattle.std.proofs.Common.{◌≡◌, ℕ, List, [], ◌∷◌, ◌++◌, Option, inl, inr, refl, sym, subst}
 use Rattle.runs.specs.declared.command.Refusal.{Refusal}
 use Rattle.locked_execution.specs.AtDesk.{AtDesk, execution}
-use Rattle.locked_execution.specs.Performs.{Answers, OnExecution, session_reply}
+use Rattle.locked_execution.specs.Performs.{Answers, session_reply}
 use Rattle.runs.specs.Does.{Undoes}
-use Rattle.runs.specs.declared.command.Command as runs_command
 use Rattle.runs.specs.declared.command.Reply as runs_reply
 use Rattle.locked_execution.specs.declared.command.Command.{Command}
 use Rattle.locked_execution.specs.declared.command.Reply.{Reply}
 use Rattle.locked_execution.proofs.public.Unchanged.{all-same}
 use Rattle.dap_moves.specs.Moves.{quiet}
-use Rattle.dap_moves.specs.Parts.{NewestBelow, takes_part}
 use Rattle.dap_moves.specs.TakingBack.{GoesBack, MayTake, Taken, TakesBack, TookPart}
 
 pub back_nowhere : (only : Option ℕ) (d : AtDesk) → GoesBack only d d

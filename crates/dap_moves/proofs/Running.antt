@@ -1,5 +1,5 @@
 -- Runs, one step after another, and how they end.
-use Rattle.std.proofs.Common.{◌≡◌, ◌⊎◌, ◌==◌, ◌||◌, ℕ, suc, ◌+◌, ◌<◌, ◌≤◌, List, [], ◌∷◌, ◌++◌, length, Bool, true, false, not, cond, Option, None, Some, inl, inr, refl, sym, ◌∙◌, ap, subst, arith}
+use Rattle.std.proofs.Common.{◌≡◌, ◌⊎◌, ◌||◌, ℕ, ◌+◌, ◌<◌, ◌≤◌, List, [], ◌∷◌, ◌++◌, length, Bool, true, false, not, cond, Option, None, Some, inl, inr, refl, sym, ◌∙◌, ap, subst, arith}
 use Rattle.std.specs.List.{filter}
 use Rattle.std.proofs.lemmas.Bool.{cases_lt}
 use Rattle.std.specs.Prelude.{is_some}
@@ -10,12 +10,11 @@ use Rattle.system_places.specs.SystemBranches.{branch_at, branch_count}
 use Rattle.runs.specs.Choices.{choice_of}
 use Rattle.runs.specs.Does.{Steps}
 use Rattle.runs.specs.Events.{acting}
-use Rattle.runs.specs.Object.{Object, Reaches}
+use Rattle.runs.specs.Object.{Reaches}
 use Rattle.runs.specs.Ready.{ReadyList}
 use Rattle.runs.specs.Steps.{State}
 use Rattle.runs.specs.declared.event.Choice.{Choice}
 use Rattle.runs.specs.declared.event.Event.{Event}
-use Rattle.runs.specs.declared.command.Command as runs_command
 use Rattle.runs.specs.declared.command.Reply as runs_reply
 use Rattle.runs.specs.declared.command.Refusal.{Refusal}
 use Rattle.runs.specs.declared.command.Refusal.TheVariants.{Memory}
@@ -23,18 +22,17 @@ use Rattle.machine.specs.AtMachine.{AtMachine}
 use Rattle.machine.specs.Branching.{AllKeptBack, Branched, acts_in, has_no_break, in_branch, is_branch, is_free, line_of}
 use Rattle.machine.specs.declared.branch.BranchReply.{BranchReply}
 use Rattle.locked_execution.specs.AtDesk.{AtDesk, breaks_of, execution}
-use Rattle.locked_execution.specs.Performs.{Answers, OnBranch, OnExecution, branch_reply, session_reply}
+use Rattle.locked_execution.specs.Performs.{Answers, branch_reply, session_reply}
 use Rattle.locked_execution.specs.declared.command.Command.{Command}
 use Rattle.locked_execution.specs.declared.command.Reply.{Reply}
 use Rattle.locked_execution.proofs.public.Unchanged.{all-same}
 use Rattle.dap_moves.specs.Moves.{StepsAt, acts, quiet}
-use Rattle.dap_moves.specs.Passing.{IsReady, MayAsk, PassesBy, StopsAt, TakesTurn, Turned, Turns}
+use Rattle.dap_moves.specs.Passing.{MayAsk, PassesBy, StopsAt, TakesTurn, Turned, Turns}
 use Rattle.dap_moves.specs.Running.{EndsTruly, IsHeld, IsIdle, KeepsChoice, MayStep, NothingGoes, RunsFrom, StandsBefore, is_watched}
 use Rattle.dap_moves.specs.declared.run.Ended.{Ended}
 use Rattle.dap_moves.specs.declared.run.Plan.{Plan}
 use Rattle.dap_moves.specs.declared.run.Turn.{Turn}
-use Rattle.dap_moves.specs.declared.seen.Watched.{Watched}
-use Rattle.dap_moves.specs.internal.Turning.{TakesOne, Took, TurnKeeps, any_goes, branch_for, goes, turn_of}
+use Rattle.dap_moves.specs.internal.Turning.{TakesOne, TurnKeeps, any_goes, goes, turn_of}
 use Rattle.dap_moves.proofs.Passing.{acting_is_action}
 
 -- what is asked where it stood nowhere may be asked wherever it stood
@@ -256,7 +254,7 @@ took-chosen plan seen d d' c branch reply _ is h checked breaks may answers = ab
 chosen-on : (plan : Plan) (seen : List Choice) (d d' : AtDesk) (c : Choice) (branch : ℕ) (reply : Reply) →
     MayAsk d plan.lines.now seen (Command.Step c) → Answers d quiet (Command.Step c) reply d' → TakesOne plan seen d d' (turn_of plan.watched.now branch reply)
 chosen-on plan seen d d' c branch reply may h = elim h [
-  | inl done ↦ took-chosen plan seen d d' c branch reply done.0 done.1 done.2 done.3 done.4 may h
+  | inl done ↦ took-chosen plan seen d d' c branch reply done.0 done.1 done.2 done.3 done.4 may (inl done)
   | inr none ↦ took-lacking plan seen d d' branch reply none.1 none.2
 ]
 
@@ -289,7 +287,7 @@ pub branch_took : (plan : Plan) (d d' : AtDesk) (branch : ℕ) (reply : Reply) �
     Answers d quiet (Command.Branch branch) reply d' → TakesOne plan [] d d' (turn_of plan.watched.now branch reply)
 branch_took plan d d' branch reply free busy h = elim h [
   | inl done ↦
-      took-branch plan d d' branch reply done.0 free done.1 done.2.0 done.2.1 done.2.2 done.2.3 done.2.4 done.4 busy h
+      took-branch plan d d' branch reply done.0 free done.1 done.2.0 done.2.1 done.2.2 done.2.3 done.2.4 done.4 busy (inl done)
   | inr none ↦ took-lacking plan [] d d' branch reply none.1 none.2
 ]
 

@@ -1,5 +1,5 @@
 -- Where a run goes, and why it ends there.
-use Rattle.std.specs.Prelude.{◌≡◌, ◌⊎◌, ◌||◌, ◌==◌, ◌+◌, ◌≤◌, ◌<◌, ◌++◌, ℕ, List, [], ◌∷◌, Bool, true, false, Option, None, Some, length}
+use Rattle.std.specs.Prelude.{◌≡◌, ◌⊎◌, ◌||◌, ◌+◌, ◌≤◌, ◌<◌, ◌++◌, ℕ, List, [], ◌∷◌, Bool, true, false, Option, None, Some, length}
 use Rattle.system_places.specs.SystemBranches.{branch_count}
 use Rattle.runs.specs.Choices.{choice_of}
 use Rattle.runs.specs.Object.{Reaches}

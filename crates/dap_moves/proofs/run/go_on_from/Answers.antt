@@ -1,5 +1,4 @@
-use Rattle.std.proofs.Common.{refl, ◌∙◌, ap, arith, []}
-use Rattle.system_places.specs.SystemBranches.{branch_count}
+use Rattle.std.proofs.Common.{refl, ◌∙◌, arith}
 use Rattle.dap_moves.proofs.public.Leading.{led_nowhere, led_on}
 use Rattle.dap_moves.proofs.Running.{counted-none, counted-more, ends-after, ends-behind, keeps-nothing}
 use Rattle.dap_moves.proofs.run.go_on_from.Goals as goal

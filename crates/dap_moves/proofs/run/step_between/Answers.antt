@@ -1,4 +1,4 @@
-use Rattle.std.proofs.Common.{refl, ◌∙◌, ◌≡◌, ◌≤◌, ◌<◌, ℕ, subst, arith}
+use Rattle.std.proofs.Common.{refl, ◌∙◌, subst, arith}
 use Rattle.locked_execution.specs.AtDesk.{AtDesk}
 use Rattle.dap_moves.specs.Running.{IsIdle}
 use Rattle.dap_moves.proofs.Running.{idle-more}

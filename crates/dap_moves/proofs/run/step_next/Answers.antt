@@ -1,8 +1,6 @@
 use Rattle.std.proofs.Common.{sym, subst}
 use Rattle.locked_execution.specs.AtDesk.{AtDesk}
 use Rattle.dap_moves.specs.Running.{IsIdle}
-use Rattle.dap_moves.proofs.Passing.{led_from}
-use Rattle.dap_moves.proofs.Running.{takes-one-from}
 use Rattle.dap_moves.proofs.run.step_next.Goals as goal
 
 pub step_before-requires-clause-idle : goal.step_before-requires-clause-idle
