@@ -5,10 +5,10 @@ ghost use Rattle.dap_moves.specs.Led.{Led};
 ghost use Rattle.dap_requests.specs.Reading.{reads};
 ghost use Rattle.dap_requests.specs.Typed.{KeepsSome, is_typed};
 
+use crate::entered::is_typed;
 use crate::hints::add_in_place;
 use crate::moves::{back_in, reverse_in};
 use crate::said::{stop, tell, words_of};
-use crate::typed::is_typed;
 use dap_messages::{Answer, Members, Request};
 use dap_moves::{Command, Desk, Machine, Reply};
 use dap_threads::{channel_words, frame_in};
