@@ -1,5 +1,5 @@
 -- The data of a picture as one JSON text, value by value.
-use Rattle.std.specs.Prelude.{ℕ, ◌+◌, ◌==◌, ◌&&◌, List, [], ◌∷◌, ◌++◌, Bool, true, false, cond, Option, None, Some, map, codes, slice_get}
+use Rattle.std.specs.Prelude.{ℕ, ◌+◌, ◌==◌, ◌&&◌, List, [], ◌∷◌, ◌++◌, Bool, true, cond, Option, None, Some, map, codes, slice_get}
 use Rattle.std.specs.Fmt.{decimal}
 use Rattle.std.specs.List.{flat_map}
 use Rattle.address.specs.Text.{text_of}
@@ -13,12 +13,11 @@ use Rattle.runs.specs.Events.{acting}
 use Rattle.runs.specs.Live.{Live}
 use Rattle.runs.specs.declared.event.Event.{Event}
 use Rattle.line_text.specs.EventText.{event_text}
+use Rattle.picture_lanes.specs.declared.lane.Feed.{Feed}
+use Rattle.picture_lanes.specs.declared.lane.Instance.{Instance}
+use Rattle.picture_lanes.specs.declared.lane.Lane.{Lane}
+use Rattle.picture_lanes.specs.declared.lane.LaneKind.{LaneKind}
 use Rattle.json_text.specs.Values.{list_text, member_text, object_text, optional_text, string_text}
-use Rattle.picture_data.specs.declared.end.End.{End}
-use Rattle.picture_data.specs.declared.ground.Feed.{Feed}
-use Rattle.picture_data.specs.declared.lane.Instance.{Instance}
-use Rattle.picture_data.specs.declared.lane.Lane.{Lane}
-use Rattle.picture_data.specs.declared.lane.LaneKind.{LaneKind}
 use Rattle.picture_data.specs.declared.picture.Picture.{Picture}
 use Rattle.picture_data.specs.declared.places.Place.{Place}
 use Rattle.picture_data.specs.declared.places.Role.{Role}
@@ -53,8 +52,8 @@ channel_text c = list_text (string_text c.name ∷ decimal (channel_width c.kind
 
 abbrev pub instance_text : Instance → List ℕ
 instance_text i =
-    list_text (string_text i.procedure.items ∷ string_text i.prefix.items ∷ optional_text i.parent ∷ decimal i.call_line
-    ∷ decimal i.line ∷ string_text i.arguments.items ∷ [])
+    list_text (string_text i.procedure ∷ string_text i.prefix ∷ optional_text i.parent ∷ decimal i.call_line
+    ∷ decimal i.line ∷ string_text i.arguments ∷ [])
 
 -- a slash before each number
 abbrev pub path_text : List ℕ → List ℕ
@@ -80,7 +79,7 @@ port_of (LaneKind.Body block) = None
 
 abbrev pub lane_text : Lane → List ℕ
 lane_text l =
-    list_text (string_text (path_text l.path.items) ∷ optional_text (block_of l.kind) ∷ decimal l.line
+    list_text (string_text (path_text l.path) ∷ optional_text (block_of l.kind) ∷ decimal l.line
     ∷ string_text (action_of l.kind) ∷ optional_text (port_of l.kind) ∷ [])
 
 -- a port's lane, and how much it has to give
