@@ -14,7 +14,7 @@ pub fn is_typed(request: &Request) -> bool
 
 /// Whether this is the console.
 fn is_console(context: Option<&str>) -> bool
-    ensures { result ≡ model.is_console (option_map (λ s. s.now) context) }
+    ensures { result ≡ model.is_console (option_map (λ s. s.now) context.entry) }
 {
     match context {
         Some(word) => word.as_bytes() == b"repl".as_slice(),
@@ -24,7 +24,7 @@ fn is_console(context: Option<&str>) -> bool
 
 /// Whether a mark stands before the expression.
 fn is_marked(expression: Option<&str>) -> bool
-    ensures { result ≡ model.is_marked (option_map (λ s. s.now) expression) }
+    ensures { result ≡ model.is_marked (option_map (λ s. s.now) expression.entry) }
 {
     match expression {
         Some(text) => begins_marked(text.as_bytes()),
