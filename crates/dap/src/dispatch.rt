@@ -81,7 +81,9 @@ fn act(alloc: Global, launched: &mut Launched, request: &Request, answer: &mut A
 fn is_held(over: bool, kind: Kind) -> bool
     ensures { result ≡ (over && (moves kind || asks kind)) }
 {
-    over && (is_move(kind) || is_asked(kind))
+    let moving = is_move(kind);
+    let asking = is_asked(kind);
+    over && (moving || asking)
 }
 
 /// Refuses what would move something where the client was told that it is over.

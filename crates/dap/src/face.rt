@@ -61,7 +61,8 @@ impl Face {
     fn is_over_behind(&self, kind: Kind) -> bool
         ensures { result ≡ (self.now.over || ends kind) }
     {
-        self.over || kind == Kind::Disconnect
+        let ended = ends_session(kind);
+        self.over || ended
     }
 
     /// What holds of what is launched at every moment: nothing is done, the contract says it.
@@ -297,6 +298,13 @@ pub(crate) fn attach(answer: &mut Answer) {
 /// Refuses a request that is not known.
 pub(crate) fn unknown(answer: &mut Answer) {
     answer.refuse(101, "balsadbg does not know this request");
+}
+
+/// Whether a request of this kind ends the session.
+fn ends_session(kind: Kind) -> bool
+    ensures { result ≡ ends kind }
+{
+    matches!(kind, Kind::Disconnect)
 }
 
 /// What is to be added to numbers of the client so that they count from 1.

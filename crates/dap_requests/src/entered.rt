@@ -1,6 +1,8 @@
 // Whether an expression was typed as a line, or is only looked at.
-ghost use Rattle.std.specs.Prelude.{◌≡◌};
+ghost use Rattle.std.specs.Prelude.{◌≡◌, codes};
 ghost use Rattle.std.specs.Option.{option_map};
+ghost use Rattle.serde_json.specs.View.{view};
+ghost use Rattle.dap_messages.specs.Arguments.{text_named};
 ghost use Rattle.dap_requests.specs.Typed as model;
 
 use dap_messages::Request;
@@ -9,7 +11,23 @@ use dap_messages::Request;
 pub fn is_typed(request: &Request) -> bool
     ensures { result ≡ model.is_typed request.now }
 {
-    is_console(request.text("context")) || is_marked(request.text("expression"))
+    let console = in_console(request);
+    let marked = has_mark(request);
+    console || marked
+}
+
+/// Whether it came from the console.
+fn in_console(request: &Request) -> bool
+    ensures { result ≡ model.is_console (text_named (codes "context") (view request.now.arguments)) }
+{
+    is_console(request.text("context"))
+}
+
+/// Whether a mark stands before it.
+fn has_mark(request: &Request) -> bool
+    ensures { result ≡ model.is_marked (text_named (codes "expression") (view request.now.arguments)) }
+{
+    is_marked(request.text("expression"))
 }
 
 /// Whether this is the console.

@@ -9,7 +9,7 @@ returns-clause-goes c =
     let d = c.args.desk.now in
     let before = c.args.memo.now.seen.items in
     runs_by (going_of c.args.program.now c.args.only) c.args.branch d c.go_on.new.desk before c.go_on.new.kept.items _ c.go_on.result
-    (record { lines = c.as_slice-lines.ensures.value; watched = c.as_slice-watched.ensures.value; most = refl; only = refl })
-    (subst (λ (xs : List Choice). AreSeen d c.args.branch before xs) (sym c.as_slice-seen.ensures.value)
+    (record { lines = c.as_slice.ensures.value; watched = c.as_slice-2.ensures.value; most = refl; only = refl })
+    (subst (λ (xs : List Choice). AreSeen d c.args.branch before xs) (sym c.as_slice-3.ensures.value)
     (subst (λ (xs : List Choice). AreSeen d c.args.branch xs c.see_first.new.seen.items) (ap (λ v. v.items) c.replace-seen.ensures.value)
     (c.see_first.ensures d (sym c.machine.ensures)))) c.go_on.ensures.runs c.go_on.ensures.keeps

@@ -15,7 +15,7 @@ returns-in-Refused-clause-seen c =
 
 pub returns-in-Refused-clause-stops : goal.returns-in-Refused-clause-stops
 returns-in-Refused-clause-stops c =
-    tells_as c.args.answer.now c.tell_kept.new.answer (Stop.Refused (refusal_number c.in-Refused.why.now)) (stop_of c.args.reply.now)
+    tells_as c.args.answer.now c.tell_kept.new.answer (Stop.Refused (refusal_number c.in-Refused.why)) (stop_of c.args.reply.now)
     (ap (λ (x : Reply). stop_of x) (sym c.in-Refused.is)) c.tell_kept.ensures.stops
 
 pub returns-in-Undone-clause-seen : goal.returns-in-Undone-clause-seen

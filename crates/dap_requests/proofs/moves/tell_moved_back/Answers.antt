@@ -22,5 +22,5 @@ returns-in-Asked-clause-seen c =
 
 pub returns-in-Asked-clause-stops : goal.returns-in-Asked-clause-stops
 returns-in-Asked-clause-stops c =
-    tells_as c.args.answer.now c.tell_back.new.answer (stop_of c.in-Asked.reply.now) (stop_back c.args.moved.now)
+    tells_as c.args.answer.now c.tell_back.new.answer (stop_of c.in-Asked.reply) (stop_back c.args.moved.now)
     (ap (λ (m : Back). stop_back m) (sym c.in-Asked.is)) c.tell_back.ensures.stops

@@ -8,7 +8,7 @@ use Rattle.dap_requests.proofs.moves.tell_took.Goals as goal
 
 pub returns-in-Refused-clause-stops : goal.returns-in-Refused-clause-stops
 returns-in-Refused-clause-stops c =
-    tells_as c.args.answer.now c.tell_refused.new.answer (Stop.Refused (refusal_number c.in-Refused.why.now)) (stop_of c.args.reply.now)
+    tells_as c.args.answer.now c.tell_refused.new.answer (Stop.Refused (refusal_number c.in-Refused.why)) (stop_of c.args.reply.now)
     (ap (λ (x : Reply). stop_of x) (sym c.in-Refused.is)) c.tell_refused.ensures.stops
 
 pub returns-in_default-clause-stops : goal.returns-in_default-clause-stops
