@@ -38,6 +38,11 @@ returns-in-Ok-false-clause-ends g c =
     (g.O.Write.contents c.answer_next.new.out.device) c.answer_next.result c.in-Ok-false.field-0 c.in-Ok-false.is c.in-Ok-false.field-0-test
     c.answer_next.ensures.ends)
 
+pub returns-in-Err-clause-ends : goal.returns-in-Err-clause-ends
+returns-in-Err-clause-ends g c =
+    c.loop-taken.invariant.2 (reader_remaining g.R.Read.remaining c.answer_next.new.reader.device)
+    (g.O.Write.contents c.answer_next.new.out.device) (Err c.in-Err.fault) c.answer_next.new.self.bench c.in-Err.ensures.ends
+
 pub returns-clause-ends : goal.returns-clause-ends
 returns-clause-ends g c =
     c.loop-taken.invariant.2 (reader_remaining g.R.Read.remaining c.loop-taken.reader.device) (g.O.Write.contents c.loop-taken.out.device)
