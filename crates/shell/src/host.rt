@@ -7,6 +7,7 @@ ghost use Rattle.shell.specs.Files.{Files};
 use std::alloc::Global;
 use std::fs::{File, Permissions};
 use std::io::{Eprint, Error, ErrorKind, Write};
+use std::os::unix::fs::MetadataExt;
 use std::time::{Clock, Duration};
 use std::{fs, io};
 
@@ -27,6 +28,8 @@ pub enum FileFault {
     NoFile,
     /// it is a link that leads to no file
     LeadsNowhere,
+    /// it is the description or the stimulus that the session is about
+    AtHand,
     /// it may not be read or written
     Forbidden,
     /// the disk or a quota is full
@@ -66,12 +69,18 @@ pub trait Host {
 pub struct Local<'a, R> {
     rt: &'a R,
     shows_progress: bool,
+    at_hand: [&'a str; 2],
 }
 
 impl<'a, R> Local<'a, R> {
-    /// What this runtime reaches. Standard error shows how far a long line is, or does not.
-    pub fn new(rt: &'a R, shows_progress: bool) -> Local<'a, R> {
-        Local { rt, shows_progress }
+    /// What this runtime reaches. Standard error shows how far a long line is, or does not. The files at hand, the
+    /// description and the stimulus, are never written over.
+    pub fn new(rt: &'a R, shows_progress: bool, at_hand: [&'a str; 2]) -> Local<'a, R> {
+        Local {
+            rt,
+            shows_progress,
+            at_hand,
+        }
     }
 }
 
@@ -88,6 +97,9 @@ impl<R: fs::Files + AllocGlobal + Clock + Eprint> Host for Local<'_, R> {
     }
 
     fn write(&self, alloc: Global, name: &str, bytes: &[u8], over: bool) -> Result<(), FileFault> {
+        if is_at_hand(self.rt, &self.at_hand, name) {
+            return Err(FileFault::AtHand);
+        }
         match (standing_at(self.rt, name)?, over) {
             (Standing::Nothing, _) => write_beside(self.rt, alloc, name, bytes, over, None),
             (Standing::File, true) => write_over(self.rt, alloc, name, bytes),
@@ -119,6 +131,24 @@ fn may_read<R: fs::Files>(rt: &R, name: &str) -> Result<(), FileFault> {
     match rt.metadata(name) {
         Ok(found) if !found.is_file() => Err(FileFault::NoFile),
         _ => Ok(()),
+    }
+}
+
+/// Whether one of these names has the same file, by a link too.
+fn is_at_hand<R: fs::Files>(rt: &R, names: &[&str], name: &str) -> bool {
+    for other in names {
+        if is_same_file(rt, other, name) {
+            return true;
+        }
+    }
+    false
+}
+
+/// Whether both names have one file.
+fn is_same_file<R: fs::Files>(rt: &R, one: &str, other: &str) -> bool {
+    match (rt.metadata(one), rt.metadata(other)) {
+        (Ok(one), Ok(other)) => one.ino() == other.ino() && one.dev() == other.dev(),
+        _ => false,
     }
 }
 

@@ -156,6 +156,9 @@ fn add_fault(text: &mut Text, name: &str, fault: FileFault, word: &str) {
         FileFault::LeadsNowhere => text.add(
             b" is a link that leads to no file; it stays as it is, and nothing was written\n",
         ),
+        FileFault::AtHand => text.add(
+            b" is the description or the stimulus of this session, and is not written over\n",
+        ),
         FileFault::Forbidden => text.add(b": you may not read or write it there\n"),
         FileFault::Full => text.add(b": the disk is full, and nothing was written\n"),
         FileFault::Other => text.add(b": the system refused it, and nothing changed\n"),
