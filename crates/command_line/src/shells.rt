@@ -143,6 +143,10 @@ pub fn shell_files<R: fs::Files + AllocGlobal + Clock + Eprint, F: Files, I: Rea
         trace: trace_text(start, texts),
     };
     let has_prompt = is_terminal(rt, STANDARD_INPUT);
-    let host = Local::new(rt, has_prompt && is_terminal(rt, STANDARD_ERROR));
+    let host = Local::new(
+        rt,
+        has_prompt && is_terminal(rt, STANDARD_ERROR),
+        [start.file, start.stimulus],
+    );
     run(rt.alloc(), reader, out, &host, begun, has_prompt)
 }

@@ -25,7 +25,8 @@ use Rattle.picture_data.specs.declared.picture.Picture.{Picture}
 use Rattle.picture_data.specs.declared.places.Place.{Place}
 use Rattle.picture_data.specs.declared.places.Wanted.{Wanted}
 use Rattle.picture_data.specs.declared.steps.Steps.{Steps}
-use Rattle.picture_text.specs.DataText.{action_texts, ahead_text, channel_text, data_text, event_row, event_rows, feed_text, flag, head_members, instance_text, lane_text, numbers_text, place_row, race_text, ready_rows, rings_text, role_text, run_members, since_texts, system_members, tickets_text, variable_text, wanted_text}
+use Rattle.waiting.specs.declared.progress.Progress.{Progress}
+use Rattle.picture_text.specs.DataText.{action_texts, ahead_text, channel_text, data_text, event_row, event_rows, feed_text, flag, head_members, instance_text, lane_text, numbers_text, place_row, progress_text, race_text, ready_rows, rings_text, role_text, run_members, since_texts, system_members, tickets_text, variable_text, wanted_text}
 use Rattle.picture_text.specs.PageText.{page_text}
 use Rattle.picture_laws.specs.EqualPages.{AreCounted, HaveOnePage, IsInOrder}
 use Rattle.picture_laws.specs.EqualPictures.{IsOnePicture}
@@ -127,14 +128,15 @@ same-system system p q one =
     ∙ ap (λ (fs : List Feed). made q.instances.items q.lanes.items fs) one.ground.feeds
 
 -- how the run stands, in one text
-abbrev ends : System → Live → List (List ℕ) → List Race → List Actions → List Event → List (List ℕ) → List ℕ → List (List ℕ)
-ends system l rows races actions ready places ring =
+abbrev ends : System → Live → List (List ℕ) → List Race → List Actions → List Event → List (List ℕ) → List ℕ → Progress → List (List ℕ)
+ends system l rows races actions ready places ring progress =
     member_text (codes "tickets") (tickets_text l)
     ∷ member_text (codes "events") (list_text rows)
     ∷ member_text (codes "races") (list_text (map race_text races))
     ∷ member_text (codes "ready") (list_text (ready_rows system actions 0 ready))
     ∷ member_text (codes "places") (list_text places)
     ∷ member_text (codes "rings") (rings_text ring)
+    ∷ member_text (codes "progress") (string_text (progress_text progress))
     ∷ []
 
 same-run : (system : System) (l : Live) (p q : Picture) → IsOnePicture p q → p.end.ring.items ≡ q.end.ring.items →
@@ -145,14 +147,15 @@ same-run system l p q one ring =
     let a = event_rows system q.steps 0 l in
     let b = map place_row q.end.places.items in
     ap (λ (x : List (List ℕ)). ends system l x p.steps.races.items p.end.ready_actions.items p.end.ready (map place_row p.end.places.items)
-    p.end.ring.items) rows
-    ∙ ap (λ (x : List Race). ends system l a x p.end.ready_actions.items p.end.ready (map place_row p.end.places.items) p.end.ring.items) one.races
-    ∙ ap (λ (x : List Actions). ends system l a q.steps.races.items x p.end.ready (map place_row p.end.places.items) p.end.ring.items)
+    p.end.ring.items p.end.progress) rows
+    ∙ ap (λ (x : List Race). ends system l a x p.end.ready_actions.items p.end.ready (map place_row p.end.places.items) p.end.ring.items p.end.progress) one.races
+    ∙ ap (λ (x : List Actions). ends system l a q.steps.races.items x p.end.ready (map place_row p.end.places.items) p.end.ring.items p.end.progress)
     one.end.ready_actions
-    ∙ ap (λ (x : List Event). ends system l a q.steps.races.items q.end.ready_actions.items x (map place_row p.end.places.items) p.end.ring.items)
+    ∙ ap (λ (x : List Event). ends system l a q.steps.races.items q.end.ready_actions.items x (map place_row p.end.places.items) p.end.ring.items p.end.progress)
     one.end.ready
-    ∙ ap (λ (x : List (List ℕ)). ends system l a q.steps.races.items q.end.ready_actions.items q.end.ready x p.end.ring.items) places
-    ∙ ap (λ (x : List ℕ). ends system l a q.steps.races.items q.end.ready_actions.items q.end.ready b x) ring
+    ∙ ap (λ (x : List (List ℕ)). ends system l a q.steps.races.items q.end.ready_actions.items q.end.ready x p.end.ring.items p.end.progress) places
+    ∙ ap (λ (x : List ℕ). ends system l a q.steps.races.items q.end.ready_actions.items q.end.ready b x p.end.progress) ring
+    ∙ ap (λ (x : Progress). ends system l a q.steps.races.items q.end.ready_actions.items q.end.ready b q.end.ring.items x) one.end.progress
 
 one-text : (system : System) (l : Live) (p q : Picture) (source file stimulus trace : List ℕ) → IsOnePicture p q → p.end.ring.items ≡ q.end.ring.items →
     data_text system l p source file stimulus trace ≡ data_text system l q source file stimulus trace

@@ -25,6 +25,7 @@ use Rattle.picture_data.specs.declared.places.Wanted.{Wanted}
 use Rattle.run_depths.specs.declared.races.Race.{Race}
 use Rattle.picture_data.specs.declared.actions.Actions.{Actions}
 use Rattle.picture_data.specs.declared.steps.Steps.{Steps}
+use Rattle.waiting.specs.declared.progress.Progress.{Progress}
 
 -- 1 for true, and 0 for false
 abbrev pub flag : Bool → ℕ
@@ -180,6 +181,12 @@ abbrev pub rings_text : List ℕ → List ℕ
 rings_text [] = list_text []
 rings_text (i ∷ ring) = list_text (numbers_text (i ∷ ring) ∷ [])
 
+-- how the run stands, in a word
+abbrev pub progress_text : Progress → List ℕ
+progress_text Progress.GoesOn = codes "goes on"
+progress_text Progress.Done = codes "done"
+progress_text Progress.Stuck = codes "stuck"
+
 -- ---- all of it
 
 abbrev pub head_members : List ℕ → List ℕ → List ℕ → List ℕ → List (List ℕ)
@@ -206,6 +213,7 @@ run_members system l p =
     ∷ member_text (codes "ready") (list_text (ready_rows system p.end.ready_actions.items 0 p.end.ready))
     ∷ member_text (codes "places") (list_text (map place_row p.end.places.items))
     ∷ member_text (codes "rings") (rings_text p.end.ring.items)
+    ∷ member_text (codes "progress") (string_text (progress_text p.end.progress))
     ∷ []
 
 -- of the run of these live events, with the source, and the names of the three files

@@ -1,11 +1,13 @@
 //! What a session reaches beside its lines: files that it saves to and loads from, a clock, and who waits for a long
 //! line.
 
-ghost use Rattle.std.specs.Prelude.{ℕ, List, IfOk, OnOk, ⊤};
+ghost use Rattle.std.specs.Prelude.{◌≡◌, IfOk, OnOk, false, ⊤};
+ghost use Rattle.shell.specs.Files.{Files};
 
 use std::alloc::Global;
 use std::fs::{File, Permissions};
 use std::io::{Eprint, Error, ErrorKind, Write};
+use std::os::unix::fs::MetadataExt;
 use std::time::{Clock, Duration};
 use std::{fs, io};
 
@@ -26,6 +28,8 @@ pub enum FileFault {
     NoFile,
     /// it is a link that leads to no file
     LeadsNowhere,
+    /// it is the description or the stimulus that the session is about
+    AtHand,
     /// it may not be read or written
     Forbidden,
     /// the disk or a quota is full
@@ -36,18 +40,19 @@ pub enum FileFault {
 
 /// What reads and writes whole files by their names, and tells a person how far a long line is.
 pub trait Host {
-    /// Whether a file of this name may have these bytes, at some moment of a session.
-    ghost holds: { Self → List ℕ → List ℕ → Type 0 };
+    /// What is known of files, at some moment of a session.
+    ghost files: { Self → Files };
 
     /// The bytes of the file.
     fn read(&self, alloc: Global, name: &str) -> Result<Vec<u8>, FileFault>
-        ensures { IfOk result (λ bytes. holds self.now name.now bytes.items) };
+        ensures { IfOk result (λ bytes. (files self.now).holds name.now bytes.items) };
 
     /// Writes the bytes as the file, `over` one that is there or only as a new one: then nothing that has the name is
     /// replaced, a link neither. Over a link the file is written to which it leads, and the link stays. It is written
     /// beside and then named, so that a file is there whole or as it was.
     fn write(&self, alloc: Global, name: &str, bytes: &[u8], over: bool) -> Result<(), FileFault>
-        ensures { OnOk result (holds self.now name.now bytes.now) };
+        ensures written { OnOk result ((files self.now).holds name.now bytes.now) }
+        ensures free { over ≡ false → OnOk result ((files self.now).free name.now) };
 
     /// The time since some beginning; `None` where nobody waits, or there is no clock.
     fn clock(&self) -> Option<Duration>;
@@ -64,18 +69,24 @@ pub trait Host {
 pub struct Local<'a, R> {
     rt: &'a R,
     shows_progress: bool,
+    at_hand: [&'a str; 2],
 }
 
 impl<'a, R> Local<'a, R> {
-    /// What this runtime reaches. Standard error shows how far a long line is, or does not.
-    pub fn new(rt: &'a R, shows_progress: bool) -> Local<'a, R> {
-        Local { rt, shows_progress }
+    /// What this runtime reaches. Standard error shows how far a long line is, or does not. The files at hand, the
+    /// description and the stimulus, are never written over.
+    pub fn new(rt: &'a R, shows_progress: bool, at_hand: [&'a str; 2]) -> Local<'a, R> {
+        Local {
+            rt,
+            shows_progress,
+            at_hand,
+        }
     }
 }
 
 impl<R: fs::Files + AllocGlobal + Clock + Eprint> Host for Local<'_, R> {
     // No contract says what the system's files hold.
-    ghost holds = { λ _ _ _. ⊤ };
+    ghost files = { λ _. record { holds = λ _ _. ⊤; free = λ _. ⊤ } };
 
     fn read(&self, _alloc: Global, name: &str) -> Result<Vec<u8>, FileFault> {
         may_read(self.rt, name)?;
@@ -86,6 +97,9 @@ impl<R: fs::Files + AllocGlobal + Clock + Eprint> Host for Local<'_, R> {
     }
 
     fn write(&self, alloc: Global, name: &str, bytes: &[u8], over: bool) -> Result<(), FileFault> {
+        if is_at_hand(self.rt, &self.at_hand, name) {
+            return Err(FileFault::AtHand);
+        }
         match (standing_at(self.rt, name)?, over) {
             (Standing::Nothing, _) => write_beside(self.rt, alloc, name, bytes, over, None),
             (Standing::File, true) => write_over(self.rt, alloc, name, bytes),
@@ -117,6 +131,24 @@ fn may_read<R: fs::Files>(rt: &R, name: &str) -> Result<(), FileFault> {
     match rt.metadata(name) {
         Ok(found) if !found.is_file() => Err(FileFault::NoFile),
         _ => Ok(()),
+    }
+}
+
+/// Whether one of these names has the same file, by a link too.
+fn is_at_hand<R: fs::Files>(rt: &R, names: &[&str], name: &str) -> bool {
+    for other in names {
+        if is_same_file(rt, other, name) {
+            return true;
+        }
+    }
+    false
+}
+
+/// Whether both names have one file.
+fn is_same_file<R: fs::Files>(rt: &R, one: &str, other: &str) -> bool {
+    match (rt.metadata(one), rt.metadata(other)) {
+        (Ok(one), Ok(other)) => one.ino() == other.ino() && one.dev() == other.dev(),
+        _ => false,
     }
 }
 

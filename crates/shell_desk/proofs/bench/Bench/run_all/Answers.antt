@@ -1,7 +1,7 @@
 use Rattle.std.proofs.Common.{◌<◌, ◌≤◌, arith, sym, ◌∙◌}
 use Rattle.shell_desk.specs.declared.deed.End.{End}
 use Rattle.shell_desk.proofs.DeedLemmas.{run-begins, run-goes-on, run-ends, run-enough}
-use Rattle.shell_desk.proofs.bench.Bench.run.Goals as goal
+use Rattle.shell_desk.proofs.bench.Bench.run_all.Goals as goal
 
 pub loop-taken-init : goal.loop-taken-init
 loop-taken-init g c = run-begins c.args.limit c.args.self.now
