@@ -163,7 +163,7 @@ sets-unseen : (kind : Kind) (p q : Program) → Sets kind p q → Sets kind (uns
 sets-unseen Kind.SetBreakpoints p q h = ap unseen h
 sets-unseen Kind.SetDataBreakpoints p q h = ap unseen h
 sets-unseen Kind.SetExceptionBreakpoints p q h = ap unseen h
-sets-unseen Kind.Terminate p q h = ap unseen h
+sets-unseen Kind.Terminate p q h = elim h [ inl ended ↦ inl (ap unseen ended) | inr same ↦ inr (ap unseen same) ]
 sets-unseen Kind.ConfigurationDone p q h = record { same = ap unseen h.same; debugged = h.debugged }
 sets-unseen _ p q h = ap unseen h
 
@@ -375,6 +375,30 @@ pub goes_launched : (x y : Option Launched) (request : Request) (a b : Answer) (
     (kept : Launched) × (y ≡ Some kept) × (kept.desk ≡ desk) → Goes x request a b y
 goes_launched x y request a b desk none launches begun h =
     goes_new x y h.0 request a b none h.1 launches (subst (λ (d : AtDesk). IsBegun d) (sym h.2) begun)
+
+-- what is refused changes nothing
+sets-still : (kind : Kind) (p : Program) → Sets kind p p
+sets-still Kind.SetBreakpoints p = refl
+sets-still Kind.SetDataBreakpoints p = refl
+sets-still Kind.SetExceptionBreakpoints p = refl
+sets-still Kind.Terminate p = inr refl
+sets-still Kind.ConfigurationDone p = ends_same p
+sets-still _ p = refl
+
+pub refused_goes : (x : Option Launched) (request : Request) (a b : Answer) → moves request.kind ≡ false → IsRefusal b.outcome → b.notes ≡ a.notes →
+    Goes x request a b x
+refused_goes None request a b still refused notes = tt
+refused_goes (Some l) request a b still refused notes = inr (record {
+  led = led_nowhere l.desk;
+  reads = λ reads. refl;
+  stays = λ ended. refl;
+  refused = inl refl;
+  looks = λ same typed. refl;
+  moved = λ is. let no : true ≡ false = sym is ∙ still in absurd (cc);
+  begins = λ same. inl (refused, notes, refl);
+  sets = sets-still request.kind (unseen l.program);
+  keeps = keeps_same b l.memo.seen.items;
+})
 
 -- nothing changes by a request of this kind
 pub goes_nowhere : (x y : Option Launched) (request : Request) (a b : Answer) (known : Kind) → request.kind ≡ known → moves known ≡ false →

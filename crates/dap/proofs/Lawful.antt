@@ -1,7 +1,6 @@
 -- What holds after the requests of a session.
 use Rattle.std.proofs.Common.{◌≡◌, ◌⊎◌, ◌+◌, ◌++◌, ◌∷◌, [], ℕ, List, length, Option, None, Some, false, true, inl, inr, sym, subst}
-use Rattle.std.specs.Prelude.{Ok, Err, OnOk}
-use Rattle.core.specs.declared.result.Result.{Result}
+use Rattle.std.specs.Prelude.{Ok, Err, OnOk, Result}
 use Rattle.std.specs.Io.KnownBytes.{IsAtEnd}
 use Rattle.dap_messages.specs.declared.answer.Answer.{Answer}
 use Rattle.dap_messages.specs.declared.request.Request.{Request}
@@ -33,15 +32,11 @@ session-is-led a b next (Some request ∷ heard) sent led session =
     (led-one a.launched session.0.launched request session.3.answered.empty session.3.answer led session.3.answered.goes) session.4
 session-is-led a b next (None ∷ heard) sent led session = session-is-led a b (next + 1) heard session.1 led session.2
 
--- two facts of what went well
-pub both_ok : {X E P Q : Type 0} (r : Result X E) → OnOk r P → OnOk r Q → OnOk r (P × Q)
-both_ok (Ok x) h k = (h, k)
-both_ok (Err e) h k = tt
-
--- a session with a client that has just come
-pub served : (a b : Face) (u v left : Option (List ℕ)) → a.launched ≡ None → a.over ≡ false →
-    ((after : ℕ) × Serves Comes a 1 b after u v) × ((b.over ≡ true) ⊎ IsAtEnd left) →
-    (first : Face) × (last : Face) × (after : ℕ) × (first.launched ≡ None) × (first.over ≡ false)
-    × Serves Comes first 1 last after u v
-    × ((last.over ≡ true) ⊎ IsAtEnd left)
-served a b u v left none running h = (a, b, h.0.0, none, running, h.0.1, h.1)
+-- a session with a client that has just come, which ends well
+pub served : {X E : Type 0} (r : Result X E) (a b : Face) (u v left : Option (List ℕ)) → a.launched ≡ None → a.over ≡ false →
+    OnOk r ((after : ℕ) × Serves Comes a 1 b after u v) → OnOk r ((b.over ≡ true) ⊎ IsAtEnd left) →
+    OnOk r
+    ((first : Face) × (last : Face) × (after : ℕ) × (first.launched ≡ None) × (first.over ≡ false) × Serves Comes first 1 last after u v
+    × ((last.over ≡ true) ⊎ IsAtEnd left))
+served (Ok x) a b u v left none running h k = (a, b, h.0, none, running, h.1, k)
+served (Err e) a b u v left none running h k = tt

@@ -23,12 +23,14 @@ stops_once a b d d' goes empty done h = elim h [
   | inl refused ↦ inl (refused.0, ap (λ (ns : List Note). told_by ns) (ap (λ n. n.items) refused.1 ∙ empty))
   | inr stop ↦ inr (
     stop.1.done done,
-    stop.0,
-    stop.1.effect,
-    λ full. (
-      stop.1.outputs,
-      stop.1.are,
-      (stop.1.told full).1 ∙ ap (λ (ns : List Note). told_by ns ++ (stop.1.outputs ++ Told.Stopped stop.0 ∷ [])) empty,
+    (
+      stop.0,
+      stop.1.effect,
+      λ full. (
+        stop.1.outputs,
+        stop.1.are,
+        (stop.1.told full).1 ∙ ap (λ (ns : List Note). told_by ns ++ (stop.1.outputs ++ Told.Stopped stop.0 ∷ [])) empty,
+      ),
     ),
   )
 ]

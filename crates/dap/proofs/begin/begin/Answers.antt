@@ -1,8 +1,8 @@
 use Rattle.dap.proofs.Going.{begins_only, ends_free}
 use Rattle.dap.proofs.begin.begin.Goals as goal
 
-pub returns-then-free-clause-sets : goal.returns-then-free-clause-sets
-returns-then-free-clause-sets c = ends_free c.args.launched.now.program c.if-free.true
+pub returns-then-launched-clause-sets : goal.returns-then-launched-clause-sets
+returns-then-launched-clause-sets c = ends_free c.args.launched.now.program c.if-launched.true
 
-pub returns-else-free-clause-sets : goal.returns-else-free-clause-sets
-returns-else-free-clause-sets c = begins_only c.args.launched.now.program
+pub returns-else-launched-clause-sets : goal.returns-else-launched-clause-sets
+returns-else-launched-clause-sets c = begins_only c.args.launched.now.program
