@@ -1,6 +1,6 @@
 //! Sessions over a reader and a writer of one's own, which count their failures themselves.
 
-ghost use Rattle.std.specs.Prelude.{None, []};
+ghost use Rattle.std.specs.Prelude.{◌-◌, None, [], vec_len};
 
 use crate::one::{FIVE, ONE};
 use debug_session::{CountedLines, CountedWrite, Fault, debug};
@@ -50,6 +50,9 @@ impl CountedLines for Script<'_> {
 struct Paper {
     taken: Vec<u8>,
     good: usize,
+    /// how many were taken when it was last flushed
+    sent: usize,
+    /// how many it was last asked to take
     wanted: usize,
 }
 
@@ -60,7 +63,7 @@ impl CountedWrite for Paper {
 
     ghost tries = { λ _. 0 };
 
-    ghost unsent = { λ _. 0 };
+    ghost unsent = { λ paper. vec_len paper.taken - paper.sent };
 
     ghost wanted = { λ paper. paper.wanted };
 
@@ -73,6 +76,7 @@ impl CountedWrite for Paper {
     }
 
     fn flush_out(&mut self) -> Result<(), WriteFailed> {
+        self.sent = self.taken.len();
         Ok(())
     }
 }
@@ -94,15 +98,20 @@ fn ended<'a>(
 fn a_session_is_over_any_devices(rt: HostRuntime) -> Result<(), Fail> {
     let lines = b"step /0.0\nlive";
     let answers = b"step 1 meet i 5 /1.0.0 /0.0\nlive 1\n  1 meet i 5 /1.0.0 /0.0\n";
+    let first = b"step 1 meet i 5 /1.0.0 /0.0\n".len();
     for good in 0..answers.len() + 1 {
         let mut paper = Paper {
             taken: Vec::with_capacity(rt.alloc(), 256)?,
             good,
+            sent: 0,
             wanted: 0,
         };
         let (ended, _) = ended(rt.alloc(), lines, &mut paper)?;
         assert_eq!(rt; ended.is_ok(), good == answers.len());
         assert!(rt; paper.taken.as_slice() == &answers[..good]);
+        // What was written whole is flushed: the first answer, before more is read, and both at the end.
+        let begun = if good < first { 0 } else { first };
+        assert_eq!(rt; paper.sent, if ended.is_ok() { good } else { begun });
     }
     Ok(())
 }
@@ -118,6 +127,7 @@ fn behind_a_failed_write_no_line_is_taken(rt: HostRuntime) -> Result<(), Fail> {
         let mut paper = Paper {
             taken: Vec::with_capacity(rt.alloc(), 16_384)?,
             good,
+            sent: 0,
             wanted: 0,
         };
         let (ended, rest) = ended(rt.alloc(), lines.as_slice(), &mut paper)?;
