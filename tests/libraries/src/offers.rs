@@ -79,7 +79,13 @@ fn each_arm_opens_and_one_is_closed(rt: HostRuntime) -> Result<(), Fail> {
         (b"/0.0".as_slice(), OfferKind::Opens(0, 0)),
         (b"/0.0", OfferKind::Opens(2, 1)),
     ];
-    assert!(rt; offers(alloc, &tree, &[opens[0], opens[1], around[0], around[1], around[2]])?);
+    assert!(rt;
+        offers(
+            alloc,
+            &tree,
+            &[opens[0], opens[1], around[0], around[1], around[2]]
+        )?
+    );
     advance(alloc, &mut tree, b"/3.0.0", Ask::Hold)?;
     let seven = Some(Value::make(7, 8));
     advance(alloc, &mut tree, b"/0.0", Ask::Open(1, seven))?;
