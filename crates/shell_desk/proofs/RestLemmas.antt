@@ -116,33 +116,30 @@ module _ (law : StaysIdle) (ends : Ends) where
   -- where nothing changed
   unmoved : (b m : AtBench) (asleep s : List Bool) → m.desk.machine ≡ b.desk.machine
       → ((i : ℕ) → IsAsleep s i → IsAsleep asleep i) → Resting ends b asleep → Resting ends m s
-  unmoved b m asleep s same only (are, rests) =
-      (
-        subst (λ (h : AtMachine). AreEnds h.checked ends) (sym same) are,
-        λ i sleeps. rests-same b m i same (rests i (only i sleeps)),
-      )
+  unmoved b m asleep s same only (are, rests) = (
+    subst (λ (h : AtMachine). AreEnds h.checked ends) (sym same) are,
+    λ i sleeps. rests-same b m i same (rests i (only i sleeps)),
+  )
 
   -- a reply to a step of a branch, and who sleeps behind it
   rests-behind : (b m : AtBench) (k : ℕ) (answer : BranchReply) (asleep s : List Bool) → Good b
       → StepsBranch b.desk.machine k (breaks_of b.desk b.session) answer m.desk.machine → m.desk.machine.checked ≡ b.desk.machine.checked
       → SleepsBehind ends m.desk.machine.checked k (branch_reply answer) asleep s → Resting ends b asleep → Resting ends m s
-  rests-behind b m k (BranchReply.Stepped t e) asleep s good (T, es, reaches, ready, (free, steps)) system behind (are, rests) =
-      (
-        subst (λ c. AreEnds c ends) (sym system) are,
-        λ i sleeps.
-            rests-stepped law ends b m.desk.machine e i good are system steps.4 (behind i sleeps).1 (rests i (behind i sleeps).0),
-      )
+  rests-behind b m k (BranchReply.Stepped t e) asleep s good (T, es, reaches, ready, (free, steps)) system behind (are, rests) = (
+    subst (λ c. AreEnds c ends) (sym system) are,
+    λ i sleeps.
+        rests-stepped law ends b m.desk.machine e i good are system steps.4 (behind i sleeps).1 (rests i (behind i sleeps).0),
+  )
   rests-behind b m k (BranchReply.Stopped line) asleep s good (T, es, reaches, ready, (kept, same)) system behind resting =
       unmoved b m asleep s same behind resting
-  rests-behind b m k BranchReply.Idle asleep s good (T, es, reaches, ready, (none, same)) system behind (are, rests) =
-      (
-        subst (λ (h : AtMachine). AreEnds h.checked ends) (sym same) are,
-        λ i sleeps. elim (behind i sleeps) [
-          | inl old ↦ rests-same b m i same (rests i old)
-          | inr is ↦ rests-same b m i same
-              (subst (λ (n : ℕ). Rests b n) (sym is) (rests-asked b k m.desk.machine good.0 (T, es, reaches, ready, (none, same))))
-        ],
-      )
+  rests-behind b m k BranchReply.Idle asleep s good (T, es, reaches, ready, (none, same)) system behind (are, rests) = (
+    subst (λ (h : AtMachine). AreEnds h.checked ends) (sym same) are,
+    λ i sleeps. elim (behind i sleeps) [
+      | inl old ↦ rests-same b m i same (rests i old)
+      | inr is ↦ rests-same b m i same
+          (subst (λ (n : ℕ). Rests b n) (sym is) (rests-asked b k m.desk.machine good.0 (T, es, reaches, ready, (none, same))))
+    ],
+  )
   rests-behind b m k (BranchReply.Refused why) asleep s good (T, es, reaches, ready, (first, same)) system behind resting =
       unmoved b m asleep s same behind resting
 
@@ -176,11 +173,10 @@ module _ (law : StaysIdle) (ends : Ends) where
   -- a turn of those that are awake is one of all
   in-turn : (count left k : ℕ) (b b' : AtBench) (asleep asleep' : List Bool) (reply : Reply) → Good b → Resting ends b asleep
       → AwakeInTurn ends count b asleep left k reply b' asleep' → InTurn count b left k reply b' × Resting ends b' asleep'
-  in-turn count zero k b b' asleep asleep' reply good resting (is, same, alike) =
-      (
-        (is, same),
-        subst (λ (c : AtBench). Resting ends c asleep') (sym same) (subst (λ (s : List Bool). Resting ends b s) (sym alike) resting),
-      )
+  in-turn count zero k b b' asleep asleep' reply good resting (is, same, alike) = (
+    (is, same),
+    subst (λ (c : AtBench). Resting ends c asleep') (sym same) (subst (λ (s : List Bool). Resting ends b s) (sym alike) resting),
+  )
   in-turn count (suc left) k b b' asleep asleep' reply good resting (inl (sleeps, more)) =
       let rest = in-turn count left (next_of count k) b b' asleep asleep' reply good resting more in
       ((Reply.Idle, b, asked-idle b k good (resting.1 k sleeps), rest.0), rest.1)
@@ -197,14 +193,12 @@ module _ (law : StaysIdle) (ends : Ends) where
           → InTurn count m left (next_of count k) reply b' × Resting ends b' asleep')
           → ((q : Reply) × (n : AtBench) × Asked b (Command.Branch k) q n
           × MatchBool (is_busy q) ((reply ≡ q) × (b' ≡ n)) (InTurn count n left (next_of count k) reply b')) × Resting ends b' asleep'
-      by-busy true is (told, same, alike) go-on =
-          (
-            (r, m, asked, subst (λ (t : Bool). MatchBool t ((reply ≡ r) × (b' ≡ m)) (InTurn count m left (next_of count k) reply b')) (sym is) (told, same)),
-            subst (λ (c : AtBench). Resting ends c asleep') (sym same) (subst (λ (u : List Bool). Resting ends m u) (sym alike) now),
-          )
+      by-busy true is (told, same, alike) go-on = (
+        (r, m, asked, subst (λ (t : Bool). MatchBool t ((reply ≡ r) × (b' ≡ m)) (InTurn count m left (next_of count k) reply b')) (sym is) (told, same)),
+        subst (λ (c : AtBench). Resting ends c asleep') (sym same) (subst (λ (u : List Bool). Resting ends m u) (sym alike) now),
+      )
       by-busy false is more go-on =
-          let rest = go-on is more in
-          (
+          let rest = go-on is more in (
             (r, m, asked, subst (λ (t : Bool). MatchBool t ((reply ≡ r) × (b' ≡ m)) (InTurn count m left (next_of count k) reply b')) (sym is) rest.0),
             rest.1,
           )

@@ -72,11 +72,13 @@ pub each-more : (all : List ℕ) (n x : ℕ) (before between after : List Bool) 
     → Kept all (drop n all) before between → SleepBut x between after → Kept all (drop (n + 1) all) before after
 each-more all n x before between after less is kept but i h =
     let one : IsAsleep between i × (i ≢ x) = but i h in
-    let old = kept i one.0 in
-    (old.0, λ among. elim (subst (λ (rest : List ℕ). In i rest) (drop_more all n 0 less) (old.1 among)) [
-      | inl e ↦ absurd (one.1 (e ∙ sym is))
-      | inr more ↦ more
-    ])
+    let old = kept i one.0 in (
+      old.0,
+      λ among. elim (subst (λ (rest : List ℕ). In i rest) (drop_more all n 0 less) (old.1 among)) [
+        | inl e ↦ absurd (one.1 (e ∙ sym is))
+        | inr more ↦ more
+      ],
+    )
 
 pub each-ends : (all : List ℕ) (n : ℕ) (before after : List Bool) → length all ≤ n → Kept all (drop n all) before after
     → SleepButThese all before after
@@ -97,29 +99,35 @@ pub faced-more : (acting : List (List ℕ)) (all : List ℕ) (n x : ℕ) (woken 
     → SleepButThese woken between after → KeptOn acting all (drop (n + 1) all) before after
 faced-more acting all n x woken before between after less is on kept but i h =
     let one : IsAsleep between i × (In i woken → ⊥) = but i h in
-    let old = kept i one.0 in
-    (old.0, λ c among acts. elim (subst (λ (rest : List ℕ). In c rest) (drop_more all n 0 less) (old.1 c among acts)) [
-      | inl e ↦ absurd (one.1 (subst (λ (is : List ℕ). In i is) (sym on) (subst (λ (d : ℕ). ActsOn acting d i) (e ∙ sym is) acts)))
-      | inr more ↦ more
-    ])
+    let old = kept i one.0 in (
+      old.0,
+      λ c among acts. elim (subst (λ (rest : List ℕ). In c rest) (drop_more all n 0 less) (old.1 c among acts)) [
+        | inl e ↦ absurd (one.1 (subst (λ (is : List ℕ). In i is) (sym on) (subst (λ (d : ℕ). ActsOn acting d i) (e ∙ sym is) acts)))
+        | inr more ↦ more
+      ],
+    )
 
 pub faced-ends : (ends : Ends) (j n : ℕ) (all : List ℕ) (before after : List Bool) → all ≡ list_at ends.offers.items j → length all ≤ n
     → KeptOn ends.used.acting.items all (drop n all) before after → SleepButFaced ends j before after
 faced-ends ends j n all before after is past kept i h =
-    let old = kept i h in
-    (old.0, λ faced. subst (λ (rest : List ℕ). In faced.0 rest) (drop_all n all past)
-    (old.1 faced.0 (subst (λ (cs : List ℕ). In faced.0 cs) (sym is) faced.1) faced.2))
+    let old = kept i h in (
+      old.0,
+      λ faced. subst (λ (rest : List ℕ). In faced.0 rest) (drop_all n all past)
+          (old.1 faced.0 (subst (λ (cs : List ℕ). In faced.0 cs) (sym is) faced.1) faced.2),
+    )
 
 -- ---- at a place
 pub wakes-at : (system : System) (ends : Ends) (a : Place) (j : ℕ) (before between after : List Bool) → branch_at system a ≡ Some j
     → SleepBut j before between → SleepButFaced ends j between after → SleepBehindPlaces system ends (a ∷ []) before after
 wakes-at system ends a j before between after is one faced i h =
     let later = faced i h in
-    let sooner = one i later.0 in
-    (sooner.0, λ b among. elim among [
-      | inl same ↦ (j, ap (branch_at system) same ∙ is, sooner.1, later.1)
-      | inr bad ↦ absurd bad
-    ])
+    let sooner = one i later.0 in (
+      sooner.0,
+      λ b among. elim among [
+        | inl same ↦ (j, ap (branch_at system) same ∙ is, sooner.1, later.1)
+        | inr bad ↦ absurd bad
+      ],
+    )
 
 pub all-woken : (system : System) (ends : Ends) (reached : List Place) (before after : List Bool) → NoneSleeps after
     → SleepBehindPlaces system ends reached before after
