@@ -59,7 +59,7 @@ const LINES: [(&[u8], &[u8], &[u8]); 29] = [
     (
         b"why 2\n",
         b"",
-        b"  step 1 (received 5 from i into x, line 1)\n  step 2 (sent 5 to o, line 1), after step 1\n",
+        b"  step 1 (received 5 from i into x, line 1)\n  step 2 (sent 5 to o, line 1), from x = 5 of step 1\n",
     ),
     (b"vars\n", b"", b"  x = 5\n"),
     (
