@@ -124,10 +124,10 @@ fn is_terminal<R: fs::Files + AllocGlobal>(rt: &R, stream: &str) -> bool {
 
 /// Answers a person who steps the description in these files, from the end of a trace where one is named.
 /// Standard input is what `reader` reads.
-pub fn shell_files<R: fs::Files + AllocGlobal + Clock + Eprint, F: Files, I: Read, O: Write>(
-    rt: &R,
+pub fn shell_files<'a, R: fs::Files + AllocGlobal + Clock + Eprint, F: Files, I: Read, O: Write>(
+    rt: &'a R,
     files: &F,
-    start: &Start<'_>,
+    start: &Start<'a>,
     reader: &mut Counted<BufReader<I>>,
     out: &mut Counted<O>,
     texts: &mut Texts,
