@@ -147,7 +147,7 @@ const LINES: [(&[u8], &[u8], &[u8]); 29] = [
 struct Shelf;
 
 impl Host for Shelf {
-    ghost holds = { λ _ _ _. Unit {0} };
+    ghost files = { λ _. record { holds = λ _ _. Unit {0}; free = λ _. Unit {0} } };
 
     fn read(&self, alloc: Global, name: &str) -> Result<Vec<u8>, FileFault> {
         let text = match name {
@@ -197,7 +197,7 @@ struct Patient {
 }
 
 impl Host for Patient {
-    ghost holds = { λ _ _ _. Unit {0} };
+    ghost files = { λ _. record { holds = λ _ _. Unit {0}; free = λ _. Unit {0} } };
 
     fn read(&self, _alloc: Global, _name: &str) -> Result<Vec<u8>, FileFault> {
         Err(FileFault::Missing)
