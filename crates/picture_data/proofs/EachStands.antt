@@ -1,10 +1,10 @@
 -- Where events stand, one behind another.
-use Rattle.std.proofs.Common.{◌≡◌, ◌∙◌, ℕ, suc, ◌+◌, ◌<◌, List, [], ◌∷◌, ◌++◌, length, get_or, take, Some, add-one, refl, sym, ap, subst}
+use Rattle.std.proofs.Common.{◌≡◌, ◌∙◌, ℕ, suc, ◌+◌, ◌<◌, List, [], ◌∷◌, ◌++◌, length, get_or, take, Some, add-one, refl, sym, ap, subst, arith}
 use Rattle.std.specs.Prelude.{slice_get}
 use Rattle.std.proofs.lemmas.Option.{slice_get-get_or}
 use Rattle.runs.specs.Live.{Live, events}
 use Rattle.runs.specs.declared.event.Event.{Event}
-use Rattle.dependence.proofs.public.ListPlaces.{take-next}
+use Rattle.dependence.proofs.public.ListPlaces.{take-all, take-next}
 use Rattle.machine.specs.AtMachine.{AtMachine}
 use Rattle.picture_data.specs.declared.lane.Lane.{Lane}
 use Rattle.picture_data.specs.declared.actions.Actions.{Actions}
@@ -37,9 +37,17 @@ next-stands m lanes es i e ss new s less here each one is =
     (one-more-stands m lanes (take i es) e ss s each one))
 
 pub next-live-stands : (m : AtMachine) (lanes : List Lane) (l : Live) (i : ℕ) (x : ℕ × Event) (ss new : List Actions) (s : Actions) →
-    i < length l → x ≡ get_or l i x → EachStandsIn m lanes (events (take i l)) ss → StandsIn m lanes x.1 s → new ≡ ss ++ s ∷ [] →
+    slice_get l i ≡ Some x → EachStandsIn m lanes (events (take i l)) ss → StandsIn m lanes x.1 s → new ≡ ss ++ s ∷ [] →
     EachStandsIn m lanes (events (take (i + 1) l)) new
-next-live-stands m lanes l i x ss new s less here each one is =
-    subst (λ (xs : List Event). EachStandsIn m lanes xs new) (sym (ap events (one-more l i x less here) ∙ events-more (take i l) x))
+next-live-stands m lanes l i x ss new s at each one is =
+    let more : take (i + 1) l ≡ take i l ++ x ∷ [] = ap (λ (k : ℕ). take k l) (add-one i) ∙ take-next l i x at in
+    subst (λ (xs : List Event). EachStandsIn m lanes xs new) (sym (ap events more ∙ events-more (take i l) x))
     (subst (λ (ns : List Actions). EachStandsIn m lanes (events (take i l) ++ x.1 ∷ []) ns) (sym is)
     (one-more-stands m lanes (events (take i l)) x.1 ss s each one))
+
+-- once none is left all stand there
+pub all-stand : (m : AtMachine) (lanes : List Lane) (k l : Live) (i : ℕ) (ss : List Actions) → k ≡ l → i ≡ length k →
+    EachStandsIn m lanes (events (take i k)) ss → EachStandsIn m lanes (events l) ss
+all-stand m lanes k l i ss same all each =
+    let whole : take i k ≡ l = take-all k i (omega (arith, all)) ∙ same in
+    subst (λ (xs : Live). EachStandsIn m lanes (events xs) ss) whole each

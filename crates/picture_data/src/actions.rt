@@ -89,10 +89,10 @@ pub(crate) fn live_actions(
     ensures { IfOk result (λ actions.
         EachStandsIn machine.now table.now.lanes.items (events machine.now.live) actions.items) }
 {
-    let live = machine.live_events().as_slice();
+    let live = machine.live_events();
     let mut actions = Vec::with_capacity(alloc, live.len())?;
-    for entry in live {
-        actions.push(actions_of(alloc, machine, table, entry.1.get())?)?;
+    for (_, event) in live.iter() {
+        actions.push(actions_of(alloc, machine, table, event)?)?;
     }
     Ok(actions)
 }

@@ -59,12 +59,12 @@ fn all_since(
     standing: &mut Standing,
 ) -> Result<Vec<(usize, usize)>, AllocError> {
     let mut since = Vec::with_capacity(alloc, live.len())?;
-    for (index, entry) in live.as_slice().iter().enumerate() {
+    for (index, (_, event)) in live.iter().enumerate() {
         let depth = match depths.get(index) {
             Some(depth) => *depth,
             None => 0,
         };
-        since.push(since_of(entry.1.get(), depth, standing)?)?;
+        since.push(since_of(event, depth, standing)?)?;
     }
     Ok(since)
 }
