@@ -21,5 +21,5 @@ mod unreached;
 mod whole;
 
 pub use laws::{last_comes_behind, least_is_follower, no_new_follower, reached_through_followers};
-pub use live::{Live, LiveEvent};
+pub use live::Live;
 pub use live_events::LiveEvents;

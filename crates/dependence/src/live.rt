@@ -27,7 +27,7 @@ use syntax::Boxed;
 
 /// A live event with its ticket. The event stands on the heap, so that little moves where one is taken out from the
 /// middle.
-pub type LiveEvent = (u64, Boxed<Event>);
+pub(crate) type LiveEvent = (u64, Boxed<Event>);
 
 /// The live events of an execution with their tickets, in order of tickets, the followers of each, and marks.
 #[derive(Drop)]
@@ -92,13 +92,6 @@ impl Live {
         ensures fits { length result < 2 ^ 64 }
     {
         LiveEvents::of(self.pairs.as_slice())
-    }
-
-    /// The live events with their tickets, in order of tickets, as they stand.
-    pub fn as_slice(&self) -> &[LiveEvent]
-        ensures { result.now ≡ self.now.live }
-    {
-        self.pairs.as_slice()
     }
 
     /// The index, counted from 0 in order of tickets, of the live event of this ticket.
