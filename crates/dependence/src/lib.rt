@@ -3,15 +3,16 @@
 
 mod accesses;
 mod acting_event;
-mod boxed_links;
 mod consequences;
 mod count;
 mod entries;
 mod indexes;
+mod kept;
 mod laws;
 mod links;
 mod live;
 mod live_events;
+mod live_list;
 mod marks;
 mod puts;
 mod tables;
