@@ -33,6 +33,10 @@ NoneOf {X} ps t = (x : X) → In (t, x) (filled ps) → ⊥
 abbrev pub IsOf : {X : Type 0} → Places X → ℕ → ℕ → Type 0
 IsOf {X} ps t place = (x : X) × (slice_get ps place ≡ Some (t, Some x))
 
+-- an item is at this place
+abbrev pub HasItem : {X : Type 0} → Places X → ℕ → Type 0
+HasItem {X} ps place = (t : ℕ) × (x : X) × (slice_get ps place ≡ Some (t, Some x))
+
 -- at this place is the item at this index of those that are there
 pub record StandsFor {X : Type 0} (ps : Places X) (index place : ℕ) : Type 0 where
   pub ticket : ℕ

@@ -1,6 +1,6 @@
 // From an index among the items that are there to its place, and back.
 ghost use Rattle.std.specs.Prelude.{◌≡◌, ◌+◌, ◌*◌, ◌<◌, ◌≤◌, length};
-ghost use Rattle.slots.specs.Places.{filled, rank, Counted, StandsFor};
+ghost use Rattle.slots.specs.Places.{filled, rank, Counted, StandsFor, HasItem};
 
 use crate::tickets::Slots;
 
@@ -47,14 +47,26 @@ fn place_from<T>(slots: &Slots<T>, start: usize, before: usize) -> usize
 {
     let mut left = before;
     for place in start..slots.len() {
-        if slots[place].is_some() {
-            if left == 0 {
-                return place;
-            }
-            left -= 1;
+        let here = items_at(slots, place);
+        if left < here {
+            return place;
         }
+        left -= here;
     }
     unreachable!()
+}
+
+/// How many items are at this place, one or none.
+fn items_at<T>(slots: &Slots<T>, place: usize) -> usize
+    requires { place < length slots.now.entries }
+    ensures next { rank slots.now.entries (place + 1) ≡ rank slots.now.entries place + result }
+    ensures most { result ≤ 1 }
+    ensures item { 0 < result → HasItem slots.now.entries place }
+{
+    match &slots[place] {
+        Some(_) => 1,
+        None => 0,
+    }
 }
 
 /// How many items are there before this place; there are `count` in all. It takes as long as `place_at`.
@@ -93,11 +105,11 @@ fn between<T>(slots: &Slots<T>, start: usize, end: usize) -> usize
     requires within { end ≤ length slots.now.entries }
     ensures { rank slots.now.entries start + result ≡ rank slots.now.entries end }
 {
+    // The length is what says that the sum fits.
+    let _len = slots.len();
     let mut sum = 0;
     for place in start..end {
-        if slots[place].is_some() {
-            sum += 1;
-        }
+        sum += items_at(slots, place);
     }
     sum
 }

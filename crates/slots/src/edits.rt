@@ -3,7 +3,7 @@ ghost use Rattle.std.specs.Prelude.{◌≡◌, ◌+◌, ◌-◌, ◌*◌, ◌<�
 ghost use Rattle.syntax.specs.Lists.{In};
 ghost use Rattle.std.specs.List.{remove};
 ghost use Rattle.indexmap.specs.IndexMap.{spare};
-ghost use Rattle.slots.specs.Places.{filled, rank, Counted, RiseFrom, EndsFilled, EndsEmpty};
+ghost use Rattle.slots.specs.Places.{filled, rank, Counted, RiseFrom, EndsFilled, EndsEmpty, HasItem};
 
 use crate::blocks::BLOCK;
 use crate::tickets::Slots;
@@ -42,7 +42,7 @@ pub fn push<T: Drop>(slots: &mut Slots<T>, counts: &mut [u8], ticket: u64, item:
 /// Takes the item at this place out, which leaves the place empty.
 pub fn take_at<T>(slots: &mut Slots<T>, counts: &mut [u8], place: usize) -> T
     requires counted { Counted slots.old.entries counts.old }
-    requires here { (t : ℕ) × (x : T) × (slice_get slots.old.entries place ≡ Some (t, Some x)) }
+    requires here { HasItem slots.old.entries place }
     ensures filled { filled slots.new.entries ≡ remove (filled slots.old.entries) (rank slots.old.entries place) }
     ensures counted { Counted slots.new.entries counts.new }
     ensures rising { RiseFrom 0 slots.old.entries → RiseFrom 0 slots.new.entries }
@@ -69,7 +69,8 @@ pub fn cut_end<T: Drop>(slots: &mut Slots<T>, counts: &[u8])
     ensures room { spare slots.old ≤ spare slots.new }
 {
     while ends_empty(slots) {
-        slots.pop();
+        let last = slots.len() - 1;
+        slots.truncate(last);
     }
 }
 
@@ -110,8 +111,15 @@ fn count_all(counts: &mut [u8], len: usize)
 {
     let mut left = len;
     for number in 0..counts.len() {
-        let here = if left < BLOCK { left } else { BLOCK };
+        let here = within_block(left);
         counts[number] = here as u8;
         left -= here;
     }
+}
+
+/// How many of so many items one block takes.
+fn within_block(left: usize) -> usize
+    ensures { ((left < 64) × (result ≡ left)) ⊎ ((64 ≤ left) × (result ≡ 64)) }
+{
+    if left < BLOCK { left } else { BLOCK }
 }

@@ -159,11 +159,10 @@ counted-wider ps counts more is c = subst (λ (k : List ℕ). Counted ps k) (sym
     zero-there (m ∷ ns) (suc i) n h e = let less : length ns ≤ i = omega arith in zero-there ns i n less e
 
 -- ---- no place is empty any more
-pub is_filled : {X : Type 0} → ℕ × Option X → Bool
+abbrev pub is_filled : {X : Type 0} → ℕ × Option X → Bool
 is_filled p = is_some p.1
 
 pub filled-kept : {X : Type 0} (ps : Places X) → filled (filter is_filled ps) ≡ filled ps
-unfolding is_filled
 filled-kept [] = refl
 filled-kept (p ∷ ps) = by p.0 p.1 (filled-kept ps)
   where
@@ -172,7 +171,6 @@ filled-kept (p ∷ ps) = by p.0 p.1 (filled-kept ps)
     by t (Some x) rest = ap (λ k. (t, x) ∷ k) rest
 
 pub full-kept : {X : Type 0} (ps : Places X) → length (filled (filter is_filled ps)) ≡ length (filter is_filled ps)
-unfolding is_filled
 full-kept [] = refl
 full-kept (p ∷ ps) = by p.0 p.1 (full-kept ps)
   where
@@ -186,7 +184,6 @@ rise-lower low high [] h r = tt
 rise-lower low high (p ∷ ps) h r = let first = r.0 in (omega arith, r.1)
 
 pub rise-kept : {X : Type 0} (low : ℕ) (ps : Places X) → RiseFrom low ps → RiseFrom low (filter is_filled ps)
-unfolding is_filled
 rise-kept low [] r = tt
 rise-kept low (p ∷ ps) r = by p.0 p.1 r.0 (rise-kept (suc p.0) ps r.1)
   where
@@ -195,7 +192,6 @@ rise-kept low (p ∷ ps) r = by p.0 p.1 r.0 (rise-kept (suc p.0) ps r.1)
     by t (Some x) first rest = (first, rest)
 
 pub none-empty : {X : Type 0} (ps : Places X) (i t : ℕ) → slice_get (filter is_filled ps) i ≡ Some (t, None) → ⊥
-unfolding is_filled
 none-empty [] i t h = none-some (t, None) h
 none-empty (p ∷ ps) i t h = by p.0 p.1 i h (λ j e. none-empty ps j t e)
   where

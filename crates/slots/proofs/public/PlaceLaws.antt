@@ -2,7 +2,7 @@
 use Rattle.std.proofs.Common.{◌≡◌, Bool, true, false, cond, nat_eq, ℕ, zero, suc, ◌+◌, ◌-◌, ◌*◌, ◌<◌, ◌≤◌, List, [], ◌∷◌, ◌++◌, length, take, drop, Option, Some, None, refl, sym, ap, subst, ◌∙◌, inl, inr, arith, length-append}
 use Rattle.std.proofs.lemmas.Bool.{cases_lt}
 use Rattle.std.proofs.lemmas.Bool.Decides.{nat_tests}
-use Rattle.std.specs.Map.{lookup, lookup_key}
+use Rattle.std.specs.Map.{lookup, lookup_key, values_of}
 use Rattle.std.specs.Prelude.{slice_get, slice_set, is_some, ◌⊎◌}
 use Rattle.std.specs.List.{remove}
 use Rattle.std.proofs.lemmas.Option.{slice_get_within}
@@ -342,3 +342,25 @@ pub at-within : {X : Type 0} (l : List X) (i : ℕ) → i < length l → (x : X)
 at-within [] i h = absurd (omega arith)
 at-within (y ∷ l) zero h = (y, refl)
 at-within (y ∷ l) (suc i) h = let less : i < length l = omega arith in at-within l i less
+
+-- the value at an index of a map is that of its entry
+pub value-at : {X : Type 0} (ps : Places X) (i : ℕ) (o : Option X) → slice_get (values_of ps) i ≡ Some o → (t : ℕ) × (slice_get ps i ≡ Some (t, o))
+value-at [] i o h = none-some o h
+value-at (p ∷ ps) zero o h = (p.0, ap (λ (v : Option _). Some (p.0, v)) (some-is p.1 o h))
+value-at (p ∷ ps) (suc i) o h = value-at ps i o h
+
+-- a ticket behind all is not found
+pub above-absent : {X : Type 0} (t : ℕ) (ps : Places X) → ((u : ℕ) (o : Option X) → In (u, o) ps → u < t) → lookup (λ k. nat_eq t k) ps ≡ None
+above-absent t [] h = refl
+above-absent t (p ∷ ps) h = by (nat_eq t p.0) refl (above-absent t ps (λ u o i. h u o (inr i)))
+  where
+    by : (b : Bool) → nat_eq t p.0 ≡ b → lookup (λ k. nat_eq t k) ps ≡ None → cond (nat_eq t p.0) (Some p.1) (lookup (λ k. nat_eq t k) ps) ≡ None
+    by true same rest = let less : p.0 < t = h p.0 p.1 (inl refl) in absurd (grind (arith, nat_tests))
+    by false other rest = ap (λ (b : Bool). cond b (Some p.1) (lookup (λ k. nat_eq t k) ps)) other ∙ rest
+
+-- all but the last, and the last
+pub last-cut : {X : Type 0} (ps : Places X) (i : ℕ) (p : ℕ × Option X) → suc i ≡ length ps → slice_get ps i ≡ Some p → ps ≡ take i ps ++ p ∷ []
+last-cut [] i p last h = none-some p h
+last-cut (q ∷ []) zero p last h = ap (λ (z : ℕ × Option _). z ∷ []) (some-is q p h)
+last-cut (q ∷ (r ∷ ps)) zero p last h = absurd (omega arith)
+last-cut (q ∷ ps) (suc i) p last h = let less : suc i ≡ length ps = omega arith in ap (λ k. q ∷ k) (last-cut ps i p less h)

@@ -7,7 +7,7 @@ use Rattle.dependence.proofs.acting_event.event_of.Goals as goal
 
 pub returns : goal.returns
 returns c =
-    let l = c.args.live.now in
+    let l = c.args.list.now.live in
     let index = c.index_of_live-index.result in
     let at = c.index_of_live-index.ensures in
     subst (λ (e : Event). LiveAt l c.args.ticket e)

@@ -7,14 +7,14 @@ use Rattle.dependence.proofs.consequences.tickets_from.Goals as goal
 
 pub copy_each-requires : goal.copy_each-requires
 copy_each-requires c =
-    let l : Live = c.args.live.now in
+    let l : Live = c.args.list.now.live in
     let same_length : length (take (length l - c.args.base) (drop c.args.base l)) ≡ length (drop c.args.base l) = ap length (take_rest l c.args.base) in
     let all : c.args.base + length c.args.marks.now ≡ length l = c.requires.size in
     omega (arith, length-drop c.args.base l)
 
 pub returns : goal.returns
 returns c =
-    let l : Live = c.args.live.now in
+    let l : Live = c.args.list.now.live in
     let ms : List Bool = c.mark_dependents.new.marks in
     let left : tickets_marked (take (length l - c.args.base) (drop c.args.base l)) ms ≡ tickets_marked (drop c.args.base l) ms =
     ap (λ (k : Live). tickets_marked k ms) (take_rest l c.args.base) in

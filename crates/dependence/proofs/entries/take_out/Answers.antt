@@ -11,7 +11,7 @@ use Rattle.dependence.proofs.entries.take_out.Goals as goal
 pub unlink_all-requires : goal.unlink_all-requires
 unlink_all-requires c =
     let taken =
-    taken-at c.args.pairs.now.items c.as_slice.result.now c.args.links.now.items c.as_mut_slice.result.now c.args.index c.remove-ticket.result c.remove-taken.result
+    taken-at c.args.pairs.now.items c.as_slice.result.now c.args.list.now.links.items c.as_mut_slice.result.now c.args.index c.remove-ticket.result c.remove-taken.result
     c.as_slice-2.result.now c.requires.rising c.requires.linked c.requires.alone c.remove-ticket.ensures.value c.remove-taken.ensures.value
     (c.as_slice.ensures.value ∙ c.remove-ticket.ensures.items) (c.as_mut_slice.ensures.value ∙ c.remove-taken.ensures.items) (c.as_slice-2.ensures.value ∙ ap (λ (m : Links). m.leads.items) c.get.ensures) in
     record { rising = taken.rising; absent = taken.absent; live = taken.live; falling = taken.falling; linked = taken.linked }

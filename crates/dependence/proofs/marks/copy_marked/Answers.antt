@@ -8,7 +8,7 @@ use Rattle.dependence.proofs.marks.copy_marked.Goals as goal
 
 pub returns : goal.returns
 returns c =
-    let l : Live = c.args.live.now in
+    let l : Live = c.args.list.now.live in
     let marks : List Bool = c.args.marks.now in
     let from : ℕ = c.first_index-from.result in
     let left : tickets_marked (take (length l - from) (drop from l)) (take (length marks - from) (drop from marks)) ≡ tickets_marked l marks =

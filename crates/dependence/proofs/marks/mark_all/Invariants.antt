@@ -4,4 +4,4 @@ use Rattle.dependence.specs.internal.Marking.{MarkedAt}
 use Rattle.dependence.proofs.marks.mark_all.Given as goal
 
 abbrev pub invariant-loop-ticket : goal.invariant-loop-ticket
-invariant-loop-ticket l = (u : ℕ) → MarkedAt l.live l.marks u ↔ (MarkedAt l.live l.fn.marks u ⊎ In u (take l.ticket-index l.tickets))
+invariant-loop-ticket l = (u : ℕ) → MarkedAt l.list.live l.marks u ↔ (MarkedAt l.list.live l.fn.marks u ⊎ In u (take l.ticket-index l.tickets))

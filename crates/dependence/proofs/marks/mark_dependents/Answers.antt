@@ -16,14 +16,14 @@ use Rattle.dependence.proofs.marks.mark_dependents.Goals.{then-marks-index, else
 
 pub index_of_live-first-requires-clause-rising : goal.index_of_live-first-requires-clause-rising
 index_of_live-first-requires-clause-rising c =
-    subst (λ (k : Live). IsRising k) (sym (take_rest c.args.live.now c.args.base)) (rising-drop c.args.live.now c.args.base c.requires.rising)
+    subst (λ (k : Live). IsRising k) (sym (take_rest c.args.list.now.live c.args.base)) (rising-drop c.args.list.now.live c.args.base c.requires.rising)
 
 pub index_of_live-first-requires-clause-live : goal.index_of_live-first-requires-clause-live
-index_of_live-first-requires-clause-live c = subst (λ (k : Live). IsLive k c.args.ticket) (sym (take_rest c.args.live.now c.args.base)) c.requires.live
+index_of_live-first-requires-clause-live c = subst (λ (k : Live). IsLive k c.args.ticket) (sym (take_rest c.args.list.now.live c.args.base)) c.requires.live
 
 pub bounds-marks-first : goal.bounds-marks-first
 bounds-marks-first c =
-    let l : Live = c.args.live.now in
+    let l : Live = c.args.list.now.live in
     let at = subst (λ (k : Live). StandsAt k c.args.ticket c.index_of_live-first.result) (take_rest l c.args.base) c.index_of_live-first.ensures in
     let within : c.index_of_live-first.result < length (drop c.args.base l) = slice_get_within (drop c.args.base l) c.index_of_live-first.result _ at.1 in
     let size : c.args.base + length c.args.marks.now ≡ length l = c.requires.size in
@@ -31,7 +31,7 @@ bounds-marks-first c =
 
 pub loop-index-init : goal.loop-index-init
 loop-index-init c =
-    let l : Live = c.args.live.now in
+    let l : Live = c.args.list.now.live in
     let r = rising-drop l c.args.base c.requires.rising in
     let at = subst (λ (k : Live). StandsAt k c.args.ticket c.index_of_live-first.result) (take_rest l c.args.base) c.index_of_live-first.ensures in
     let all : c.args.base + length c.args.marks.now ≡ length l = c.requires.size in
@@ -40,23 +40,23 @@ loop-index-init c =
 
 pub mark_all-requires-clause-rising : goal.mark_all-requires-clause-rising
 mark_all-requires-clause-rising c =
-    subst (λ (k : Live). IsRising k) (sym (take_rest c.args.live.now c.args.base)) (rising-drop c.args.live.now c.args.base c.requires.rising)
+    subst (λ (k : Live). IsRising k) (sym (take_rest c.args.list.now.live c.args.base)) (rising-drop c.args.list.now.live c.args.base c.requires.rising)
 
 pub mark_all-requires-clause-live : goal.mark_all-requires-clause-live
 mark_all-requires-clause-live c = λ t i.
-    let l : Live = c.args.live.now in
+    let l : Live = c.args.list.now.live in
     let rest = take_rest l c.args.base in
     let in_rest : c.loop-index.index < length (take (length l - c.args.base) (drop c.args.base l)) = c.loop-index-test.true in
     let same_length : length (take (length l - c.args.base) (drop c.args.base l)) ≡ length (drop c.args.base l) = ap length rest in
     let less : c.args.base + c.loop-index.index < length l = omega (arith, length-drop c.args.base l) in
-    let here = linked-here l c.args.links.now (c.args.base + c.loop-index.index) c.index-links-base.result c.requires.linked less in
+    let here = linked-here l c.args.list.now.links (c.args.base + c.loop-index.index) c.index-links-base.result c.requires.linked less in
     let inside = subst (λ (k : List ℕ). In t k) (c.as_slice.ensures ∙ ap (λ (m : Links). m.followers.items) (c.get.ensures ∙ c.index-links-base.is)) i in
     subst (λ (k : Live). IsLive k t) (sym rest)
     (followers-from l c.args.base c.loop-index.index here.ticket here.event _ c.requires.rising here.stands here.followers t inside)
 
 pub loop-index-preserved : goal.loop-index-preserved
 loop-index-preserved c =
-    let l : Live = c.args.live.now in
+    let l : Live = c.args.list.now.live in
     let d : Live = drop c.args.base l in
     let rest = take_rest l c.args.base in
     let r = rising-drop l c.args.base c.requires.rising in
@@ -73,7 +73,7 @@ loop-index-preserved c =
     (elim c.if-marks-index.branch [
       | then-marks-index w ↦
           let in_all : c.args.base + index < length l = omega (arith, length-drop c.args.base l) in
-          let here = linked-here l c.args.links.now (c.args.base + index) w.index-links-base.result c.requires.linked in_all in
+          let here = linked-here l c.args.list.now.links (c.args.base + index) w.index-links-base.result c.requires.linked in_all in
           let both = subst (λ (k : Live). (u : ℕ) → MarkedAt k w.mark_all.new.marks u ↔ (MarkedAt k c.loop-index.marks u ⊎ In u w.as_slice.result.now)) rest w.mark_all.ensures in
           subst (λ (k : List Bool). MarkedBelow d l c.args.ticket (suc index) k) (sym w.marks-is)
           (pass-marked 0 r.0 d l c.args.ticket index here.ticket here.event c.loop-index.marks w.mark_all.new.marks r.1
@@ -88,7 +88,7 @@ loop-index-preserved c =
 
 pub returns : goal.returns
 returns c =
-    let l : Live = c.args.live.now in
+    let l : Live = c.args.list.now.live in
     let d : Live = drop c.args.base l in
     let same_length : length (take (length l - c.args.base) (drop c.args.base l)) ≡ length (drop c.args.base l) = ap length (take_rest l c.args.base) in
     let out_rest = c.loop-index-test.false in

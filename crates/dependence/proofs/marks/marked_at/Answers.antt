@@ -8,13 +8,13 @@ use Rattle.dependence.proofs.marks.marked_at.Goals.{else-index-marks-via-then-in
 
 pub returns-then-marks-index : goal.returns-then-marks-index
 returns-then-marks-index c =
-    subst (λ (e : Event). OneMarkedAt c.args.live.now (tickets_marked c.args.live.now c.args.marks.now) c.args.index e) (sym c.get.ensures)
-    (marked-here c.args.live.now c.args.marks.now c.args.index c.index-live-index.result c.requires.size c.if-index-marks.true c.if-marks-index.true)
+    subst (λ (e : Event). OneMarkedAt c.args.list.now.live (tickets_marked c.args.list.now.live c.args.marks.now) c.args.index e) (sym c.get.ensures)
+    (marked-here c.args.list.now.live c.args.marks.now c.args.index c.index-live-index.result c.requires.size c.if-index-marks.true c.if-marks-index.true)
 
 pub returns : goal.returns
 returns c =
     elim c.else-index-marks.branch [
       | else-index-marks-via-then-index-marks+else-marks-index w ↦
-          unmarked-here c.args.live.now c.args.marks.now c.args.index c.requires.rising c.requires.size w.if-index-marks.true w.if-marks-index.false
-      | else-index-marks-via-else-index-marks w ↦ past-marks c.args.live.now c.args.marks.now c.args.index c.requires.size w.if-index-marks.false
+          unmarked-here c.args.list.now.live c.args.marks.now c.args.index c.requires.rising c.requires.size w.if-index-marks.true w.if-marks-index.false
+      | else-index-marks-via-else-index-marks w ↦ past-marks c.args.list.now.live c.args.marks.now c.args.index c.requires.size w.if-index-marks.false
     ]

@@ -11,17 +11,17 @@ use Rattle.dependence.proofs.take.remove_marked.Goals as goal
 
 pub loop-index-init : goal.loop-index-init
 loop-index-init c =
-    let size : length c.args.marks.now ≡ length c.args.live.now = c.requires.size in
+    let size : length c.args.marks.now ≡ length c.args.list.now.live = c.requires.size in
     let first : c.unmarked_below-first.result ≤ length c.args.marks.now = c.unmarked_below-first.ensures.within in
     record {
       within = omega arith;
       from = omega arith;
-      tabled = subst (λ (k : Live). IsTabled k c.args.tables.now) (sym (none-out (length c.args.live.now) c.args.marks.now c.args.live.now (omega arith))) c.requires.tabled;
+      tabled = subst (λ (k : Live). IsTabled k c.args.tables.now) (sym (none-out (length c.args.list.now.live) c.args.marks.now c.args.list.now.live (omega arith))) c.requires.tabled;
     }
 
 pub loop-index-preserved-then-marks-index : goal.loop-index-preserved-then-marks-index
 loop-index-preserved-then-marks-index c =
-    let l : Live = c.args.live.now in
+    let l : Live = c.args.list.now.live in
     let marks : List Bool = c.args.marks.now in
     let i : ℕ = c.loop-index.index - 1 in
     let r = c.requires.rising in
@@ -48,7 +48,7 @@ loop-index-preserved-then-marks-index c =
 
 pub loop-index-preserved : goal.loop-index-preserved
 loop-index-preserved c =
-    let l : Live = c.args.live.now in
+    let l : Live = c.args.list.now.live in
     let marks : List Bool = c.args.marks.now in
     let i : ℕ = c.loop-index.index - 1 in
     let r = c.requires.rising in
@@ -73,6 +73,6 @@ returns c =
     let low : c.loop-index.index ≤ c.unmarked_below-first.result = c.loop-index-test.false in
     let high : c.unmarked_below-first.result ≤ c.loop-index.index = c.loop-index.invariant.from in
     let end : c.loop-index.index ≡ c.unmarked_below-first.result = omega arith in
-    subst (λ (ms : List Bool). IsTabled (unmarked ms c.args.live.now) c.loop-index.tables)
+    subst (λ (ms : List Bool). IsTabled (unmarked ms c.args.list.now.live) c.loop-index.tables)
     (ap (λ (n : ℕ). marked_from n c.args.marks.now) end ∙ same-from c.unmarked_below-first.result c.args.marks.now c.unmarked_below-first.ensures.none)
     c.loop-index.invariant.tabled

@@ -26,11 +26,11 @@ pub returns-clause-whole : goal.returns-clause-whole
 returns-clause-whole c =
     let l : Live = c.args.pairs.now.items in
     let marks : List Bool = c.args.marks.now.items in
-    let old : List Links = c.args.links.now.items in
+    let old : List Links = c.args.list.now.links.items in
     let new : List Links = c.unlink_marked.new.links in
-    let lent : List Links = take c.args.links.now.len (new ++ drop (length new) old) in
+    let lent : List Links = take c.args.list.now.links.len (new ++ drop (length new) old) in
     let whole : lent ≡ new =
-    take-whole new old c.args.links.now.len (c.unlink_marked.auto.links ∙ ap length c.as_mut_slice.ensures.value)
+    take-whole new old c.args.list.now.links.len (c.unlink_marked.auto.links ∙ ap length c.as_mut_slice.ensures.value)
     (sym c.as_mut_slice.ensures.len ∙ ap length c.as_mut_slice.ensures.value) in
     let both =
     unlinked-as l c.as_slice-3.result.now marks c.as_slice-4.result.now old c.as_mut_slice.result.now new c.as_slice-3.ensures.value c.as_slice-4.ensures.value

@@ -8,6 +8,6 @@ use Rattle.dependence.proofs.take.unlink_at.Given as goal
 
 abbrev pub invariant-loop-lead_index : goal.invariant-loop-lead_index
 invariant-loop-lead_index l = record {
-  thinned : AllThinned (λ (t : ℕ). In t (tickets_marked l.live l.marks)) l.initial.links l.links;
-  loose : (n : Links) → slice_get l.initial.links l.index ≡ Some n → (u : ℕ) → In u (take l.lead_index n.leads.items) → NotBehind l.live l.links l.ticket u;
+  thinned : AllThinned (λ (t : ℕ). In t (tickets_marked l.list.live l.marks)) l.initial.links l.list.links;
+  loose : (n : Links) → slice_get l.initial.links l.index ≡ Some n → (u : ℕ) → In u (take l.lead_index n.leads.items) → NotBehind l.list.live l.list.links l.ticket u;
 }

@@ -7,6 +7,6 @@ use Rattle.dependence.proofs.take.unlink_marked.Given as goal
 
 abbrev pub invariant-loop-index : goal.invariant-loop-index
 invariant-loop-index l = record {
-  thinned : AllThinned (λ (t : ℕ). In t (tickets_marked l.live l.marks)) l.initial.links l.links;
-  loose : (j : ℕ) → j < l.index → slice_get l.marks j ≡ Some true → IsLoose l.live l.initial.links l.links j;
+  thinned : AllThinned (λ (t : ℕ). In t (tickets_marked l.list.live l.marks)) l.initial.links l.list.links;
+  loose : (j : ℕ) → j < l.index → slice_get l.marks j ≡ Some true → IsLoose l.list.live l.initial.links l.list.links j;
 }

@@ -15,7 +15,7 @@ returns c =
     let at = c.index_of_live-low.ensures in
     let on = c.index_of_live-last.ensures in
     let spans =
-    span-of 0 c.requires.rising.0 c.args.live.now c.args.tickets.now c.index_of_live-low.result c.index_of_live-last.result at.0 on.0 c.requires.rising.1 c.requires.some
+    span-of 0 c.requires.rising.0 c.args.list.now.live c.args.tickets.now c.index_of_live-low.result c.index_of_live-last.result at.0 on.0 c.requires.rising.1 c.requires.some
     c.requires.ascending at.1 on.1 c.requires.live in
-    let within : c.index_of_live-last.result < length c.args.live.now = slice_get_within c.args.live.now c.index_of_live-last.result _ on.1 in
+    let within : c.index_of_live-last.result < length c.args.list.now.live = slice_get_within c.args.list.now.live c.index_of_live-last.result _ on.1 in
     record { order = omega (arith, spans.0); size = omega arith; stand = spans.1 }

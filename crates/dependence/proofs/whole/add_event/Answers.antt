@@ -26,7 +26,7 @@ push_pair-requires c =
 
 pub returns-then-is_err-clause-whole : goal.returns-then-is_err-clause-whole
 returns-then-is_err-clause-whole c =
-    whole-same c.args.pairs.now.items c.enter-entered.new.pairs.items c.args.links.now.items c.enter-entered.new.links.items c.args.marks.now.items
+    whole-same c.args.pairs.now.items c.enter-entered.new.pairs.items c.args.list.now.links.items c.enter-entered.new.links.items c.args.marks.now.items
     c.enter-entered.new.marks.items c.requires.whole
     (on-err c.enter-entered.result _ (sym c.is_err.ensures.value ∙ c.if-is_err.true) c.enter-entered.ensures.refused) c.enter-entered.ensures.pairs
     c.enter-entered.ensures.marks
@@ -59,7 +59,7 @@ returns c =
     subst (λ (e : Event). IsEntered l c.args.ticket e c.enter-entered.new.links.items c.enter-entered.new.tables) c.get.ensures
     (on-ok c.enter-entered.result _ (sym c.is_err.ensures.value ∙ c.if-is_err.false) c.enter-entered.ensures.entered) in
     record {
-      whole = whole-added l c.args.links.now.items c.enter-entered.new.links.items c.args.marks.now.items c.push_pair.new.marks.items c.push_pair.new.pairs.items
+      whole = whole-added l c.args.list.now.links.items c.enter-entered.new.links.items c.args.marks.now.items c.push_pair.new.marks.items c.push_pair.new.pairs.items
           c.args.ticket c.args.event in_it.kept c.requires.whole rising in_it.topmost in_it.falling in_it.linked pairs marks;
       tabled = tabled-added l c.push_pair.new.pairs.items c.args.tables.now c.enter-entered.new.tables c.args.ticket c.args.event c.requires.tabled rising
           c.requires.behind more in_it.has pairs;

@@ -56,7 +56,7 @@ link_new-requires c =
       falling = c.in_ok-leads.ensures.falling;
       linked = subst (λ (k : Live). PartLinked k c.args.ticket (λ (t : ℕ). In t []) c.make_room.new.links.items) (sym same)
           (subst (λ (k : List Links). PartLinked c.args.pairs.now.items c.args.ticket (λ (t : ℕ). In t []) k) (sym c.make_room.ensures.links)
-          (linked-part c.args.pairs.now.items c.args.ticket c.args.links.now.items c.requires.linked));
+          (linked-part c.args.pairs.now.items c.args.ticket c.args.list.now.links.items c.requires.linked));
       room = c.in_ok-make_room.ensures.room.1;
     }
 

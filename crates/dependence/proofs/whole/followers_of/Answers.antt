@@ -7,5 +7,5 @@ use Rattle.dependence.proofs.whole.followers_of.Goals as goal
 pub returns : goal.returns
 returns c =
     let at = c.index_of_live-index.ensures in
-    subst (λ (k : List ℕ). ListsFollowers c.args.live.now c.args.ticket k) (sym (c.as_slice.ensures ∙ ap (λ (m : Links). m.followers.items) c.get.ensures))
-    (followers-at c.args.live.now c.args.links.now c.args.ticket c.index_of_live-index.result at.0 c.index-links-index.result c.requires.linked at.1 c.index-links-index.is)
+    subst (λ (k : List ℕ). ListsFollowers c.args.list.now.live c.args.ticket k) (sym (c.as_slice.ensures ∙ ap (λ (m : Links). m.followers.items) c.get.ensures))
+    (followers-at c.args.list.now.live c.args.list.now.links c.args.ticket c.index_of_live-index.result at.0 c.index-links-index.result c.requires.linked at.1 c.index-links-index.is)

@@ -5,9 +5,9 @@ use Rattle.dependence.proofs.whole.last_writer.Goals as goal
 
 pub returns-then-writes : goal.returns-then-writes
 returns-then-writes c =
-    last-writes c.args.live.now c.args.variable c.in-Some.last.now.0 c.in-Some.last.now.1 c.requires.rising (sym c.in-Some.ensures.value) (subst (λ (e : Event). e.written ≡ Some c.args.variable) c.get.ensures (c.if-writes.ensures.0 refl))
+    last-writes c.args.list.now.live c.args.variable c.in-Some.last.now.0 c.in-Some.last.now.1 c.requires.rising (sym c.in-Some.ensures.value) (subst (λ (e : Event). e.written ≡ Some c.args.variable) c.get.ensures (c.if-writes.ensures.0 refl))
 
 pub returns : goal.returns
 returns c =
-    last-below c.args.live.now c.args.tables.now c.args.variable c.in-Some.last.now.0 c.in-Some.last.now.1 c.last-2.result c.requires.rising c.requires.tables
+    last-below c.args.list.now.live c.args.tables.now c.args.variable c.in-Some.last.now.0 c.in-Some.last.now.1 c.last-2.result c.requires.rising c.requires.tables
     (sym c.in-Some.ensures.value) (λ w. let on = c.if-writes.ensures.1 (subst (λ (e : Event). e.written ≡ Some c.args.variable) (sym c.get.ensures) w) in cc) c.last-2.ensures

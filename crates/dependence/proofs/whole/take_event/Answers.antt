@@ -30,7 +30,7 @@ returns c =
     subst (λ (k : Live). WithoutTickets (λ t. t ≡ c.args.ticket) c.args.pairs.now.items k) (sym c.take_out-event.ensures.pairs)
     (without-index 0 r.0 c.args.pairs.now.items c.args.ticket c.index_of_live-index.result at.0 r.1 at.1) in
     record {
-      whole = whole-removed c.args.pairs.now.items c.take_out-event.new.pairs.items c.args.links.now.items c.take_out-event.new.links.items c.args.marks.now.items
+      whole = whole-removed c.args.pairs.now.items c.take_out-event.new.pairs.items c.args.list.now.links.items c.take_out-event.new.links.items c.args.marks.now.items
           c.remove-2.new.self.items c.index_of_live-index.result c.requires.whole less c.take_out-event.ensures.linked c.take_out-event.ensures.pairs c.remove-2.ensures.items;
       tabled = tabled-taken r.0 c.args.pairs.now.items c.take_out-event.new.pairs.items c.args.tables.now c.remove.new.self c.args.ticket c.take_out-event.result r.1
           (c.take_out-event.ensures.event c.args.ticket at) left c.requires.tabled c.remove.ensures;

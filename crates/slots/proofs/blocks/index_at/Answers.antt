@@ -1,6 +1,6 @@
 use Rattle.std.proofs.Common.{◌≡◌, ◌∙◌, ◌+◌, ◌*◌, ◌/◌, ◌<◌, ◌≤◌, ℕ, length, refl, sym, ap, arith}
 use Rattle.slots.specs.Places.{filled, rank}
-use Rattle.slots.proofs.public.PlaceLaws.{rank-full, rank-within}
+use Rattle.slots.proofs.public.PlaceLaws.{rank-full, rank-low}
 use Rattle.slots.proofs.blocks.index_at.Goals as goal
 
 pub returns-then-count-len : goal.returns-then-count-len
@@ -15,8 +15,8 @@ pub overflow_add-result : goal.overflow_add-result
 overflow_add-result g c =
     let one = c.before_block.ensures in
     let two = c.between.ensures in
-    let within = rank-within c.args.slots.now.entries c.args.place in
-    let count = c.requires.count in
+    let low = rank-low c.args.slots.now.entries c.args.place in
+    let within = c.requires.within in
     let len = c.len.ensures.len in
     let small = c.len.ensures.small in
-    ?
+    omega arith

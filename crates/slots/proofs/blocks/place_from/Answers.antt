@@ -1,17 +1,25 @@
-use Rattle.std.proofs.Common.{◌≡◌, ◌∙◌, ◌+◌, ◌-◌, ◌<◌, ◌≤◌, ℕ, suc, length, Some, refl, sym, ap, arith}
-use Rattle.std.specs.Prelude.{slice_get}
+use Rattle.std.proofs.Common.{◌≡◌, ◌∙◌, ◌+◌, ◌-◌, ◌<◌, ◌≤◌, ℕ, length, refl, arith}
 use Rattle.slots.specs.Places.{filled, rank}
-use Rattle.slots.proofs.public.PlaceLaws.{rank-next, rank-whole, at-within, add_here, held-some, held-none}
+use Rattle.slots.proofs.public.PlaceLaws.{rank-whole}
 use Rattle.slots.proofs.blocks.place_from.Goals as goal
 
 pub loop-place-init : goal.loop-place-init
 loop-place-init g c = refl
 
-pub returns-then-left-eq0 : goal.returns-then-left-eq0
-returns-then-left-eq0 g c = ?
+pub returns-then-left-here : goal.returns-then-left-here
+returns-then-left-here g c =
+    let test = c.if-left-here.true in
+    let most = c.items_at-here.ensures.most in
+    let sum = c.loop-place.invariant in
+    let at = c.items_at-here.ensures.item (omega arith) in
+    record { ticket = at.0; item = at.1; here = at.2; before = omega arith }
 
 pub loop-place-preserved : goal.loop-place-preserved
-loop-place-preserved g c = ?
+loop-place-preserved g c =
+    let test = c.if-left-here.false in
+    let next = c.items_at-here.ensures.next in
+    let sum = c.loop-place.invariant in
+    omega arith
 
 pub unreachable-requires : goal.unreachable-requires
 unreachable-requires g c =

@@ -1,9 +1,11 @@
-use Rattle.std.proofs.Common.{◌≡◌, ◌+◌, ◌-◌, ◌*◌, ◌<◌, ◌≤◌, ◌++◌, ◌∷◌, [], ℕ, length, min, true, false, is_some, slice_get, Option, Some, OnOk}
-use Rattle.syntax.specs.Lists.{In}
-use Rattle.std.specs.List.{remove}
-use Rattle.indexmap.specs.IndexMap.{spare}
-use Rattle.slots.specs.Places.{filled, rank, Counted, RiseFrom, EndsFilled, EndsEmpty}
+use Rattle.std.proofs.Common.{◌≡◌, ◌+◌, ◌-◌, ◌*◌, ◌<◌, ◌≤◌, ℕ, Some, length}
+use Rattle.std.specs.Prelude.{◌⊎◌, slice_get}
 use Rattle.slots.proofs.edits.count_all.Given as goal
 
+-- the blocks that are passed are told
 abbrev pub invariant-loop-number : goal.invariant-loop-number
-invariant-loop-number l = ?
+invariant-loop-number l = record {
+  size : length l.counts ≡ length l.fn.counts;
+  left : l.left ≡ l.len - 64 * l.number;
+  told : (b n : ℕ) → b < l.number → slice_get l.counts b ≡ Some n → ((64 * b + 64 ≤ l.len) × (n ≡ 64)) ⊎ ((l.len < 64 * b + 64) × (n ≡ l.len - 64 * b));
+}

@@ -8,7 +8,7 @@ use Rattle.dependence.proofs.public.Tabling.{read-next}
 use Rattle.dependence.proofs.accesses.NewEvent.add_accesses.Goals as goal
 
 pub loop-ticket-init : goal.loop-ticket-init
-loop-ticket-init c = found-none c.args.self.now.live.now c.args.self.now.event.now _ c.args.found.now.items (λ t e i none. none)
+loop-ticket-init c = found-none c.args.self.now.list.now.live c.args.self.now.event.now _ c.args.found.now.items (λ t e i none. none)
 
 pub add_access-requires-clause-direct : goal.add_access-requires-clause-direct
 add_access-requires-clause-direct c = c.requires.direct _ (in-read c.args.tickets.now c.loop-ticket.ticket-index c.loop-ticket-test.true)
@@ -30,5 +30,5 @@ loop-ticket-preserved c =
 
 pub returns : goal.returns
 returns c =
-    subst (λ (k : List ℕ). AccessesFound c.args.self.now.live.now c.args.self.now.event.now (λ (t : ℕ). In t k) c.args.found.now.items c.loop-ticket.found.items)
+    subst (λ (k : List ℕ). AccessesFound c.args.self.now.list.now.live c.args.self.now.event.now (λ (t : ℕ). In t k) c.args.found.now.items c.loop-ticket.found.items)
     (take-all c.args.tickets.now c.loop-ticket.ticket-index c.loop-ticket-test.false) c.loop-ticket.invariant
