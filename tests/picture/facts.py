@@ -12,7 +12,8 @@ from reference.debugger import accept
 from reference.elaboration import System
 from reference.events import Event, depends_directly
 from reference.machine import Machine
-from reference.places import Address, is_before, text_of
+from reference.places import Address, branch, is_before, text_of
+from reference.residuals import Move, moves_of
 from reference.syntax import Parallel, children_of
 from reference.traces import load, step_line
 
@@ -76,6 +77,29 @@ def lines_of(event: Event) -> list[int]:
     return [move.command.line if move.command is not None else 0 for move in event.moves]
 
 
+ROLES = {"release": "held"} | dict.fromkeys(("assign", "turn", "test"), "go")
+
+
+def shown_place(moves: list[Move], is_ready: bool) -> list:
+    """What is shown of a place where these moves are offered: its lane, its text, its line, what stands there, and the channels."""
+    first = moves[0]
+    line = first.command.line if first.command is not None else 0
+    channels = [move.channel.number for move in moves if move.channel is not None]
+    return [lane_of(first.place), text_of(first.place), line, ROLES.get(first.kind, first.kind), channels, int(is_ready)]
+
+
+def stands(machine: Machine) -> list[list]:
+    """The places that wait, in order, and behind them those of the events that can be taken."""
+    ready, state = machine.ready(), machine.state
+    taken = {place for event in ready for place in event.places}
+    offered: dict[Address, list[Move]] = {}
+    for number, tree in enumerate(state.trees):
+        for move in moves_of(tree, branch((), number), state.store):
+            offered.setdefault(move.place, []).append(move)
+    waiting = [shown_place(offered[place], False) for place in sorted(offered) if place not in taken]
+    return waiting + [shown_place([move], True) for event in ready for move in event.moves]
+
+
 def facts(case: Case) -> dict:
     """The parts of the data that follow from the rules alone."""
     system = accept(case.source, case.stimulus)
@@ -114,6 +138,7 @@ def facts(case: Case) -> dict:
         "events": rows,
         "races": [[one, at] for at, kept in enumerate(causes) for one in kept if race(events[one], events[at])],
         "ready": [[event.text, [lane_of(place) for place in event.places], lines_of(event), step_line(event)] for event in machine.ready()],
+        "places": stands(machine),
     }
 
 
@@ -140,6 +165,7 @@ def told(data: dict) -> dict:
         "events": rows,
         "races": [race[:2] for race in data["races"]],
         "ready": [[row[0], lanes(row), row[3:3 + len(lanes(row))], row[5]] for row in data["ready"]],
+        "places": [[paths[row[0]], *row[1:4], [channel for channel, _, _ in row[4]], row[5]] for row in data["places"]],
     }
 
 

@@ -2,10 +2,10 @@
 use Rattle.std.specs.Prelude.{◌≡◌, ◌⊎◌, ℕ, List, Option, Some, None, Err, ⊤}
 use Rattle.debug_session.specs.Accepting.{IsRefused}
 use Rattle.debug_session.specs.declared.fault.Fault.{Fault}
-use Rattle.shell.specs.Lines.{Holding as Held}
+use Rattle.shell.specs.Files.{Files}
 use Rattle.shell.specs.Taken.{SessionEnds}
 use Rattle.command_line.specs.Answering.{Holding, NotHad, TextsHad, TextsNotHad}
-use Rattle.command_line.specs.Used.{Outcome, Used, IsUntouched, bytes_before, bytes_behind}
+use Rattle.command_line.specs.Used.{Outcome, ReaderBlamed, Used, IsUntouched, WriterBlamed, bytes_before, bytes_behind}
 
 -- what is kept of a trace is had where one is named
 abbrev pub TraceHad : Holding → Option (List ℕ) → List ℕ → Type 0
@@ -35,10 +35,11 @@ StartRefused holds file stimulus trace fault =
     × (IsRefused source values fault ⊎ TraceNotHad holds trace fault))
 
 -- what a file has had that a session saved or loaded: no contract says what the system's files hold
-abbrev pub any_bytes : Held
-any_bytes name bytes = ⊤
+abbrev pub any_files : Files
+any_files = record { holds = λ name bytes. ⊤; free = λ name. ⊤ }
 
--- the shell begins on the texts, and ends as it ends; or they were not had, and nothing is read or written
+-- the shell begins on the texts, and ends as it ends, with 41 or 42 only where a device failed; or they were not had,
+-- and nothing is read or written
 abbrev pub ShellsFiles : {I O : Type 0} → Holding → List ℕ → List ℕ → Option (List ℕ) → Used I → Used O → Outcome
     → Type 0
 ShellsFiles holds file stimulus trace reader out done =
@@ -46,5 +47,6 @@ ShellsFiles holds file stimulus trace reader out done =
     × IsUntouched reader × IsUntouched out)
     ⊎ ((source : List ℕ) × (values : List ℕ) × (steps : List ℕ)
     × StartHad holds file stimulus trace source values steps
-    × SessionEnds any_bytes source values (text_of trace steps) (IsUntouched reader × IsUntouched out)
-    (bytes_before reader) (bytes_behind reader) (bytes_before out) (bytes_behind out) done)
+    × SessionEnds any_files source values (text_of trace steps) (IsUntouched reader × IsUntouched out)
+    (bytes_before reader) (bytes_behind reader) (bytes_before out) (bytes_behind out) done
+    × ReaderBlamed reader done × WriterBlamed out done)

@@ -1,5 +1,9 @@
 -- What holds after the requests of a session.
-use Rattle.std.proofs.Common.{◌≡◌, ◌⊎◌, ◌+◌, ◌++◌, ◌∷◌, [], ℕ, List, length, Option, None, Some, inl, inr, sym, subst}
+use Rattle.std.proofs.Common.{◌≡◌, ◌⊎◌, ◌+◌, ◌++◌, ◌∷◌, [], ℕ, List, length, Option, None, Some, false, true, inl, inr, sym, subst}
+use Rattle.std.specs.Prelude.{Ok, Err, OnOk}
+use Rattle.core.specs.declared.result.Result.{Result}
+use Rattle.std.specs.Io.KnownBytes.{IsAtEnd}
+use Rattle.dap_messages.specs.declared.answer.Answer.{Answer}
 use Rattle.dap_messages.specs.declared.request.Request.{Request}
 use Rattle.dap_moves.proofs.public.Leading.{led_nowhere, led_on}
 use Rattle.dap_server.specs.Session.{Serves, Session}
@@ -9,12 +13,15 @@ use Rattle.dap.specs.declared.face.Face.{Face}
 use Rattle.dap.specs.declared.launch.Launched.{Launched}
 
 -- one request
-led-one : (x y : Option Launched) (request : Request) → IsLed x → Goes x request y → IsLed y
-led-one None None request led goes = tt
-led-one None (Some m) request led goes = (m.desk, goes.1, led_nowhere m.desk)
-led-one (Some l) None request led goes = absurd goes
-led-one (Some l) (Some m) request led goes = elim goes [
-  | inl anew ↦ anew.1
+led-one : (x y : Option Launched) (request : Request) (a b : Answer) → IsLed x → Goes x request a b y → IsLed y
+led-one None None request a b led goes = tt
+led-one None (Some m) request a b led goes = (m.desk, goes.1, led_nowhere m.desk)
+led-one (Some l) None request a b led goes = absurd goes
+led-one (Some l) (Some m) request a b led goes = elim goes [
+  | inl anew ↦ elim anew.1 [
+    | inl begun ↦ begun.0
+    | inr still ↦ subst (λ (n : Launched). IsLed (Some n)) (sym still.0) led
+  ]
   | inr on ↦ (led.0, led.1, led_on led.0 l.desk m.desk led.2 on.led)
 ]
 
@@ -23,10 +30,18 @@ pub session-is-led : SessionIsLed
 session-is-led a b next [] sent led session = subst (λ (f : Face). IsLed f.launched) (sym session.1) led
 session-is-led a b next (Some request ∷ heard) sent led session =
     session-is-led session.0 b (next + length session.1) heard session.2
-    (led-one a.launched session.0.launched request led session.3.answered.goes) session.4
+    (led-one a.launched session.0.launched request session.3.answered.empty session.3.answer led session.3.answered.goes) session.4
 session-is-led a b next (None ∷ heard) sent led session = session-is-led a b (next + 1) heard session.1 led session.2
 
+-- two facts of what went well
+pub both_ok : {X E P Q : Type 0} (r : Result X E) → OnOk r P → OnOk r Q → OnOk r (P × Q)
+both_ok (Ok x) h k = (h, k)
+both_ok (Err e) h k = tt
+
 -- a session with a client that has just come
-pub served : (a b : Face) (u v : Option (List ℕ)) → a.launched ≡ None → (after : ℕ) × Serves Comes a 1 b after u v
-    → (first : Face) × (last : Face) × (after : ℕ) × (first.launched ≡ None) × Serves Comes first 1 last after u v
-served a b u v none h = (a, b, h.0, none, h.1)
+pub served : (a b : Face) (u v left : Option (List ℕ)) → a.launched ≡ None → a.over ≡ false →
+    ((after : ℕ) × Serves Comes a 1 b after u v) × ((b.over ≡ true) ⊎ IsAtEnd left) →
+    (first : Face) × (last : Face) × (after : ℕ) × (first.launched ≡ None) × (first.over ≡ false)
+    × Serves Comes first 1 last after u v
+    × ((last.over ≡ true) ⊎ IsAtEnd left)
+served a b u v left none running h = (a, b, h.0.0, none, running, h.0.1, h.1)

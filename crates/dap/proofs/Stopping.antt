@@ -1,18 +1,90 @@
 -- How a run ends that begins with an empty answer.
-use Rattle.std.proofs.Common.{◌≡◌, ◌⊎◌, List, [], ◌∷◌, ◌++◌, inl, inr, ◌∙◌, ap}
-use Rattle.dap_messages.specs.Notes.{IsDone, told_by}
+use Rattle.std.proofs.Common.{◌≡◌, ◌⊎◌, ◌||◌, Bool, List, [], ◌∷◌, ◌++◌, inl, inr, ◌∙◌, ap, sym, refl, append_assoc, Option, None, Some, true, false}
+use Rattle.locked_execution.specs.AtDesk.{AtDesk}
+use Rattle.dap_messages.specs.Notes.{IsDone, IsRefusal, told_by}
 use Rattle.dap_messages.specs.declared.answer.Answer.{Answer}
 use Rattle.dap_messages.specs.declared.answer.Note.{Note}
+use Rattle.dap_messages.specs.declared.kind.Kind.{Kind}
+use Rattle.dap_messages.specs.declared.request.Request.{Request}
+use Rattle.dap_messages.specs.declared.told.Stop.{Stop}
 use Rattle.dap_messages.specs.declared.told.Told.{Told}
 use Rattle.dap_requests.specs.Said.{Runs}
-use Rattle.dap.specs.Stops.{StopsOnce}
+use Rattle.dap_server.specs.Kinds.{moves}
+use Rattle.dap.specs.Begins.{Begins}
+use Rattle.dap.specs.Goes.{Goes}
+use Rattle.dap.specs.Kinds.{ends}
+use Rattle.dap.specs.Steps.{Steps}
+use Rattle.dap.specs.Stops.{BeginsOnce, StopsOnce}
+use Rattle.dap.specs.declared.face.Face.{Face}
+use Rattle.dap.specs.declared.launch.Launched.{Launched}
 
-pub stops_once : (a b : Answer) → a.notes.items ≡ [] → IsDone a.outcome → Runs a b → StopsOnce b
-stops_once a b empty done h = elim h [
+pub stops_once : (a b : Answer) (d d' : AtDesk) (goes : Stop → Type 0) → a.notes.items ≡ [] → IsDone a.outcome → Runs a b d d' goes → StopsOnce b
+stops_once a b d d' goes empty done h = elim h [
   | inl refused ↦ inl (refused.0, ap (λ (ns : List Note). told_by ns) (ap (λ n. n.items) refused.1 ∙ empty))
   | inr stop ↦ inr (
-    stop.done done,
-    stop.effect,
-    λ full. (stop.outputs, stop.are, (stop.told full).1 ∙ ap (λ (ns : List Note). told_by ns ++ (stop.outputs ++ Told.Stopped ∷ [])) empty),
+    stop.1.done done,
+    stop.0,
+    stop.1.effect,
+    λ full. (
+      stop.1.outputs,
+      stop.1.are,
+      (stop.1.told full).1 ∙ ap (λ (ns : List Note). told_by ns ++ (stop.1.outputs ++ Told.Stopped stop.0 ∷ [])) empty,
+    ),
   )
 ]
+
+-- a program has begun
+pub begins_once : (a b : Answer) → Begins a b → BeginsOnce b
+begins_once a b h = elim h [
+  | inl stops ↦ inl (
+    stops.0,
+    record {
+      effect = stops.1.effect;
+      last = λ full. (
+        told_by a.notes.items ++ stops.1.outputs,
+        (stops.1.told full).1 ∙ sym (append_assoc (told_by a.notes.items) stops.1.outputs (Told.Stopped stops.0 ∷ [])),
+      );
+    },
+  )
+  | inr ends ↦ inr (record {
+    effect = ends.effect;
+    last = λ full. (
+      told_by a.notes.items ++ (ends.outputs ++ Told.Exited ∷ []),
+      (ends.told full).1
+          ∙ ap (λ (ts : List Told). told_by a.notes.items ++ ts) (sym (append_assoc ends.outputs (Told.Exited ∷ []) (Told.Terminated ∷ [])))
+          ∙ sym (append_assoc (told_by a.notes.items) (ends.outputs ++ Told.Exited ∷ []) (Told.Terminated ∷ [])),
+    );
+  })
+]
+
+-- a kind that moves is no other
+no-move : (kind known : Kind) → moves kind ≡ true → moves known ≡ false → kind ≡ known → ⊥
+no-move kind known is none same =
+    let no : true ≡ false = sym is ∙ ap (λ (k : Kind). moves k) same ∙ none in absurd (cc)
+
+-- a request to move stops once
+pub moves_stop : (x y : Option Launched) (request : Request) (a b : Answer) → a.notes.items ≡ [] → IsDone a.outcome → moves request.kind ≡ true →
+    Goes x request a b y → (x ≡ None → IsRefusal b.outcome × (b.notes ≡ a.notes)) → StopsOnce b
+moves_stop None y request a b empty done is goes early =
+    let it = early refl in inl (it.0, ap (λ (ns : List Note). told_by ns) (ap (λ n. n.items) it.1 ∙ empty))
+moves_stop (Some l) None request a b empty done is goes early = absurd goes
+moves_stop (Some l) (Some m) request a b empty done is goes early = elim goes [
+  | inl anew ↦ absurd (no-move request.kind Kind.Restart is refl anew.0)
+  | inr on ↦
+      stops_once a b l.desk m.desk
+      (λ (stop : Stop). Steps l.program l.memo.seen.items m.memo.seen.items l.desk request.kind request stop m.desk) empty done (on.moved is)
+]
+
+-- a request to move does not end the session
+no-end : (kind : Kind) → moves kind ≡ true → ends kind ≡ false
+no-end Kind.Disconnect is = absurd (cc)
+no-end _ is = refl
+
+or-not : (a b : Bool) → b ≡ false → (a || b) ≡ a
+or-not true b none = refl
+or-not false b none = none
+
+pub stays_over : (x h : Face) (over : Bool) (kind : Kind) → h ≡ x → over ≡ (x.over || ends kind) → moves kind ≡ true → record h { over = over } ≡ x
+stays_over x h over kind same is moving =
+    let stays : over ≡ x.over = is ∙ or-not x.over (ends kind) (no-end kind moving) in
+    λ i. record (same i) { over = stays i }

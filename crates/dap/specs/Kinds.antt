@@ -9,6 +9,11 @@ asks Kind.ConfigurationDone = true
 asks Kind.Evaluate = true
 asks _ = false
 
+-- whether it ends the session
+abbrev pub ends : Kind → Bool
+ends Kind.Disconnect = true
+ends _ = false
+
 -- whether it may change the desk
 abbrev pub changes : Kind → Bool
 changes kind = moves kind || asks kind

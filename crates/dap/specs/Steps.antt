@@ -1,43 +1,53 @@
 -- What requests that ask a thread to move do to a desk.
-use Rattle.std.specs.Prelude.{ℕ, ◌≡◌, List, Option, None, Some, codes}
+use Rattle.std.specs.Prelude.{ℕ, ◌≡◌, List, false, Option, None, Some, codes, unwrap_or}
 use Rattle.serde_json.specs.View.{view}
 use Rattle.system_places.specs.SystemBranches.{branch_count}
+use Rattle.runs.specs.declared.event.Choice.{Choice}
 use Rattle.locked_execution.specs.AtDesk.{AtDesk}
-use Rattle.dap_messages.specs.Arguments.{number_named}
+use Rattle.dap_messages.specs.Arguments.{flag_named, number_named}
 use Rattle.dap_messages.specs.declared.kind.Kind.{Kind}
 use Rattle.dap_messages.specs.declared.request.Request.{Request}
-use Rattle.dap_moves.specs.Moves.{StepsBack}
-use Rattle.dap_moves.specs.declared.back.Back.{Back}
-use Rattle.dap_requests.specs.Forth.{ForthBy, RunsBy}
+use Rattle.dap_messages.specs.declared.told.Stop.{Stop}
+use Rattle.dap_requests.specs.Back.{Backs, ReversesFor}
+use Rattle.dap_requests.specs.Forth.{RunsBy, StepsForth, alone, going_of, target_in}
 use Rattle.dap_threads.specs.Threads.{branch_named}
+use Rattle.dap_views.specs.declared.program.Program.{Program}
 
 -- the branch of the thread that the request names, if there is one
 abbrev pub thread_of : AtDesk → Request → Option ℕ
 thread_of d request =
     branch_named (branch_count d.machine.checked) (number_named (codes "threadId") (view request.arguments))
 
--- the newest live step in which a branch took part, if there is one, is asked to be undone
-abbrev pub Backward : AtDesk → Option ℕ → AtDesk → Type 0
-Backward d None d' = d' ≡ d
-Backward d (Some k) d' = (told : Back) × StepsBack d k told d'
+-- whether the request asks for one thread alone, and which
+abbrev pub only_of : Request → ℕ → Option ℕ
+only_of request k = alone k (unwrap_or (flag_named (codes "singleThread") (view request.arguments)) false)
 
--- a step that a branch can take, if there is one, is asked for: the first, or the one that `stepIn` names
-abbrev pub Forward : AtDesk → Kind → Option ℕ → AtDesk → Type 0
-Forward d kind None d' = d' ≡ d
-Forward d kind (Some k) d' = ForthBy d kind k d'
+-- the newest live step in which the branch took part is asked to be undone
+abbrev pub Backward : AtDesk → Option ℕ → Stop → AtDesk → Type 0
+Backward d None stop d' = ⊥
+Backward d (Some k) stop d' = Backs d k stop d'
 
--- a run goes on that passes none of these lines
-abbrev pub GoesOn : List ℕ → AtDesk → Option ℕ → AtDesk → Type 0
-GoesOn lines d None d' = d' ≡ d
-GoesOn lines d (Some k) d' = RunsBy lines d d'
+-- a step that the branch can take is asked for: the first, or the one that `stepIn` names
+abbrev pub Forward : AtDesk → Request → Option ℕ → Stop → AtDesk → Type 0
+Forward d request None stop d' = ⊥
+Forward d request (Some k) stop d' = StepsForth d k (target_in request) stop d'
 
--- a request acts on the branch of its thread; `lines` have a breakpoint. Of `reverseContinue` it is only said that
--- commands led there
-abbrev pub Steps : List ℕ → AtDesk → Kind → Request → AtDesk → Type 0
-Steps lines d Kind.StepBack request d' = Backward d (thread_of d request) d'
-Steps lines d Kind.Next request d' = Forward d Kind.Next (thread_of d request) d'
-Steps lines d Kind.StepIn request d' = Forward d Kind.StepIn (thread_of d request) d'
-Steps lines d Kind.StepOut request d' = Forward d Kind.StepOut (thread_of d request) d'
-Steps lines d Kind.Continue request d' = GoesOn lines d (thread_of d request) d'
-Steps lines d Kind.Pause request d' = d' ≡ d
-Steps lines d _ request d' = Unit {0}
+-- a run goes on from where the branch stands, as the program is set
+abbrev pub GoesOn : Program → List Choice → List Choice → AtDesk → Request → Option ℕ → Stop → AtDesk → Type 0
+GoesOn program before after d request None stop d' = ⊥
+GoesOn program before after d request (Some k) stop d' =
+    RunsBy (going_of program (only_of request k)) (Some k) d before stop d' after
+
+-- what a request does that is not refused, and how that went is told: a step forth or back is one of the branch of its
+-- thread, and a run begins there. `before` are the steps before which a run has stood, and `after` those that are kept
+-- in mind
+abbrev pub Steps : Program → List Choice → List Choice → AtDesk → Kind → Request → Stop → AtDesk → Type 0
+Steps program before after d Kind.StepBack request stop d' = Backward d (thread_of d request) stop d'
+Steps program before after d Kind.Next request stop d' = Forward d request (thread_of d request) stop d'
+Steps program before after d Kind.StepIn request stop d' = Forward d request (thread_of d request) stop d'
+Steps program before after d Kind.StepOut request stop d' = Forward d request (thread_of d request) stop d'
+Steps program before after d Kind.Continue request stop d' =
+    GoesOn program before after d request (thread_of d request) stop d'
+Steps program before after d Kind.ReverseContinue request stop d' = ReversesFor d request stop d'
+Steps program before after d Kind.Pause request stop d' = (stop ≡ Stop.Stands) × (d' ≡ d)
+Steps program before after d _ request stop d' = Unit {0}

@@ -1,37 +1,75 @@
 // The beginning of a program that was launched.
+ghost use Rattle.std.specs.Prelude.{◌≡◌, ◌⊎◌};
+ghost use Rattle.dap_messages.specs.Notes.{IsRefusal};
 ghost use Rattle.dap_moves.specs.Led.{Led};
+ghost use Rattle.dap_requests.specs.Said.{TellsEnd, TellsOutputs};
+ghost use Rattle.dap_requests.specs.Typed.{KeepsSome};
+ghost use Rattle.dap_views.specs.Kept.{SameButBegun};
+ghost use Rattle.dap.specs.Begins.{Begins, EndsFree};
 
+use crate::launch::Launched;
 use dap_messages::{Answer, Members, Told};
 use dap_moves::{Desk, Machine};
 use dap_requests::{run, run_free, stop};
-use dap_views::Program;
+use dap_views::{Memo, Program};
 use std::alloc::Global;
 
 /// Begins, unless it has begun already.
-#[tactic(auto, using(crate::proofs::Going::led_still))]
-pub(crate) fn begin_once(alloc: Global, desk: &mut Desk, program: &mut Program, answer: &mut Answer)
-    ensures { Led desk.old desk.new }
+#[tactic(auto, using(crate::proofs::Going::led_still, crate::proofs::Going::ends_same, crate::proofs::Going::keeps_same))]
+pub(crate) fn begin_once(alloc: Global, launched: &mut Launched, answer: &mut Answer)
+    ensures led { Led launched.old.desk launched.new.desk }
+    ensures begins { (IsRefusal answer.new.outcome × (answer.new.notes ≡ answer.old.notes)
+        × (launched.new ≡ launched.old)) ⊎ Begins answer.old answer.new }
+    ensures sets { EndsFree launched.old.program launched.new.program }
+    ensures keeps { KeepsSome answer.new launched.old.memo.seen.items launched.new.memo.seen.items }
 {
-    if program.begun {
+    if launched.program.begun {
         answer.refuse(107, "the run has begun already");
     } else {
-        begin(alloc, desk, program, answer);
+        begin(alloc, launched, answer);
     }
 }
 
 /// Begins, once the client has set what it wants to set: it stops before the first step, or goes on.
-#[tactic(auto, using(crate::proofs::Going::led_still))]
-pub(crate) fn begin(alloc: Global, desk: &mut Desk, program: &mut Program, answer: &mut Answer)
-    ensures { Led desk.old desk.new }
+#[tactic(auto, using(crate::proofs::Going::led_still, crate::proofs::Going::ends_same, crate::proofs::Going::keeps_same))]
+pub(crate) fn begin(alloc: Global, launched: &mut Launched, answer: &mut Answer)
+    ensures led { Led launched.old.desk launched.new.desk }
+    ensures begins { Begins answer.old answer.new }
+    ensures sets { EndsFree launched.old.program launched.new.program }
+    ensures keeps { KeepsSome answer.new launched.old.memo.seen.items launched.new.memo.seen.items }
 {
-    program.sight = None;
-    program.begun = true;
-    if program.launch.free {
-        begin_free(alloc, desk, program, answer);
-    } else if program.launch.stops {
+    launched.program.begun = true;
+    if launched.program.launch.free {
+        launched.program.ended = true;
+        begin_free(alloc, &mut launched.desk, &launched.program, answer);
+    } else {
+        begin_stopping(
+            alloc,
+            &mut launched.desk,
+            &launched.program,
+            &mut launched.memo,
+            answer,
+        );
+    }
+}
+
+/// Begins a run that is debugged.
+#[tactic(auto, using(crate::proofs::Going::led_still, crate::proofs::Going::ends_same, crate::proofs::Going::keeps_same))]
+fn begin_stopping(
+    alloc: Global,
+    desk: &mut Desk,
+    program: &Program,
+    memo: &mut Memo,
+    answer: &mut Answer,
+)
+    ensures led { Led desk.old desk.new }
+    ensures begins { Begins answer.old answer.new }
+    ensures keeps { KeepsSome answer.new memo.old.seen.items memo.new.seen.items }
+{
+    if program.launch.stops {
         stop(alloc, answer, "entry", 0, entry_text(desk.machine()));
     } else {
-        run(alloc, desk, program, None, None, answer);
+        run(alloc, desk, program, memo, None, None, answer);
     }
 }
 
@@ -45,11 +83,18 @@ fn entry_text(machine: &Machine) -> &'static str {
 }
 
 /// Runs to the end, and tells that it is over.
-fn begin_free(alloc: Global, desk: &mut Desk, program: &mut Program, answer: &mut Answer)
-    ensures { Led desk.old desk.new }
+fn begin_free(alloc: Global, desk: &mut Desk, program: &Program, answer: &mut Answer)
+    ensures led { Led desk.old desk.new }
+    ensures begins { Begins answer.old answer.new }
 {
     run_free(alloc, desk, program, answer);
-    program.ended = true;
+    tell_end(alloc, answer);
+}
+
+/// Tells that it is over.
+fn tell_end(alloc: Global, answer: &mut Answer)
+    ensures { TellsEnd answer.old answer.new }
+{
     let mut body = Members::new(alloc);
     body.number("exitCode", 0);
     answer.note(Told::Exited, body);

@@ -1,42 +1,55 @@
 // What is asked of a program that is launched.
-ghost use Rattle.std.specs.Prelude.{◌≡◌, true, false};
+ghost use Rattle.std.specs.Prelude.{◌≡◌, ◌&&◌, ◌||◌, true, false};
 ghost use Rattle.dap_messages.specs.Notes.{IsRefusal};
-ghost use Rattle.dap_moves.specs.Led.{Led};
-ghost use Rattle.dap_requests.specs.Said.{Runs};
+ghost use Rattle.dap_messages.specs.declared.kind.Kind as asked;
+ghost use Rattle.dap_requests.specs.Typed.{is_typed};
 ghost use Rattle.dap_server.specs.Kinds.{moves};
-ghost use Rattle.dap.specs.Goes.{DeskGoes};
+ghost use Rattle.dap_views.specs.Kept.{unseen};
+ghost use Rattle.dap.specs.Goes.{LaunchedGoes};
 ghost use Rattle.dap.specs.Kinds.{asks};
+ghost use Rattle.dap.specs.Sets.{Sets};
 
 use crate::begin::begin_once;
 use crate::face::{attach, unknown};
+use crate::launch::Launched;
 use crate::moves::make_move;
 use dap_messages::{Answer, Kind, Members, Request, Told};
-use dap_moves::{Desk, Machine};
+use dap_moves::Machine;
 use dap_requests::{
-    completions, data_info, evaluate, locations, set_data, set_exceptions, set_lines, targets,
+    completions, data_info, evaluate, is_typed, locations, set_data, set_exceptions, set_lines,
+    targets,
 };
 use dap_server::is_move;
 use dap_threads::{scopes, stack_trace, threads, variables};
-use dap_views::{Program, Sight, sight_of};
+use dap_views::{Memo, Program, Sight, sight_of};
 use std::alloc::Global;
 
 /// Answers a request, but for those that name files.
 pub(crate) fn perform(
     alloc: Global,
-    desk: &mut Desk,
-    program: &mut Program,
+    launched: &mut Launched,
     request: &Request,
     answer: &mut Answer,
 )
-    ensures goes { DeskGoes program.old.ended program.old.stops.items desk.old request.now desk.new }
-    ensures stops { moves request.now.kind ≡ true → Runs answer.old answer.new }
+    ensures { LaunchedGoes launched.old request.now answer.old answer.new launched.new }
 {
-    keep_sight(desk.machine(), &mut program.sight);
-    act(alloc, desk, program, request, answer);
-    if is_move(request.kind) {
-        program.sight = None;
+    keep_sight(launched.desk.machine(), &mut launched.program.sight);
+    act(alloc, launched, request, answer);
+    let moved = may_move(request);
+    renew_sight(launched.desk.machine(), &mut launched.program.sight, moved);
+}
+
+/// Whether the request may move something.
+fn may_move(request: &Request) -> bool {
+    is_move(request.kind) || request.kind == Kind::ConfigurationDone || is_typed(request)
+}
+
+/// Looks at what the state offers anew where something may have moved.
+fn renew_sight(machine: &Machine, sight: &mut Option<Sight>, moved: bool) {
+    if moved {
+        *sight = None;
     }
-    keep_sight(desk.machine(), &mut program.sight);
+    keep_sight(machine, sight);
 }
 
 /// Looks at what the state offers, where that is not known. Without memory it stays unknown.
@@ -54,55 +67,23 @@ fn is_asked(kind: Kind) -> bool
 }
 
 /// Answers a request, where it is known what the state offers. Nothing moves where the client was told that it is over.
-#[tactic(auto, using(crate::proofs::Going::over_desk))]
-fn act(
-    alloc: Global,
-    desk: &mut Desk,
-    program: &mut Program,
-    request: &Request,
-    answer: &mut Answer,
-)
-    ensures goes { DeskGoes program.old.ended program.old.stops.items desk.old request.now desk.new }
-    ensures stops { moves request.now.kind ≡ true → Runs answer.old answer.new }
+fn act(alloc: Global, launched: &mut Launched, request: &Request, answer: &mut Answer)
+    ensures { LaunchedGoes launched.old request.now answer.old answer.new launched.new }
 {
-    if program.ended {
-        look_back(alloc, desk.machine(), program, request, answer);
+    if is_held(launched.program.ended, request.kind) {
+        refuse_over(answer);
     } else {
-        change(alloc, desk, program, request, answer);
+        change(alloc, launched, request, answer);
     }
 }
 
-/// Answers a request where the client was told that it is over: what only reads is answered.
-#[tactic(auto, using(dap_requests::proofs::public::Saying::run_ends))]
-fn look_back(
-    alloc: Global,
-    machine: &Machine,
-    program: &mut Program,
-    request: &Request,
-    answer: &mut Answer,
-)
-    ensures stops { moves request.now.kind ≡ true → Runs answer.old answer.new }
+/// Whether a request of this kind is held back where it may be over.
+fn is_held(over: bool, kind: Kind) -> bool
+    ensures { result ≡ (over && (moves kind || asks kind)) }
 {
-    if is_move(request.kind) {
-        refuse_over(answer);
-    } else {
-        read_back(alloc, machine, program, request, answer);
-    }
-}
-
-/// Answers a request that asks no thread to move where the client was told that it is over.
-fn read_back(
-    alloc: Global,
-    machine: &Machine,
-    program: &mut Program,
-    request: &Request,
-    answer: &mut Answer,
-) {
-    if is_asked(request.kind) {
-        refuse_over(answer);
-    } else {
-        look(alloc, machine, program, request, answer);
-    }
+    let moving = is_move(kind);
+    let asking = is_asked(kind);
+    over && (moving || asking)
 }
 
 /// Refuses what would move something where the client was told that it is over.
@@ -113,48 +94,78 @@ fn refuse_over(answer: &mut Answer)
 }
 
 /// Answers a request, where it is known what the state offers and it is not over.
-#[tactic(auto, using(crate::proofs::Going::desk_goes))]
-fn change(
-    alloc: Global,
-    desk: &mut Desk,
-    program: &mut Program,
-    request: &Request,
-    answer: &mut Answer,
-)
-    requires { program.old.ended ≡ false }
-    ensures goes { DeskGoes program.old.ended program.old.stops.items desk.old request.now desk.new }
-    ensures stops { moves request.now.kind ≡ true → Runs answer.old answer.new }
+fn change(alloc: Global, launched: &mut Launched, request: &Request, answer: &mut Answer)
+    requires { launched.old.program.ended ≡ true → (moves request.now.kind ≡ false) × (asks request.now.kind ≡ false) }
+    ensures { LaunchedGoes launched.old request.now answer.old answer.new launched.new }
 {
     if is_move(request.kind) {
-        make_move(alloc, desk, program, request, answer);
+        make_move(
+            alloc,
+            &mut launched.desk,
+            &launched.program,
+            &mut launched.memo,
+            request,
+            answer,
+        );
     } else if is_asked(request.kind) {
-        ask(alloc, desk, program, request, answer);
+        ask(alloc, launched, request, answer);
     } else {
-        look(alloc, desk.machine(), program, request, answer);
+        look(
+            alloc,
+            launched.desk.machine(),
+            &mut launched.program,
+            &launched.memo,
+            request,
+            answer,
+        );
     }
 }
 
 /// Answers the first request to run, or a line that is typed.
-fn ask(
-    alloc: Global,
-    desk: &mut Desk,
-    program: &mut Program,
-    request: &Request,
-    answer: &mut Answer,
-)
-    ensures { Led desk.old desk.new }
+fn ask(alloc: Global, launched: &mut Launched, request: &Request, answer: &mut Answer)
+    requires running { launched.old.program.ended ≡ false }
+    requires asks { asks request.now.kind ≡ true }
+    ensures { LaunchedGoes launched.old request.now answer.old answer.new launched.new }
 {
     match request.kind {
-        Kind::ConfigurationDone => begin_once(alloc, desk, program, answer),
-        _ => evaluate(alloc, desk, program, request, answer),
+        Kind::ConfigurationDone => begin_once(alloc, launched, answer),
+        _ => evaluate(
+            alloc,
+            &mut launched.desk,
+            &launched.program,
+            &mut launched.memo,
+            request,
+            answer,
+        ),
     }
 }
 
-/// Answers a request that only reads.
+/// Answers a request that only reads the desk.
 fn look(
     alloc: Global,
     machine: &Machine,
     program: &mut Program,
+    memo: &Memo,
+    request: &Request,
+    answer: &mut Answer,
+)
+    ensures { Sets request.now.kind program.old program.new }
+{
+    match request.kind {
+        Kind::SetBreakpoints => set_lines(alloc, machine, program, request, answer),
+        Kind::SetDataBreakpoints => set_data(alloc, program, request, answer),
+        Kind::SetExceptionBreakpoints => set_exceptions(program, request, answer),
+        Kind::Terminate => terminate(program, answer),
+        _ => show(alloc, machine, program, memo, request, answer),
+    }
+}
+
+/// Answers a request that shows how the desk stands.
+fn show(
+    alloc: Global,
+    machine: &Machine,
+    program: &Program,
+    memo: &Memo,
     request: &Request,
     answer: &mut Answer,
 ) {
@@ -165,38 +176,29 @@ fn look(
         Kind::Variables => variables(alloc, machine, program, request, answer),
         Kind::StepInTargets => targets(alloc, machine, program, request, answer),
         Kind::DataBreakpointInfo => data_info(alloc, machine, program, request, answer),
-        _ => set(alloc, machine, program, request, answer),
-    }
-}
-
-/// Answers a request that sets what stops a run, or asks nothing of the desk.
-fn set(
-    alloc: Global,
-    machine: &Machine,
-    program: &mut Program,
-    request: &Request,
-    answer: &mut Answer,
-) {
-    match request.kind {
-        Kind::SetBreakpoints => set_lines(alloc, machine, program, request, answer),
         Kind::BreakpointLocations => locations(alloc, machine, program, request, answer),
-        Kind::SetDataBreakpoints => set_data(alloc, program, request, answer),
-        Kind::SetExceptionBreakpoints => set_exceptions(program, request, answer),
-        Kind::Terminate => terminate(program, answer),
-        _ => tell_other(alloc, program, request, answer),
+        _ => tell_other(alloc, program, memo, request, answer),
     }
 }
 
 /// Answers `terminate`: nothing moves any more, unless a `restart` begins again.
-fn terminate(program: &mut Program, answer: &mut Answer) {
+fn terminate(program: &mut Program, answer: &mut Answer)
+    ensures { Sets asked.Kind.Terminate program.old program.new }
+{
     program.ended = true;
     answer.tell(Told::Terminated);
 }
 
 /// Answers a request that has nothing to do with the machine.
-fn tell_other(alloc: Global, program: &Program, request: &Request, answer: &mut Answer) {
+fn tell_other(
+    alloc: Global,
+    program: &Program,
+    memo: &Memo,
+    request: &Request,
+    answer: &mut Answer,
+) {
     match request.kind {
-        Kind::ExceptionInfo => exception_info(alloc, program, answer),
+        Kind::ExceptionInfo => exception_info(alloc, memo, answer),
         Kind::Completions => completions(alloc, program, request, answer),
         Kind::Attach => attach(answer),
         _ => unknown(answer),
@@ -204,8 +206,8 @@ fn tell_other(alloc: Global, program: &Program, request: &Request, answer: &mut 
 }
 
 /// Answers `exceptionInfo`: the last refusal.
-fn exception_info(alloc: Global, program: &Program, answer: &mut Answer) {
-    match &program.refused {
+fn exception_info(alloc: Global, memo: &Memo, answer: &mut Answer) {
+    match &memo.refused {
         Some(refused) => {
             let mut body = Members::new(alloc);
             body.text("exceptionId", refused.line.as_str());

@@ -1,11 +1,10 @@
 // A session: who the client is, and what is launched.
-ghost use Rattle.std.specs.Prelude.{◌≡◌, ◌⊎◌, None, Some, true, false};
+ghost use Rattle.std.specs.Prelude.{◌≡◌, ◌⊎◌, ◌||◌, None, Some, true, false};
 ghost use Rattle.dap_messages.specs.Notes.{IsRefusal};
 ghost use Rattle.dap_messages.specs.declared.kind.Kind.{Kind as Asks};
-ghost use Rattle.dap_requests.specs.Said.{Runs};
 ghost use Rattle.dap_server.specs.Kinds.{moves};
-ghost use Rattle.dap.specs.Goes.{Comes, DeskGoes, Goes, IsSound};
-ghost use Rattle.dap.specs.Launching.{Stands};
+ghost use Rattle.dap.specs.Goes.{Comes, Goes, IsSound, LaunchedGoes, Restarts};
+ghost use Rattle.dap.specs.Kinds.{ends};
 ghost use Rattle.dap.specs.declared.launch.Launched.{Launched as Started};
 
 use crate::dispatch::perform;
@@ -34,7 +33,8 @@ pub struct Face {
 impl Face {
     /// A session of which nothing is known yet.
     pub fn new(alloc: Global) -> Face
-        ensures { result.launched ≡ None }
+        ensures launched { result.launched ≡ None }
+        ensures over { result.over ≡ false }
     {
         Face {
             alloc,
@@ -49,10 +49,20 @@ impl Face {
     pub fn respond<F: Sources>(&mut self, files: &F, request: &Request) -> Answer
         ensures { Comes self.old request.now result self.new }
     {
+        let over = self.is_over_behind(request.kind);
         let mut answer = Answer::new(self.alloc);
         self.hear(files, request, &mut answer);
+        self.over = over;
         self.is_sound();
         answer
+    }
+
+    /// Whether the client has ended the session behind a request of this kind.
+    fn is_over_behind(&self, kind: Kind) -> bool
+        ensures { result ≡ (self.now.over || ends kind) }
+    {
+        let ended = ends_session(kind);
+        self.over || ended
     }
 
     /// What holds of what is launched at every moment: nothing is done, the contract says it.
@@ -68,8 +78,7 @@ impl Face {
 
     /// Answers a request in this answer.
     fn hear<F: Sources>(&mut self, files: &F, request: &Request, answer: &mut Answer)
-        ensures goes { Goes self.old.launched request.now self.new.launched }
-        ensures stops { moves request.now.kind ≡ true → Runs answer.old answer.new }
+        ensures goes { Goes self.old.launched request.now answer.old answer.new self.new.launched }
         ensures early { self.old.launched ≡ None → moves request.now.kind ≡ true
             → IsRefusal answer.new.outcome × (answer.new.notes ≡ answer.old.notes) × (self.new ≡ self.old) }
     {
@@ -81,16 +90,15 @@ impl Face {
     }
 
     /// Answers a request that asks a thread to move, or to stand.
-    #[tactic(auto, using(crate::proofs::Going::launched_goes, dap_requests::proofs::public::Saying::run_ends))]
+    #[tactic(auto, using(crate::proofs::Going::launched_goes))]
     fn make_move(&mut self, request: &Request, answer: &mut Answer)
-        ensures goes { Goes self.old.launched request.now self.new.launched }
-        ensures stops { moves request.now.kind ≡ true → Runs answer.old answer.new }
+        ensures goes { Goes self.old.launched request.now answer.old answer.new self.new.launched }
         ensures early { self.old.launched ≡ None
             → IsRefusal answer.new.outcome × (answer.new.notes ≡ answer.old.notes) × (self.new ≡ self.old) }
     {
         let alloc = self.alloc;
         match &mut self.launched {
-            Some(launched) => perform_on(alloc, launched, request, answer),
+            Some(launched) => perform(alloc, launched, request, answer),
             None => self.refuse_early(answer),
         }
     }
@@ -108,7 +116,7 @@ impl Face {
     /// Answers another request.
     fn serve<F: Sources>(&mut self, files: &F, request: &Request, answer: &mut Answer)
         requires { moves request.now.kind ≡ false }
-        ensures { Goes self.old.launched request.now self.new.launched }
+        ensures { Goes self.old.launched request.now answer.old answer.new self.new.launched }
     {
         match self.client {
             Some(counting) => self.serve_client(files, counting, request, answer),
@@ -126,11 +134,11 @@ impl Face {
         answer: &mut Answer,
     )
         requires { moves request.now.kind ≡ false }
-        ensures { Goes self.old.launched request.now self.new.launched }
+        ensures { Goes self.old.launched request.now answer.old answer.new self.new.launched }
     {
         match request.kind {
             Kind::Initialize => self.initialize(request, answer),
-            Kind::Disconnect => self.finish(answer),
+            Kind::Disconnect => answer.did(),
             Kind::Launch => self.launch(files, counting, request, answer),
             _ => self.ask(files, request, answer),
         }
@@ -140,21 +148,13 @@ impl Face {
     #[tactic(auto, using(crate::proofs::Going::launched_goes))]
     fn meet(&mut self, request: &Request, answer: &mut Answer)
         requires { moves request.now.kind ≡ false }
-        ensures { Goes self.old.launched request.now self.new.launched }
+        ensures { Goes self.old.launched request.now answer.old answer.new self.new.launched }
     {
         match request.kind {
             Kind::Initialize => self.initialize(request, answer),
-            Kind::Disconnect => self.finish(answer),
+            Kind::Disconnect => answer.did(),
             _ => self.refuse_early(answer),
         }
-    }
-
-    /// Answers `disconnect`.
-    fn finish(&mut self, answer: &mut Answer)
-        ensures { self.new.launched ≡ self.old.launched }
-    {
-        self.over = true;
-        answer.did();
     }
 
     /// Answers `initialize`.
@@ -184,7 +184,7 @@ impl Face {
     )
         requires launches { request.now.kind ≡ Asks.Launch }
         requires stands { moves request.now.kind ≡ false }
-        ensures { Goes self.old.launched request.now self.new.launched }
+        ensures { Goes self.old.launched request.now answer.old answer.new self.new.launched }
     {
         match &self.launched {
             Some(_) => answer.refuse(107, "a program is launched already"),
@@ -203,7 +203,7 @@ impl Face {
     )
         requires launches { request.now.kind ≡ Asks.Launch }
         requires none { self.old.launched ≡ None }
-        ensures { Goes self.old.launched request.now self.new.launched }
+        ensures { Goes self.old.launched request.now answer.old answer.new self.new.launched }
     {
         match start(self.alloc, files, counting, request.arguments(), answer) {
             Some(found) => self.keep(found, answer),
@@ -224,7 +224,7 @@ impl Face {
     #[tactic(auto, using(crate::proofs::Going::launched_goes))]
     fn ask<F: Sources>(&mut self, files: &F, request: &Request, answer: &mut Answer)
         requires { moves request.now.kind ≡ false }
-        ensures { Goes self.old.launched request.now self.new.launched }
+        ensures { Goes self.old.launched request.now answer.old answer.new self.new.launched }
     {
         let alloc = self.alloc;
         match &mut self.launched {
@@ -261,29 +261,13 @@ fn ask_of<F: Sources>(
     request: &Request,
     answer: &mut Answer,
 )
-    ensures { ((request.now.kind ≡ Asks.Restart) × Stands launched.new.desk)
-        ⊎ DeskGoes launched.old.program.ended launched.old.program.stops.items launched.old.desk request.now
-        launched.new.desk }
+    ensures { ((request.now.kind ≡ Asks.Restart) × Restarts launched.old answer.new launched.new)
+        ⊎ LaunchedGoes launched.old request.now answer.old answer.new launched.new }
 {
     match request.kind {
         Kind::Restart => restart(alloc, files, launched, request, answer),
-        _ => perform_on(alloc, launched, request, answer),
+        _ => perform(alloc, launched, request, answer),
     }
-}
-
-/// Answers a request of which the desk is asked nothing but what commands of sessions may ask.
-fn perform_on(alloc: Global, launched: &mut Launched, request: &Request, answer: &mut Answer)
-    ensures goes { DeskGoes launched.old.program.ended launched.old.program.stops.items launched.old.desk request.now
-        launched.new.desk }
-    ensures stops { moves request.now.kind ≡ true → Runs answer.old answer.new }
-{
-    perform(
-        alloc,
-        &mut launched.desk,
-        &mut launched.program,
-        request,
-        answer,
-    );
 }
 
 /// Answers before something is launched what needs nothing of a session.
@@ -314,6 +298,13 @@ pub(crate) fn attach(answer: &mut Answer) {
 /// Refuses a request that is not known.
 pub(crate) fn unknown(answer: &mut Answer) {
     answer.refuse(101, "balsadbg does not know this request");
+}
+
+/// Whether a request of this kind ends the session.
+fn ends_session(kind: Kind) -> bool
+    ensures { result ≡ ends kind }
+{
+    matches!(kind, Kind::Disconnect)
 }
 
 /// What is to be added to numbers of the client so that they count from 1.

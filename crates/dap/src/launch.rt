@@ -9,7 +9,9 @@ use crate::sources::Sources;
 use dap_messages::{Answer, Members, Told, field, number_in, text_in};
 use dap_moves::{Desk, Machine};
 use dap_requests::tell;
-use dap_views::{Counting, Index, Launch, Lines, Program, Words, base_of, is_rooted, own_name};
+use dap_views::{
+    Counting, Index, Launch, Lines, Memo, Program, Words, base_of, is_rooted, own_name,
+};
 use diagnosis::{Input, Inputs, explain};
 use front_end::accept;
 use refusal_pages::page_of;
@@ -31,6 +33,7 @@ const ONES: Counting = Counting {
 #[derive(Drop)]
 pub struct Launched {
     pub program: Program,
+    pub memo: Memo,
     pub desk: Desk,
 }
 
@@ -127,6 +130,7 @@ fn launched_on(
     match program_of(alloc, asked, texts, counting) {
         Ok(program) => Some(Launched {
             program,
+            memo: Memo::new(alloc),
             desk: Desk::new(machine),
         }),
         Err(AllocError) => {
@@ -217,8 +221,6 @@ fn program_of(
         elsewhere: None,
         stops: Vec::new(alloc),
         watched: Vec::new(alloc),
-        seen: Vec::new(alloc),
-        refused: None,
         excepts: true,
         last_id: 0,
         begun: false,

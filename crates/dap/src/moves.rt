@@ -1,105 +1,110 @@
 // Requests that ask a thread to move, or to stand.
 ghost use Rattle.std.specs.Prelude.{◌≡◌};
+ghost use Rattle.locked_execution.specs.AtDesk.{AtDesk};
+ghost use Rattle.dap_messages.specs.declared.told.Stop as stops;
 ghost use Rattle.dap_moves.specs.Led.{Led};
 ghost use Rattle.dap_requests.specs.Said.{Runs};
+ghost use Rattle.dap_requests.specs.Typed.{KeepsSome};
 ghost use Rattle.dap.specs.Steps.{Backward, Forward, GoesOn, Steps, thread_of};
 
 use dap_messages::{Answer, Kind, Request};
 use dap_moves::{Desk, Machine};
 use dap_requests::{back_in, go_in, reverse, step_in, stop};
 use dap_threads::thread_in;
-use dap_views::Program;
+use dap_views::{Memo, Program};
 use std::alloc::Global;
 
 /// Answers a request that asks a thread to move, or to stand.
 pub(crate) fn make_move(
     alloc: Global,
     desk: &mut Desk,
-    program: &mut Program,
+    program: &Program,
+    memo: &mut Memo,
     request: &Request,
     answer: &mut Answer,
 )
     ensures led { Led desk.old desk.new }
-    ensures stops { Runs answer.old answer.new }
-    ensures steps { Steps program.old.stops.items desk.old request.now.kind request.now desk.new }
+    ensures goes { Runs answer.old answer.new desk.old desk.new
+        (λ stop. Steps program.now memo.old.seen.items memo.new.seen.items desk.old request.now.kind request.now stop
+        desk.new) }
+    ensures keeps { KeepsSome answer.new memo.old.seen.items memo.new.seen.items }
 {
     match request.kind {
-        Kind::StepBack => back(alloc, desk, program, request, answer),
-        Kind::Continue => go(alloc, desk, program, request, answer),
-        Kind::ReverseContinue => reverse(alloc, desk, program, request, answer),
-        Kind::Pause => pause(alloc, desk, request, answer),
-        _ => step(alloc, desk, program, request, answer),
+        Kind::StepBack => back(alloc, desk, program, memo, request, answer),
+        Kind::Continue => go(alloc, desk, program, memo, request, answer),
+        Kind::ReverseContinue => reverse(alloc, desk, program, memo, request, answer),
+        Kind::Pause => pause(alloc, desk.machine(), request, answer),
+        _ => step(alloc, desk, program, memo, request, answer),
     }
 }
 
 /// Answers `next`, `stepIn` and `stepOut`: one step of the thread.
-#[tactic(auto, using(dap_requests::proofs::public::Saying::run_ends, crate::proofs::Going::led_still))]
 fn step(
     alloc: Global,
     desk: &mut Desk,
-    program: &mut Program,
+    program: &Program,
+    memo: &mut Memo,
     request: &Request,
     answer: &mut Answer,
 )
     ensures led { Led desk.old desk.new }
-    ensures stops { Runs answer.old answer.new }
-    ensures forward { Forward desk.old request.now.kind (thread_of desk.old request.now) desk.new }
+    ensures goes { Runs answer.old answer.new desk.old desk.new
+        (λ stop. Forward desk.old request.now (thread_of desk.old request.now) stop desk.new) }
+    ensures keeps { KeepsSome answer.new memo.old.seen.items memo.new.seen.items }
 {
     match thread_in(request, desk.machine(), answer) {
-        Some(branch) => step_in(alloc, desk, program, branch, request, answer),
+        Some(branch) => step_in(alloc, desk, program, memo, branch, request, answer),
         None => {}
     }
 }
 
 /// Answers `continue`: on from where the thread stands.
-#[tactic(auto, using(dap_requests::proofs::public::Saying::run_ends, crate::proofs::Going::led_still))]
-fn go(alloc: Global, desk: &mut Desk, program: &mut Program, request: &Request, answer: &mut Answer)
+fn go(
+    alloc: Global,
+    desk: &mut Desk,
+    program: &Program,
+    memo: &mut Memo,
+    request: &Request,
+    answer: &mut Answer,
+)
     ensures led { Led desk.old desk.new }
-    ensures stops { Runs answer.old answer.new }
-    ensures on { GoesOn program.old.stops.items desk.old (thread_of desk.old request.now) desk.new }
+    ensures goes { Runs answer.old answer.new desk.old desk.new
+        (λ stop. GoesOn program.now memo.old.seen.items memo.new.seen.items desk.old request.now
+        (thread_of desk.old request.now) stop desk.new) }
+    ensures keeps { KeepsSome answer.new memo.old.seen.items memo.new.seen.items }
 {
     match thread_in(request, desk.machine(), answer) {
         Some(branch) => {
             let single = request.flag("singleThread", false);
-            go_in(alloc, desk, program, branch, single, answer);
+            go_in(alloc, desk, program, memo, branch, single, answer);
         }
         None => {}
     }
 }
 
 /// Answers `stepBack`: the newest step in which the branch of the thread took part.
-#[tactic(auto, using(dap_requests::proofs::public::Saying::run_ends, crate::proofs::Going::led_still))]
 fn back(
     alloc: Global,
     desk: &mut Desk,
-    program: &mut Program,
+    program: &Program,
+    memo: &mut Memo,
     request: &Request,
     answer: &mut Answer,
 )
     ensures led { Led desk.old desk.new }
-    ensures stops { Runs answer.old answer.new }
-    ensures backward { Backward desk.old (thread_of desk.old request.now) desk.new }
+    ensures goes { Runs answer.old answer.new desk.old desk.new
+        (λ stop. Backward desk.old (thread_of desk.old request.now) stop desk.new) }
+    ensures keeps { KeepsSome answer.new memo.old.seen.items memo.new.seen.items }
 {
     match thread_in(request, desk.machine(), answer) {
-        Some(branch) => back_in(alloc, desk, program, branch, answer),
+        Some(branch) => back_in(alloc, desk, program, memo, branch, answer),
         None => {}
     }
 }
 
-/// Answers `pause`. It is read only once a run has ended, so nothing moves.
-#[tactic(auto, using(crate::proofs::Going::led_still))]
-fn pause(alloc: Global, desk: &mut Desk, request: &Request, answer: &mut Answer)
-    ensures led { Led desk.old desk.new }
-    ensures stops { Runs answer.old answer.new }
-    ensures same { desk.new ≡ desk.old }
-{
-    stand(alloc, desk.machine(), request, answer);
-}
-
-/// Tells that the thread stands.
-#[tactic(auto, using(dap_requests::proofs::public::Saying::run_ends))]
-fn stand(alloc: Global, machine: &Machine, request: &Request, answer: &mut Answer)
-    ensures { Runs answer.old answer.new }
+/// Answers `pause`. It is read only once a run has ended, so nothing moves: it tells that the thread stands.
+fn pause(alloc: Global, machine: &Machine, request: &Request, answer: &mut Answer)
+    ensures { (d : AtDesk) → Runs answer.old answer.new d d (λ stop. stop ≡ stops.Stop.Stands) }
 {
     match thread_in(request, machine, answer) {
         Some(branch) => stop(alloc, answer, "pause", branch, ""),

@@ -1,12 +1,14 @@
 // Another launch in place of one.
-ghost use Rattle.std.specs.Prelude.{◌≡◌, ◌⊎◌, IfSome};
+ghost use Rattle.std.specs.Prelude.{◌≡◌, ◌⊎◌, IfSome, true};
 ghost use Rattle.dap_moves.specs.Led.{Led};
-ghost use Rattle.dap.specs.Launching.{IsBegun, Stands};
+ghost use Rattle.dap.specs.Goes.{Restarts};
+ghost use Rattle.dap.specs.Launching.{IsBegun};
+ghost use Rattle.dap.specs.Stops.{BeginsOnce, NotDone};
 
 use crate::begin::begin;
 use crate::launch::{Launched, start};
 use crate::sources::Sources;
-use dap_messages::{Answer, Members, Request, field};
+use dap_messages::{Answer, Members, Outcome, Request, field};
 use dap_requests::{Placing, place_again, tell_changed};
 use dap_views::{Launch, Program, is_same_file};
 use std::alloc::Global;
@@ -21,17 +23,28 @@ pub(crate) fn restart<F: Sources>(
     request: &Request,
     answer: &mut Answer,
 )
-    ensures { Stands launched.new.desk ⊎ (launched.new ≡ launched.old) }
+    ensures { Restarts launched.old answer.new launched.new }
 {
     match started_again(alloc, files, &launched.program, request, answer) {
         Some(anew) => replace(alloc, launched, anew, answer),
-        None => {}
+        None => note_none(answer),
+    }
+}
+
+/// Keeps in mind that nothing is launched anew: where that was not refused, there was no memory.
+fn note_none(answer: &mut Answer)
+    ensures { NotDone answer.new }
+{
+    match answer.outcome {
+        Outcome::Done(_) => answer.lacks = true,
+        Outcome::Refused(_, _) => {}
     }
 }
 
 /// Takes what was launched anew in place of what was, if there is memory for its breakpoints.
 fn replace(alloc: Global, launched: &mut Launched, anew: Launched, answer: &mut Answer)
-    ensures { Led anew.desk launched.new.desk ⊎ (launched.new ≡ launched.old) }
+    ensures { (Led anew.desk launched.new.desk × BeginsOnce answer.new)
+        ⊎ ((launched.new ≡ launched.old) × (answer.new.lacks ≡ true)) }
 {
     match place_again(alloc, anew.desk.machine(), &launched.program, &anew.program) {
         Some(placing) => begin_again(alloc, launched, anew, placing, answer),
@@ -47,14 +60,19 @@ fn begin_again(
     placing: Placing,
     answer: &mut Answer,
 )
-    ensures { Led anew.desk launched.new.desk }
+    ensures { Led anew.desk launched.new.desk × BeginsOnce answer.new }
 {
-    let Launched { program, desk } = anew;
+    let Launched {
+        program,
+        memo,
+        desk,
+    } = anew;
     let before = mem::replace(&mut launched.program, program);
+    launched.memo = memo;
     launched.desk = desk;
     keep_settings(before, &mut launched.program);
     tell_changed(alloc, &mut launched.program, placing, answer);
-    begin(alloc, &mut launched.desk, &mut launched.program, answer);
+    begin(alloc, launched, answer);
 }
 
 /// What a restart launches.
@@ -106,8 +124,6 @@ fn keep_settings(old: Program, program: &mut Program) {
         elsewhere,
         stops: _stops,
         watched,
-        seen: _seen,
-        refused: _refused,
         excepts,
         last_id,
         begun: _begun,

@@ -1,5 +1,6 @@
 // A session over a reader and a writer.
-ghost use Rattle.std.specs.Prelude.{ℕ, ◌≡◌, None, OnOk};
+ghost use Rattle.std.specs.Prelude.{ℕ, ◌≡◌, ◌⊎◌, None, OnOk, false, true};
+ghost use Rattle.std.specs.Io.KnownBytes.{IsAtEnd};
 ghost use Rattle.dap_server.specs.Session.{Serves};
 ghost use Rattle.dap.specs.Goes.{Comes};
 ghost use Rattle.dap.specs.declared.face.Face.{Face as Facing};
@@ -12,6 +13,8 @@ use std::io::{Read, Write};
 
 impl<F: Sources> Adapter<F> for Face {
     ghost answers = { Comes };
+
+    ghost over = { λ face. face.over };
 
     fn answer(&mut self, files: &F, request: &Request) -> Answer {
         self.respond(files, request)
@@ -41,7 +44,9 @@ pub fn serve<R: Read, W: Write, F: Sources>(
     files: &F,
 ) -> Result<(), Fault>
     ensures { OnOk result ((first : Facing) × (last : Facing) × (after : ℕ) × (first.launched ≡ None)
-        × Serves Comes first 1 last after (W.contents writer.old) (W.contents writer.new)) }
+        × (first.over ≡ false)
+        × Serves Comes first 1 last after (W.contents writer.old) (W.contents writer.new)
+        × ((last.over ≡ true) ⊎ IsAtEnd (R.remaining reader.new))) }
 {
     let mut face = Face::new(alloc);
     dap_server::serve(alloc, reader, writer, files, &mut face)

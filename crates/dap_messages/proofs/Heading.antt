@@ -1,15 +1,17 @@
 -- Members of one name stay where others are put.
-use Rattle.std.proofs.Common.{◌≡◌, ℕ, ◌≤◌, List, Bool, true, false, Some, bytes_eq, refl, sym, ◌∙◌, ap, codes}
+use Rattle.std.proofs.Common.{◌≡◌, ℕ, ◌≤◌, List, true, false, Option, None, Some, bytes_eq, sym, ◌∙◌, ap, subst, codes}
+use Rattle.std.specs.Prelude.{option_and_then}
 use Rattle.std.proofs.lemmas.Slice.Eq.{bytes_eq-Decides}
-use Rattle.serde_json.specs.Data.{Data, Members as Named, depth, null, number, object, put, unsigned}
+use Rattle.serde_json.specs.Data.{Data, Members as Named, depth, no_members, null, number, object, put, unsigned}
 use Rattle.serde_json.specs.Find.{get, get_member}
 use Rattle.serde_json.specs.Read.{max_depth, read}
 use Rattle.serde_json.specs.View.{members_view, view}
 use Rattle.serde_json.specs.declared.value.Value.{Value}
 use Rattle.serde_json.proofs.Views.{get_member-put, get_member-put_other}
 use Rattle.dap_messages.specs.Json.{IsJsonOf}
-use Rattle.dap_messages.specs.Written.{Has, Puts, PutsSome}
-use Rattle.dap_messages.specs.internal.Heads.{Keeps, KeepsHead}
+use Rattle.dap_messages.specs.Messages.{HasError}
+use Rattle.dap_messages.specs.Written.{Has, Holds, Puts, PutsSome}
+use Rattle.dap_messages.specs.internal.Heads.{KeepsHead}
 use Rattle.dap_messages.specs.declared.members.Members.{Members}
 use Rattle.dap_messages.specs.declared.message.Message.{Message}
 
@@ -23,12 +25,20 @@ differ xs ys other same =
 pub has_put : (a b : Members) (name : List ℕ) (d : Data) → Puts a name d b → Has b name d
 has_put a b name d h = λ full. ap (λ (ms : Named). get_member name ms) (h full).1 ∙ get_member-put name d (members_view a.made.entries)
 
--- what was there stays where another is put
-pub has_stays : (a b : Members) (name other : List ℕ) (d e : Data) → bytes_eq name other ≡ false → Puts a other e b → Has a name d → Has b name d
-has_stays a b name other d e apart h k = λ full.
+-- what was there, or was not, stays so where another is put
+pub holds_stays : (a b : Members) (name other : List ℕ) (found : Option Data) (e : Data) → bytes_eq name other ≡ false → Puts a other e b →
+    Holds a name found → Holds b name found
+holds_stays a b name other found e apart h k = λ full.
     ap (λ (ms : Named). get_member name ms) (h full).1
     ∙ get_member-put_other name other e (members_view a.made.entries) (differ name other apart)
     ∙ k (h full).0
+
+pub has_stays : (a b : Members) (name other : List ℕ) (d e : Data) → bytes_eq name other ≡ false → Puts a other e b → Has a name d → Has b name d
+has_stays a b name other d e apart h k = holds_stays a b name other (Some d) e apart h k
+
+-- at first there is none
+pub holds_none : (a : Members) (name : List ℕ) → members_view a.made.entries ≡ no_members → Holds a name None
+holds_none a name empty = λ full. ap (λ (ms : Named). get_member name ms) empty
 
 -- so do the first members
 pub keeps_put : (a b : Members) (other : List ℕ) (e : Data) → bytes_eq (codes "type") other ≡ false → bytes_eq (codes "request_seq") other ≡ false →
@@ -52,8 +62,29 @@ keeps_on a m b h k = record {
 }
 
 -- there was no memory for what should have been put
+pub lacks_put : (a b : Members) (name : List ℕ) (d : Data) → b.lacks ≡ true → Puts a name d b
+lacks_put a b name d lacks = λ full. let both : true ≡ false = sym lacks ∙ full in absurd (cc)
+
 pub puts_lacking : (a b : Members) (name : List ℕ) → b.lacks ≡ true → PutsSome a name b
-puts_lacking a b name lacks = (null, λ full. let both : true ≡ false = sym lacks ∙ full in absurd (cc))
+puts_lacking a b name lacks = (null, lacks_put a b name null lacks)
+
+pub lacks_whole : (a b : Members) → b.lacks ≡ true → b.lacks ≡ false → a.lacks ≡ false
+lacks_whole a b lacks full = let both : true ≡ false = sym lacks ∙ full in absurd (cc)
+
+-- the value that is put is that of these members
+pub puts_view : (a b : Members) (name : List ℕ) (d e : Data) → d ≡ e → Puts a name d b → Puts a name e b
+puts_view a b name d e same h = subst (λ (x : Data). Puts a name x b) same h
+
+-- the number of an error in the body of its response
+pub has_error : (error body before after : Members) (why : ℕ) → Has error (codes "id") (number (unsigned why)) →
+    Has body (codes "error") (object (members_view error.made.entries)) → (body.lacks ≡ false → error.lacks ≡ false) →
+    Puts before (codes "body") (object (members_view body.made.entries)) after → (after.lacks ≡ false → body.lacks ≡ false) → HasError after why
+has_error error body before after why id there inner put_in whole = λ full.
+    let full_body = whole full in (
+      object (members_view body.made.entries),
+      has_put before after (codes "body") (object (members_view body.made.entries)) put_in full,
+      ap (λ (o : Option Data). option_and_then (get (codes "id")) o) (there full_body) ∙ id (inner full_body),
+    )
 
 -- the number is put, and then the whole is written
 pub json_of : (m : Message) (with : Members) (value : Value) (bytes : List ℕ) → Puts m.members (codes "seq") (number (unsigned m.seq)) with →

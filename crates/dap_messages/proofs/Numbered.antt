@@ -10,13 +10,13 @@ pub told-more : (notes : List Note) (note : Note) → told_by (notes ++ note ∷
 told-more [] note = refl
 told-more (other ∷ notes) note = ap (λ (ts : List Told). other.told ∷ ts) (told-more notes note)
 
-pub events-more : (next : ℕ) (ts : List Told) (ms : List Message) (t : Told) (m : Message) → AreEvents next ts ms → m.seq ≡ next + length ms
-    → IsEvent t m → AreEvents next (ts ++ t ∷ []) (ms ++ m ∷ [])
-events-more next [] [] t m all number is = (number ∙ omega arith, is, tt)
-events-more next [] (other ∷ ms) t m all number is = absurd all
-events-more next (u ∷ ts) [] t m all number is = absurd all
-events-more next (u ∷ ts) (other ∷ ms) t m all number is =
-    (all.0, all.1, events-more (next + 1) ts ms t m all.2 (number ∙ omega arith) is)
+pub events-more : (next : ℕ) (notes : List Note) (ms : List Message) (note : Note) (m : Message) → AreEvents next notes ms →
+    m.seq ≡ next + length ms → IsEvent note m → AreEvents next (notes ++ note ∷ []) (ms ++ m ∷ [])
+events-more next [] [] note m all number is = (number ∙ omega arith, is, tt)
+events-more next [] (other ∷ ms) note m all number is = absurd all
+events-more next (one ∷ notes) [] note m all number is = absurd all
+events-more next (one ∷ notes) (other ∷ ms) note m all number is =
+    (all.0, all.1, events-more (next + 1) notes ms note m all.2 (number ∙ omega arith) is)
 
 -- nothing is left where no item is
 pub none_left : {X : Type 0} (xs : List X) → length xs ≡ 0 → xs ≡ []

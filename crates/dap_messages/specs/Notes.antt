@@ -14,7 +14,7 @@ told_by (note ∷ notes) = note.told ∷ told_by notes
 -- what stays where this event is told too: without these three a client would wait for ever
 abbrev pub effect_with : Effect → Told → Effect
 effect_with effect Told.Initialized = Effect.Due Told.Initialized
-effect_with effect Told.Stopped = Effect.Due Told.Stopped
+effect_with effect (Told.Stopped stop) = Effect.Due (Told.Stopped stop)
 effect_with effect Told.Terminated = Effect.Due Told.Terminated
 effect_with effect Told.Output = effect
 effect_with effect Told.Exited = effect

@@ -33,7 +33,7 @@ impl Effect {
         ensures { result ≡ effect_with self told }
     {
         match told {
-            Told::Initialized | Told::Stopped | Told::Terminated => Effect::Due(told),
+            Told::Initialized | Told::Stopped(_) | Told::Terminated => Effect::Due(told),
             Told::Output | Told::Exited | Told::Breakpoint => self,
         }
     }
@@ -63,6 +63,7 @@ impl Answer {
         ensures notes { result.notes.items ≡ [] }
         ensures done { IsDone result.outcome }
         ensures full { result.lacks ≡ false }
+        ensures effect { result.effect ≡ Stays.Nothing }
     {
         Answer {
             alloc,
@@ -74,7 +75,12 @@ impl Answer {
     }
 
     /// Keeps in mind that something was done that stays.
-    pub fn did(&mut self) {
+    pub fn did(&mut self)
+        ensures effect { self.new.effect ≡ Stays.Done }
+        ensures done { IsDone self.old.outcome → IsDone self.new.outcome }
+        ensures same { self.new.notes ≡ self.old.notes }
+        ensures lacks { self.new.lacks ≡ self.old.lacks }
+    {
         self.effect = Effect::Done;
     }
 

@@ -13,4 +13,4 @@ pub use kind::{Kind, kind_of};
 pub use members::{Listed, Members, field, number_in, text_in};
 pub use message::{Message, messages_of, write_message};
 pub use request::{MOST_DEPTH, Request, Unread, read_request};
-pub use told::Told;
+pub use told::{Stop, Told};

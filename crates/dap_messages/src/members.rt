@@ -65,7 +65,8 @@ impl Members {
 
     /// Adds an object.
     pub fn object(&mut self, name: &str, members: Members)
-        ensures { PutsSome self.old name.now self.new }
+        ensures puts { Puts self.old name.now (object (members_view members.made.entries)) self.new }
+        ensures whole { self.new.lacks ≡ false → members.lacks ≡ false }
     {
         match members.into_value() {
             Some(value) => self.value(name, value),

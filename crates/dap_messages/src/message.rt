@@ -1,9 +1,10 @@
-ghost use Rattle.std.specs.Prelude.{◌≡◌, ◌∷◌, [], ◌++◌, ◌+◌, false, true, IfOk, OnOk, codes, string_bytes};
+ghost use Rattle.std.specs.Prelude.{◌≡◌, ◌∷◌, [], ◌++◌, ◌+◌, None, false, true, IfOk, OnOk, codes, string_bytes};
+ghost use Rattle.std.specs.Option.{option_map};
 ghost use Rattle.serde_json.specs.Data.{boolean, number, string, unsigned};
+ghost use Rattle.serde_json.specs.View.{view};
 ghost use Rattle.dap_messages.specs.Json.{IsJsonOf};
-ghost use Rattle.dap_messages.specs.Messages.{IsAnswerTo, EventsAdded, event_name, is_done};
-ghost use Rattle.dap_messages.specs.Notes.{told_by};
-ghost use Rattle.dap_messages.specs.Written.{Has};
+ghost use Rattle.dap_messages.specs.Messages.{EventsAdded, HasError, IsAnswerTo, TellsOutcome, event_name, is_done};
+ghost use Rattle.dap_messages.specs.Written.{Has, Holds};
 ghost use Rattle.dap_messages.specs.internal.Heads.{Keeps, KeepsHead};
 
 use crate::answer::{Answer, Note, Outcome};
@@ -60,7 +61,7 @@ fn add_events(
     messages: &mut Vec<Message>,
     first: u64,
 ) -> Result<(), AllocError>
-    ensures { OnOk result (EventsAdded messages.old.items (first + 1) (told_by notes.items) messages.new.items) }
+    ensures { OnOk result (EventsAdded messages.old.items (first + 1) notes.items messages.new.items) }
 {
     let mut seq = first;
     for note in notes {
@@ -90,6 +91,7 @@ fn response(alloc: Global, request: &Request, outcome: Outcome) -> Members
     ensures request { Has result (codes "request_seq") (number (unsigned request.now.seq)) }
     ensures command { Has result (codes "command") (string (string_bytes request.now.command)) }
     ensures success { Has result (codes "success") (boolean (is_done outcome)) }
+    ensures outcome { TellsOutcome outcome result }
 {
     let mut members = Members::new(alloc);
     members.text("type", "response");
@@ -103,6 +105,7 @@ fn response(alloc: Global, request: &Request, outcome: Outcome) -> Members
 fn add_outcome(alloc: Global, members: &mut Members, outcome: Outcome)
     ensures head { KeepsHead members.old members.new }
     ensures success { Has members.new (codes "success") (boolean (is_done outcome)) }
+    ensures outcome { Holds members.old (codes "body") None → TellsOutcome outcome members.new }
 {
     match outcome {
         Outcome::Done(body) => add_done(members, body),
@@ -114,6 +117,7 @@ fn add_outcome(alloc: Global, members: &mut Members, outcome: Outcome)
 fn add_done(members: &mut Members, body: Option<Value>)
     ensures head { KeepsHead members.old members.new }
     ensures success { Has members.new (codes "success") (boolean true) }
+    ensures body { Holds members.old (codes "body") None → Holds members.new (codes "body") (option_map view body) }
 {
     members.flag("success", true);
     add_body(members, body);
@@ -123,6 +127,7 @@ fn add_done(members: &mut Members, body: Option<Value>)
 fn add_body(members: &mut Members, body: Option<Value>)
     ensures head { KeepsHead members.old members.new }
     ensures success { Keeps (codes "success") members.old members.new }
+    ensures body { Holds members.old (codes "body") None → Holds members.new (codes "body") (option_map view body) }
 {
     match body {
         Some(body) => members.value("body", body),
@@ -134,6 +139,8 @@ fn add_body(members: &mut Members, body: Option<Value>)
 fn add_refusal(alloc: Global, members: &mut Members, number: u64, words: &str)
     ensures head { KeepsHead members.old members.new }
     ensures success { Has members.new (codes "success") (boolean false) }
+    ensures message { Has members.new (codes "message") (string words.now) }
+    ensures error { HasError members.new number }
 {
     let mut body = Members::new(alloc);
     body.object("error", error_of(alloc, number, words));
@@ -144,9 +151,20 @@ fn add_refusal(alloc: Global, members: &mut Members, number: u64, words: &str)
 
 /// The error, in words that a client may show. In a `format` braces stand around the name of a variable, so words that
 /// have some are a variable themselves.
-fn error_of(alloc: Global, number: u64, words: &str) -> Members {
+fn error_of(alloc: Global, why: u64, words: &str) -> Members
+    ensures { Has result (codes "id") (number (unsigned why)) }
+{
     let mut error = Members::new(alloc);
-    error.number("id", number);
+    error.number("id", why);
+    add_format(alloc, &mut error, words);
+    error.flag("showUser", true);
+    error
+}
+
+/// Adds the words of an error.
+fn add_format(alloc: Global, error: &mut Members, words: &str)
+    ensures { Keeps (codes "id") error.old error.new }
+{
     if words.contains('{') || words.contains('}') {
         let mut variables = Members::new(alloc);
         variables.text("words", words);
@@ -155,14 +173,13 @@ fn error_of(alloc: Global, number: u64, words: &str) -> Members {
     } else {
         error.text("format", words);
     }
-    error.flag("showUser", true);
-    error
 }
 
 /// The members of the event.
 fn event(alloc: Global, note: Note) -> Members
     ensures type_is { Has result (codes "type") (string (codes "event")) }
     ensures event { Has result (codes "event") (string (event_name note.told)) }
+    ensures body { Holds result (codes "body") (option_map view note.body) }
 {
     let Note { told, body } = note;
     let mut members = Members::new(alloc);

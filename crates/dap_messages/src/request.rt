@@ -1,6 +1,7 @@
-ghost use Rattle.std.specs.Prelude.{◌≡◌};
+ghost use Rattle.std.specs.Prelude.{◌≡◌, unwrap_or};
+ghost use Rattle.std.specs.Option.{option_map};
 ghost use Rattle.serde_json.specs.View.{view};
-ghost use Rattle.dap_messages.specs.Arguments.{number_named};
+ghost use Rattle.dap_messages.specs.Arguments.{flag_named, number_named, text_named};
 
 use crate::kind::{Kind, kind_of};
 use crate::members::{field, number_in, text_in};
@@ -50,15 +51,29 @@ impl Request {
     }
 
     /// The argument of this name, where it is a text.
-    pub fn text(&self, name: &str) -> Option<&str> {
-        text_in(&self.arguments, name)
+    pub fn text(&self, name: &str) -> Option<&str>
+        ensures { option_map (λ s. s.now) result ≡ text_named name.now (view self.now.arguments) }
+    {
+        match self.arguments.get(name) {
+            Some(value) => value.as_str(),
+            None => None,
+        }
     }
 
     /// The argument of this name, where it is `true` or `false`; else the one that stands for it.
-    pub fn flag(&self, name: &str, otherwise: bool) -> bool {
-        match field(&self.arguments, name) {
-            Some(value) => value.as_bool().unwrap_or(otherwise),
-            None => otherwise,
+    pub fn flag(&self, name: &str, otherwise: bool) -> bool
+        ensures { result ≡ unwrap_or (flag_named name.now (view self.now.arguments)) otherwise }
+    {
+        self.flag_in(name).unwrap_or(otherwise)
+    }
+
+    /// The argument of this name, where it is `true` or `false`.
+    fn flag_in(&self, name: &str) -> Option<bool>
+        ensures { result ≡ flag_named name.now (view self.now.arguments) }
+    {
+        match self.arguments.get(name) {
+            Some(value) => value.as_bool(),
+            None => None,
         }
     }
 

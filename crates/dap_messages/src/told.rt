@@ -1,6 +1,17 @@
 ghost use Rattle.std.specs.Prelude.{◌≡◌};
 ghost use Rattle.dap_messages.specs.Messages.{event_name};
 
+/// How a thread stands, as a `stopped` tells it.
+#[derive(Clone, Copy, Debug, PartialEq, Eq)]
+pub enum Stop {
+    /// nothing was refused, and no line stopped it
+    Stands,
+    /// before a step of which an action is on a line with a breakpoint
+    AtLine,
+    /// a step was refused, for the reason of this number
+    Refused(u64),
+}
+
 /// What is told without being asked: the events of the protocol that are used.
 #[derive(Clone, Copy, Debug, PartialEq, Eq)]
 pub enum Told {
@@ -9,7 +20,7 @@ pub enum Told {
     /// a text
     Output,
     /// nothing moves until the next request to run
-    Stopped,
+    Stopped(Stop),
     /// the run has ended, with a status
     Exited,
     /// there is nothing more to debug
@@ -26,7 +37,7 @@ impl Told {
         match self {
             Told::Initialized => "initialized",
             Told::Output => "output",
-            Told::Stopped => "stopped",
+            Told::Stopped(_) => "stopped",
             Told::Exited => "exited",
             Told::Terminated => "terminated",
             Told::Breakpoint => "breakpoint",

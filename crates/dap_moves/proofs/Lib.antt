@@ -2,4 +2,6 @@ pub mod public
 mod Backward
 mod Listing
 mod Passing
+mod Returning
+mod Running
 mod Targets

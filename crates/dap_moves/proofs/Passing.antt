@@ -1,5 +1,5 @@
 -- Runs that pass none of the lines, one behind another.
-use Rattle.std.proofs.Common.{◌≡◌, ◌⊎◌, ◌==◌, ℕ, zero, suc, ◌<◌, List, [], ◌∷◌, ◌++◌, length, get_or, Bool, true, false, Option, None, Some, inl, inr, refl, sym, ◌∙◌, ap, subst, arith}
+use Rattle.std.proofs.Common.{◌≡◌, ◌⊎◌, ◌==◌, ℕ, zero, suc, ◌<◌, List, [], ◌∷◌, length, get_or, true, false, Option, None, Some, inl, inr, refl, sym, ◌∙◌, ap, subst, arith}
 use Rattle.std.specs.Option.{MatchOption}
 use Rattle.std.proofs.lemmas.Bool.Decides.{nat_tests}
 use Rattle.std.proofs.lemmas.List.{nil_from_length}
@@ -18,64 +18,8 @@ use Rattle.runs.specs.declared.event.Kind.{Kind}
 use Rattle.event_places.specs.EventPlaces.{line_after}
 use Rattle.machine.specs.AtMachine.{AtMachine}
 use Rattle.locked_execution.specs.AtDesk.{AtDesk, execution}
-use Rattle.locked_execution.specs.Performs.{Answers}
-use Rattle.locked_execution.specs.declared.command.Command.{Command}
-use Rattle.locked_execution.specs.declared.command.Reply.{Reply}
 use Rattle.dap_moves.specs.Led.{Led}
-use Rattle.dap_moves.specs.Moves.{quiet}
-use Rattle.dap_moves.specs.Passing.{has_line, stands_on, IsAtLine, IsReady, MayAsk, PassesBy, PassesNone, StopsAt, Turned, Turns}
-
--- what is asked where it stood nowhere may be asked wherever it stood
-may-widen : (d : AtDesk) (lines : List ℕ) (seen : List Choice) (command : Command) → MayAsk d lines [] command → MayAsk d lines seen command
-may-widen d lines seen (Command.Step c) h =
-    (h.0, h.1, h.2, elim h.3 as (λ _. PassesBy d.machine lines h.0 ⊎ In c seen) [ inl passes ↦ inl passes | inr none ↦ absurd none ])
-may-widen d lines seen (Command.Branch k) h = h
-may-widen d lines seen (Command.Undo t) h = absurd h
-may-widen d lines seen (Command.Roll t) h = absurd h
-may-widen d lines seen (Command.RollValue x) h = absurd h
-may-widen d lines seen (Command.Blame x) h = absurd h
-may-widen d lines seen Command.Ready h = absurd h
-may-widen d lines seen (Command.Consequences t) h = absurd h
-may-widen d lines seen Command.Live h = absurd h
-may-widen d lines seen (Command.Value x) h = absurd h
-may-widen d lines seen (Command.Break line) h = absurd h
-may-widen d lines seen (Command.Clear line) h = absurd h
-
-widen : (d : AtDesk) (lines : List ℕ) (seen : List Choice) (ts : List Turned) (d' : AtDesk) → Turns d lines [] ts d' → Turns d lines seen ts d'
-widen d lines seen [] d' h = h
-widen d lines seen (t ∷ ts) d' h = (may-widen d lines seen t.command h.0, h.1, h.2)
-
-joined : (lines : List ℕ) (seen : List Choice) (d m d' : AtDesk) (xs ys : List Turned) → Turns d lines seen xs m → Turns m lines [] ys d' →
-    Turns d lines seen (xs ++ ys) d'
-joined lines seen d m d' [] ys h k = widen d lines seen ys d' (subst (λ (x : AtDesk). Turns x lines [] ys d') h k)
-joined lines seen d m d' (x ∷ xs) ys h k = (h.0, h.1, joined lines [] x.left m d' xs ys h.2 k)
-
--- nothing is asked
-pub passes_nowhere : (lines : List ℕ) (seen : List Choice) (d : AtDesk) → PassesNone lines seen d d
-passes_nowhere lines seen d = record { turns = []; turned = refl }
-
-pub passes_still : (lines : List ℕ) (seen : List Choice) (d d' : AtDesk) → d' ≡ d → PassesNone lines seen d d'
-passes_still lines seen d d' same = record { turns = []; turned = same }
-
--- one command
-pub passes_asked : (lines : List ℕ) (seen : List Choice) (d d' : AtDesk) (command : Command) (reply : Reply) → MayAsk d lines seen command →
-    Answers d quiet command reply d' → PassesNone lines seen d d'
-passes_asked lines seen d d' command reply may h = record {
-  turns = record { command = command; reply = reply; left = d' } ∷ [];
-  turned = (may, h, refl);
-}
-
--- the same wherever it stood
-pub passes_wherever : (lines : List ℕ) (seen : List Choice) (d d' : AtDesk) → PassesNone lines [] d d' → PassesNone lines seen d d'
-passes_wherever lines seen d d' h = record { turns = h.turns; turned = widen d lines seen h.turns d' h.turned }
-
--- a run, and then another
-pub passes_on : (lines : List ℕ) (seen : List Choice) (d m d' : AtDesk) → PassesNone lines seen d m → PassesNone lines [] m d' →
-    PassesNone lines seen d d'
-passes_on lines seen d m d' h k = record {
-  turns = h.turns ++ k.turns;
-  turned = joined lines seen d m d' h.turns k.turns h.turned k.turned;
-}
+use Rattle.dap_moves.specs.Passing.{has_line, stands_on, IsAtLine, IsReady, PassesBy, StopsAt}
 
 -- what stands at an index is in the list
 pub here_in : {X : Type 0} (xs : List X) (i : ℕ) (x : X) → i < length xs → x ≡ get_or xs i x → In x xs
@@ -139,13 +83,7 @@ stops_acting m lines e a line is h = record {
   there = subst (λ (x : Place). IsAtLine m lines x line) is h;
 }
 
--- a desk that stays, before a run or behind one
-pub passes_from : (lines : List ℕ) (seen : List Choice) (d m d' : AtDesk) → m ≡ d → PassesNone lines seen m d' → PassesNone lines seen d d'
-passes_from lines seen d m d' same h = subst (λ (x : AtDesk). PassesNone lines seen x d') same h
-
-pub passes_to : (lines : List ℕ) (seen : List Choice) (d m d' : AtDesk) → d' ≡ m → PassesNone lines seen d m → PassesNone lines seen d d'
-passes_to lines seen d m d' same h = subst (λ (x : AtDesk). PassesNone lines seen d x) (sym same) h
-
+-- a desk that stays, before commands or behind them
 pub led_from : (d m d' : AtDesk) → m ≡ d → Led m d' → Led d d'
 led_from d m d' same h = subst (λ (x : AtDesk). Led x d') same h
 

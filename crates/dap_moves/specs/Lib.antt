@@ -5,5 +5,7 @@ pub mod Led
 pub mod Moves
 pub mod Parts
 pub mod Passing
+pub mod Running
+pub mod TakingBack
 pub mod Stops
 pub mod internal

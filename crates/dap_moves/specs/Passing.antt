@@ -16,7 +16,6 @@ use Rattle.locked_execution.specs.Performs.{Answers}
 use Rattle.locked_execution.specs.declared.command.Command.{Command}
 use Rattle.locked_execution.specs.declared.command.Reply.{Reply}
 use Rattle.dap_moves.specs.Moves.{quiet}
-use Rattle.dap_moves.specs.declared.run.Ended.{Ended}
 
 -- whether a line is among these
 abbrev pub has_line : List ℕ → Option ℕ → Bool
@@ -54,24 +53,19 @@ MayAsk d lines seen (Command.Step c) =
 MayAsk d lines seen (Command.Branch k) = lines ≡ []
 MayAsk d lines seen _ = ⊥
 
--- a command with its reply, and what it left
+-- a step that a run took, and what it left
 pub record Turned : Type 0 where
-  pub command : Command
-  pub reply : Reply
+  pub ticket : ℕ
+  pub event : Event
   pub left : AtDesk
 
--- the commands of a run, one after another; where it stood when it began counts for the first alone
+-- it took one that it may ask for
+abbrev pub TakesTurn : AtDesk → List ℕ → List Choice → Turned → Type 0
+TakesTurn d lines seen t =
+    (command : Command) × MayAsk d lines seen command
+    × Answers d quiet command (Reply.Stepped t.ticket t.event) t.left
+
+-- the steps of a run, one after another; where it stood when it began counts for the first alone
 abbrev pub Turns : AtDesk → List ℕ → List Choice → List Turned → AtDesk → Type 0
 Turns d lines seen [] d' = d' ≡ d
-Turns d lines seen (t ∷ ts) d' =
-    MayAsk d lines seen t.command × Answers d quiet t.command t.reply t.left × Turns t.left lines [] ts d'
-
--- a run from d to d' passes none of the lines
-pub record PassesNone (lines : List ℕ) (seen : List Choice) (d d' : AtDesk) : Type 0 where
-  pub turns : List Turned
-  pub turned : Turns d lines seen turns d'
-
--- where a run ends at a line, a ready event has an action there, and the line is one of these
-abbrev pub EndsTruly : List ℕ → AtDesk → Ended → Type 0
-EndsTruly lines d (Ended.AtLine branch line) = (e : Event) × IsReady d e × StopsAt d.machine lines e line
-EndsTruly lines d _ = Unit {0}
+Turns d lines seen (t ∷ ts) d' = TakesTurn d lines seen t × Turns t.left lines [] ts d'

@@ -1,2 +1,3 @@
+pub mod Rolling
 pub mod StopParts
 pub mod Turning

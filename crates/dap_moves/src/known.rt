@@ -1,8 +1,9 @@
 // What is asked of a desk, which changes nothing.
-ghost use Rattle.std.specs.Prelude.{◌≡◌, IfOk, IfSome};
+ghost use Rattle.std.specs.Prelude.{◌≡◌, IfErr, IfOk, IfSome};
 ghost use Rattle.runs.specs.Object.{Reaches};
 ghost use Rattle.runs.specs.Ready.{ReadyList};
 ghost use Rattle.runs.specs.Steps.{State};
+ghost use Rattle.runs.specs.declared.command.Refusal as refusals;
 ghost use Rattle.locked_execution.specs.AtDesk.{execution};
 ghost use Rattle.dap_moves.specs.Known.{HasValue};
 
@@ -14,12 +15,13 @@ use value::Value;
 
 /// The events that may be taken now, in order of acting address, then arm. It is refused for want of memory alone.
 pub fn ready_events(desk: &mut Desk) -> Result<Items<Event>, Refusal>
+    ensures memory { IfErr result (λ why. why ≡ refusals.Refusal.Memory) }
     ensures ready { IfOk result (λ events. (T : State) × Reaches (execution desk.old) T × ReadyList T events) }
     ensures same { desk.new ≡ desk.old }
 {
     match desk.perform(QUIET, &Command::Ready) {
         Reply::Ready(events) => Ok(events),
-        Reply::Refused(why) => Err(why),
+        // It is refused for nothing else.
         _ => Err(Refusal::Memory),
     }
 }

@@ -1,13 +1,20 @@
 // A run: the branches step in turn, one step each, until something stops them.
-ghost use Rattle.std.specs.Prelude.{◌≡◌, ◌<◌, ℕ, List, [], IfSome, MatchOption, false};
+ghost use Rattle.std.specs.Prelude.{◌≡◌, ◌⊎◌, ◌≤◌, ◌<◌, ℕ, [], ◌∷◌, MatchOption, None, Some, false, true};
 ghost use Rattle.syntax.specs.Lists.{In};
 ghost use Rattle.system.specs.Expression.{is_in};
+ghost use Rattle.system_places.specs.SystemBranches as places;
 ghost use Rattle.runs.specs.Choices.{choice_of};
-ghost use Rattle.locked_execution.specs.AtDesk.{AtDesk};
+ghost use Rattle.runs.specs.Object.{Reaches};
+ghost use Rattle.runs.specs.Ready.{ReadyList};
+ghost use Rattle.runs.specs.Steps.{State};
+ghost use Rattle.locked_execution.specs.AtDesk.{execution};
 ghost use Rattle.locked_execution.specs.declared.command.Command as asked;
+ghost use Rattle.locked_execution.specs.declared.command.Reply as replied;
 ghost use Rattle.dap_moves.specs.Led.{Led};
-ghost use Rattle.dap_moves.specs.Passing.{EndsTruly, IsReady, MayAsk, PassesBy, PassesNone, StopsAt, IsAtLine, stands_on};
-ghost use Rattle.dap_moves.specs.internal.Turning.{TurnsTruly};
+ghost use Rattle.dap_moves.specs.Passing.{IsReady, MayAsk, PassesBy, StopsAt, IsAtLine, stands_on};
+ghost use Rattle.dap_moves.specs.Running.{IsIdle, KeepsChoice, NothingGoes, RunsFrom};
+ghost use Rattle.dap_moves.specs.declared.run.Ended as ends;
+ghost use Rattle.dap_moves.specs.internal.Turning.{TakesOne, TurnKeeps, any_goes, branch_for, turn_of};
 
 use crate::QUIET;
 use crate::forth::step_at;
@@ -19,6 +26,7 @@ use event_places::line_after;
 use locked_execution::{Command, Desk, Machine, Reply};
 use runs::{Choice, Event, Refusal};
 use std::alloc::Global;
+use syntax::Items;
 use system::System;
 use system_places::{branch_at, branch_count};
 
@@ -63,13 +71,14 @@ enum Turn {
 
 /// Goes on as planned. Each step is one command, and none passes a line with a breakpoint, but for the first, before
 /// which the run may have stood already. Where it stops before a step, `kept` has the choice of that, if there was
-/// memory for it.
+/// memory for it; else it has none.
 pub fn go_on(alloc: Global, desk: &mut Desk, plan: &Plan<'_>, kept: &mut Vec<Choice>) -> Ended
     ensures led { Led desk.old desk.new }
     ensures system { desk.new.machine.checked ≡ desk.old.machine.checked }
-    ensures passes { PassesNone plan.now.lines.now plan.now.seen.now desk.old desk.new }
-    ensures truly { EndsTruly plan.now.lines.now desk.new result }
+    ensures runs { RunsFrom 0 plan.now plan.now.seen.now desk.old desk.new result }
+    ensures keeps { KeepsChoice plan.now.lines.now desk.new result kept.new.items }
 {
+    kept.clear();
     let count = branch_count(desk.machine().checked().system());
     match take_turn(alloc, desk, plan, plan.seen, kept, plan.first, count) {
         Turn::Went(branch) => {
@@ -88,36 +97,38 @@ fn go_on_from(
     first: u32,
     count: u32,
 ) -> Ended
+    requires empty { kept.old.items ≡ [] }
+    requires count { count ≡ places.branch_count desk.old.machine.checked }
     ensures led { Led desk.old desk.new }
     ensures system { desk.new.machine.checked ≡ desk.old.machine.checked }
-    ensures passes { PassesNone plan.now.lines.now [] desk.old desk.new }
-    ensures truly { EndsTruly plan.now.lines.now desk.new result }
+    ensures runs { RunsFrom 1 plan.now [] desk.old desk.new result }
+    ensures keeps { KeepsChoice plan.now.lines.now desk.new result kept.new.items }
 {
     let mut turn = first;
-    for _ in 1..plan.most {
+    for taken in 1..plan.most {
         match take_turn(alloc, desk, plan, &[], kept, turn, count) {
             Turn::Went(branch) => turn = turn_behind(branch, count),
             Turn::Ended(ended) => return ended,
         }
     }
-    after_most(desk, plan, turn, count)
+    after_most(desk, plan, turn)
 }
 
 /// Why a run ends that took as many steps as there may be: no step is ready, or that is why.
-fn after_most(desk: &mut Desk, plan: &Plan<'_>, turn: u32, count: u32) -> Ended
+fn after_most(desk: &mut Desk, plan: &Plan<'_>, turn: u32) -> Ended
     ensures same { desk.new ≡ desk.old }
-    ensures truly { (lines : List ℕ) (d : AtDesk) → EndsTruly lines d result }
+    ensures ends { ((result ≡ ends.Ended.Nothing) × NothingGoes desk.old plan.now.only)
+        ⊎ (result ≡ ends.Ended.Most turn) }
 {
-    if is_stuck(desk, plan, turn, count) {
-        return Ended::Nothing;
+    if is_stuck(desk, plan) {
+        Ended::Nothing
+    } else {
+        Ended::Most(turn)
     }
-    Ended::Most(turn)
 }
 
 /// The branch whose turn it is behind this one, of so many.
-fn turn_behind(branch: u32, count: u32) -> u32
-    ensures { 0 < count → result < count }
-{
+fn turn_behind(branch: u32, count: u32) -> u32 {
     match branch.checked_add(1) {
         Some(next) if next < count => next,
         _ => 0,
@@ -125,16 +136,44 @@ fn turn_behind(branch: u32, count: u32) -> u32
 }
 
 /// Whether no step is ready. Without memory to look it is not known, so it is not.
-fn is_stuck(desk: &mut Desk, plan: &Plan<'_>, turn: u32, count: u32) -> bool
-    ensures { desk.new ≡ desk.old }
+fn is_stuck(desk: &mut Desk, plan: &Plan<'_>) -> bool
+    ensures same { desk.new ≡ desk.old }
+    ensures stuck { result ≡ true → NothingGoes desk.old plan.now.only }
 {
     match ready_events(desk) {
         Ok(events) => {
             let system = desk.machine().checked().system();
-            next_in_turn(system, events.as_slice(), plan, turn, count).is_none()
+            none_goes(system, events.as_slice(), plan.only)
         }
         Err(_) => false,
     }
+}
+
+/// Whether none of the events acts in a branch that may step.
+fn none_goes(system: &System, events: &[Event], only: Option<u32>) -> bool
+    ensures { result ≡ true → any_goes system.now only events.now ≡ false }
+{
+    match first_that_goes(system, events, only) {
+        Some(_) => false,
+        None => true,
+    }
+}
+
+/// The first of the events that acts in a branch that may step, and that branch.
+#[tactic(auto, using(crate::proofs::Passing::here_in))]
+fn first_that_goes<'a>(
+    system: &System,
+    events: &'a [Event],
+    only: Option<u32>,
+) -> Option<(u32, &'a Event)>
+    ensures { MatchOption result (any_goes system.now only events.now ≡ false) (λ found. In found.1.now events.now) }
+{
+    for event in events {
+        if let Some(branch) = branch_of(system, only, event) {
+            return Some((branch, event));
+        }
+    }
+    None
 }
 
 /// One step, of this branch or of the next that has one. Where no line has a breakpoint nobody looks at the step before
@@ -148,10 +187,12 @@ fn take_turn(
     turn: u32,
     count: u32,
 ) -> Turn
+    requires empty { kept.old.items ≡ [] }
+    requires count { count ≡ places.branch_count desk.old.machine.checked }
     ensures led { Led desk.old desk.new }
     ensures system { desk.new.machine.checked ≡ desk.old.machine.checked }
-    ensures passes { PassesNone plan.now.lines.now seen.now desk.old desk.new }
-    ensures truly { TurnsTruly plan.now.lines.now desk.new result }
+    ensures takes { TakesOne plan.now seen.now desk.old desk.new result }
+    ensures keeps { TurnKeeps plan.now.lines.now desk.new result kept.new.items }
 {
     if plan.lines.is_empty() {
         step_freely(desk, plan, turn, count)
@@ -162,74 +203,110 @@ fn take_turn(
 
 /// One step, of this branch or of the next that has one, whatever it is.
 fn step_freely(desk: &mut Desk, plan: &Plan<'_>, turn: u32, count: u32) -> Turn
-    requires { plan.now.lines.now ≡ [] }
+    requires free { plan.now.lines.now ≡ [] }
+    requires count { count ≡ places.branch_count desk.old.machine.checked }
     ensures led { Led desk.old desk.new }
     ensures system { desk.new.machine.checked ≡ desk.old.machine.checked }
-    ensures passes { PassesNone plan.now.lines.now [] desk.old desk.new }
-    ensures truly { TurnsTruly plan.now.lines.now desk.new result }
+    ensures takes { TakesOne plan.now [] desk.old desk.new result }
 {
     match plan.only {
-        Some(branch) => step_branch(desk, plan, branch),
+        Some(branch) => step_alone(desk, plan, branch),
         None => step_next(desk, plan, turn, count),
+    }
+}
+
+/// One step of the branch, which alone may step.
+fn step_alone(desk: &mut Desk, plan: &Plan<'_>, branch: u32) -> Turn
+    requires free { plan.now.lines.now ≡ [] }
+    requires alone { plan.now.only ≡ Some branch }
+    ensures led { Led desk.old desk.new }
+    ensures system { desk.new.machine.checked ≡ desk.old.machine.checked }
+    ensures takes { TakesOne plan.now [] desk.old desk.new result }
+{
+    match step_branch(desk, plan, branch) {
+        Some(turn) => turn,
+        None => Turn::Ended(Ended::Nothing),
     }
 }
 
 /// One step of the first branch in turn that has one.
 fn step_next(desk: &mut Desk, plan: &Plan<'_>, turn: u32, count: u32) -> Turn
+    requires free { plan.now.lines.now ≡ [] }
+    requires all { plan.now.only ≡ None }
+    requires count { count ≡ places.branch_count desk.old.machine.checked }
+    ensures led { Led desk.old desk.new }
+    ensures system { desk.new.machine.checked ≡ desk.old.machine.checked }
+    ensures takes { TakesOne plan.now [] desk.old desk.new result }
+{
+    match step_between(desk, plan, turn, count) {
+        Some(outcome) => outcome,
+        None => step_before(desk, plan, turn, count),
+    }
+}
+
+/// One step of the first branch before the one whose turn it is, where no other has one.
+fn step_before(desk: &mut Desk, plan: &Plan<'_>, turn: u32, count: u32) -> Turn
+    requires free { plan.now.lines.now ≡ [] }
+    requires all { plan.now.only ≡ None }
+    requires count { count ≡ places.branch_count desk.old.machine.checked }
+    requires idle { (k : ℕ) → turn ≤ k → k < count → IsIdle desk.old k }
+    ensures led { Led desk.old desk.new }
+    ensures system { desk.new.machine.checked ≡ desk.old.machine.checked }
+    ensures takes { TakesOne plan.now [] desk.old desk.new result }
+{
+    match step_between(desk, plan, 0, turn) {
+        Some(outcome) => outcome,
+        None => Turn::Ended(Ended::Nothing),
+    }
+}
+
+/// One step of the first branch that has one, of those from `from` on and before `below`; none where no such has one.
+fn step_between(desk: &mut Desk, plan: &Plan<'_>, from: u32, below: u32) -> Option<Turn>
     requires { plan.now.lines.now ≡ [] }
     ensures led { Led desk.old desk.new }
     ensures system { desk.new.machine.checked ≡ desk.old.machine.checked }
-    ensures passes { PassesNone plan.now.lines.now [] desk.old desk.new }
-    ensures truly { TurnsTruly plan.now.lines.now desk.new result }
+    ensures takes { MatchOption result
+        ((desk.new ≡ desk.old) × ((k : ℕ) → from ≤ k → k < below → IsIdle desk.old k))
+        (λ turn. TakesOne plan.now [] desk.old desk.new turn) }
 {
-    for ahead in 0..count {
-        let outcome = step_branch(desk, plan, in_turn(turn, ahead, count));
-        if !is_idle(outcome) {
-            return outcome;
+    for branch in from..below {
+        if let Some(turn) = step_branch(desk, plan, branch) {
+            return Some(turn);
         }
     }
-    Turn::Ended(Ended::Nothing)
+    None
 }
 
-/// Whether the branch had no step.
-fn is_idle(turn: Turn) -> bool {
-    matches!(turn, Turn::Ended(Ended::Nothing))
-}
-
-/// The branch that is so many behind the one whose turn it is, of so many.
-fn in_turn(turn: u32, ahead: u32, count: u32) -> u32
-    requires { ahead < count }
-{
-    let number = (u64::from(turn) + u64::from(ahead)) % u64::from(count);
-    number as u32
-}
-
-/// The first step of the branch.
-fn step_branch(desk: &mut Desk, plan: &Plan<'_>, branch: u32) -> Turn
+/// The first step of the branch; none where it has none.
+#[tactic(auto, using(crate::proofs::Running::branch_took, crate::proofs::Running::branch_idle))]
+fn step_branch(desk: &mut Desk, plan: &Plan<'_>, branch: u32) -> Option<Turn>
     requires { plan.now.lines.now ≡ [] }
     ensures led { Led desk.old desk.new }
     ensures system { desk.new.machine.checked ≡ desk.old.machine.checked }
-    ensures passes { PassesNone plan.now.lines.now [] desk.old desk.new }
-    ensures truly { TurnsTruly plan.now.lines.now desk.new result }
+    ensures takes { MatchOption result ((desk.new ≡ desk.old) × IsIdle desk.old branch)
+        (λ turn. TakesOne plan.now [] desk.old desk.new turn) }
 {
-    let reply = desk.perform(QUIET, &Command::Branch(branch));
-    told(plan, branch, reply)
+    match desk.perform(QUIET, &Command::Branch(branch)) {
+        Reply::Idle => None,
+        reply => Some(told(plan, branch, reply)),
+    }
 }
 
-/// What came of a step of the branch that was answered so.
+/// What a step of the branch comes to that was answered so.
 fn told(plan: &Plan<'_>, branch: u32, reply: Reply) -> Turn
-    ensures { (d : AtDesk) → TurnsTruly plan.now.lines.now d result }
+    ensures { result ≡ turn_of plan.now.watched.now branch reply }
 {
     match reply {
         Reply::Stepped(ticket, event) => went(plan, branch, ticket, &event),
         Reply::Refused(why) => Turn::Ended(Ended::Refused(branch, why)),
+        Reply::Stopped(line) => Turn::Ended(Ended::AtLine(branch, line)),
         _ => Turn::Ended(Ended::Nothing),
     }
 }
 
 /// What comes of a step of the branch that was taken.
 fn went(plan: &Plan<'_>, branch: u32, ticket: u64, event: &Event) -> Turn
-    ensures { (d : AtDesk) → TurnsTruly plan.now.lines.now d result }
+    ensures { result ≡ turn_of plan.now.watched.now branch (replied.Reply.Stepped ticket event.now) }
 {
     if is_watched(plan.watched, event) {
         Turn::Ended(Ended::Watched(branch, ticket))
@@ -248,23 +325,38 @@ fn look_and_step(
     turn: u32,
     count: u32,
 ) -> Turn
+    requires { kept.old.items ≡ [] }
     ensures led { Led desk.old desk.new }
     ensures system { desk.new.machine.checked ≡ desk.old.machine.checked }
-    ensures passes { PassesNone plan.now.lines.now seen.now desk.old desk.new }
-    ensures truly { TurnsTruly plan.now.lines.now desk.new result }
+    ensures takes { TakesOne plan.now seen.now desk.old desk.new result }
+    ensures keeps { TurnKeeps plan.now.lines.now desk.new result kept.new.items }
 {
-    let events = match ready_events(desk) {
-        Ok(events) => events,
-        Err(why) => return Turn::Ended(Ended::Refused(turn, why)),
-    };
-    let next = next_in_turn(
-        desk.machine().checked().system(),
-        events.as_slice(),
-        plan,
-        turn,
-        count,
-    );
-    match next {
+    match ready_events(desk) {
+        Ok(events) => step_among(alloc, desk, plan, seen, kept, turn, count, &events),
+        Err(why) => Turn::Ended(Ended::Refused(turn, why)),
+    }
+}
+
+/// The next of these steps in turn, which are ready, unless an action of it is on a line with a breakpoint.
+fn step_among(
+    alloc: Global,
+    desk: &mut Desk,
+    plan: &Plan<'_>,
+    seen: &[Choice],
+    kept: &mut Vec<Choice>,
+    turn: u32,
+    count: u32,
+    events: &Items<Event>,
+) -> Turn
+    requires empty { kept.old.items ≡ [] }
+    requires ready { (T : State) × Reaches (execution desk.old) T × ReadyList T events.now }
+    ensures led { Led desk.old desk.new }
+    ensures system { desk.new.machine.checked ≡ desk.old.machine.checked }
+    ensures takes { TakesOne plan.now seen.now desk.old desk.new result }
+    ensures keeps { TurnKeeps plan.now.lines.now desk.new result kept.new.items }
+{
+    let system = desk.machine().checked().system();
+    match next_in_turn(system, events.as_slice(), plan.only, turn, count) {
         Some((branch, event)) => step_or_stop(alloc, desk, plan, seen, kept, branch, event),
         None => Turn::Ended(Ended::Nothing),
     }
@@ -280,11 +372,12 @@ fn step_or_stop(
     branch: u32,
     event: &Event,
 ) -> Turn
-    requires { IsReady desk.old event.now }
+    requires empty { kept.old.items ≡ [] }
+    requires ready { IsReady desk.old event.now }
     ensures led { Led desk.old desk.new }
     ensures system { desk.new.machine.checked ≡ desk.old.machine.checked }
-    ensures passes { PassesNone plan.now.lines.now seen.now desk.old desk.new }
-    ensures truly { TurnsTruly plan.now.lines.now desk.new result }
+    ensures takes { TakesOne plan.now seen.now desk.old desk.new result }
+    ensures keeps { TurnKeeps plan.now.lines.now desk.new result kept.new.items }
 {
     if is_seen(seen, event) {
         return step_past(alloc, desk, plan, seen, branch, event);
@@ -311,49 +404,83 @@ fn step_past(
     requires { MayAsk desk.old plan.now.lines.now seen.now (asked.Command.Step (choice_of event.now)) }
     ensures led { Led desk.old desk.new }
     ensures system { desk.new.machine.checked ≡ desk.old.machine.checked }
-    ensures passes { PassesNone plan.now.lines.now seen.now desk.old desk.new }
-    ensures truly { TurnsTruly plan.now.lines.now desk.new result }
+    ensures takes { TakesOne plan.now seen.now desk.old desk.new result }
 {
     let reply = step_at(alloc, desk, event);
     told(plan, branch, reply)
 }
 
 /// Keeps the choice of the event alone, where there is memory for it.
-pub(crate) fn keep(alloc: Global, kept: &mut Vec<Choice>, event: &Event) {
+pub(crate) fn keep(alloc: Global, kept: &mut Vec<Choice>, event: &Event)
+    ensures { (kept.new.items ≡ []) ⊎ (kept.new.items ≡ choice_of event.now ∷ []) }
+{
     kept.clear();
-    if let Ok(choice) = event.choice(alloc) {
-        let _ = kept.push(choice);
+    match event.choice(alloc) {
+        Ok(choice) => add_choice(kept, choice),
+        Err(_) => {}
     }
 }
 
-/// The first of these events that acts in the first branch in turn in which one does, and that branch.
-#[tactic(auto, using(crate::proofs::Passing::here_in))]
+/// Adds the choice, where there is memory for it.
+fn add_choice(kept: &mut Vec<Choice>, choice: Choice)
+    requires { kept.old.items ≡ [] }
+    ensures { (kept.new.items ≡ []) ⊎ (kept.new.items ≡ choice ∷ []) }
+{
+    match kept.push(choice) {
+        Ok(()) => {}
+        Err(_) => {}
+    }
+}
+
+/// The first of these events that acts in the first branch in turn in which one does, of those that may step, and that
+/// branch.
 fn next_in_turn<'a>(
     system: &System,
     events: &'a [Event],
-    plan: &Plan<'_>,
+    only: Option<u32>,
     turn: u32,
     count: u32,
 ) -> Option<(u32, &'a Event)>
-    ensures { IfSome result (λ found. In found.1.now events.now) }
+    ensures { MatchOption result (any_goes system.now only events.now ≡ false) (λ found. In found.1.now events.now) }
 {
-    let mut nearest: Option<(u32, &'a Event)> = None;
-    let mut least = u64::MAX;
+    match first_that_goes(system, events, only) {
+        Some(first) => Some(nearest(system, events, only, turn, count, first)),
+        None => None,
+    }
+}
+
+/// The same, where this one of them is the first that acts in a branch that may step.
+#[tactic(auto, using(crate::proofs::Passing::here_in))]
+fn nearest<'a>(
+    system: &System,
+    events: &'a [Event],
+    only: Option<u32>,
+    turn: u32,
+    count: u32,
+    first: (u32, &'a Event),
+) -> (u32, &'a Event)
+    requires { In first.1.now events.now }
+    ensures { In result.1.now events.now }
+{
+    let mut found = first;
+    let mut least = distance(turn, first.0, count);
     for event in events {
-        if let Some(branch) = branch_of(system, plan, event) {
+        if let Some(branch) = branch_of(system, only, event) {
             let ahead = distance(turn, branch, count);
             if ahead < least {
                 least = ahead;
-                nearest = Some((branch, event));
+                found = (branch, event);
             }
         }
     }
-    nearest
+    found
 }
 
 /// The branch in which the event acts, where that may step.
-fn branch_of(system: &System, plan: &Plan<'_>, event: &Event) -> Option<u32> {
-    match plan.only {
+fn branch_of(system: &System, only: Option<u32>, event: &Event) -> Option<u32>
+    ensures { result ≡ branch_for system.now only event.now }
+{
+    match only {
         Some(branch) if !acts_in(system, branch, event) => None,
         _ => branch_at(system, event.acting_place()),
     }

@@ -2,6 +2,8 @@
 ghost use Rattle.std.specs.Prelude.{◌≡◌, true};
 ghost use Rattle.syntax.specs.Lists.{In};
 ghost use Rattle.runs.specs.Choices.{choice_of};
+ghost use Rattle.machine.specs.Branching.{is_branch};
+ghost use Rattle.dap_moves.specs.Running.{is_hit, is_watched};
 
 use runs::{Choice, Event};
 
@@ -15,17 +17,35 @@ pub enum Watched {
 }
 
 /// Whether the event writes a variable that is watched, or is on a channel that is.
-pub fn is_watched(watched: &[Watched], event: &Event) -> bool {
+pub fn is_watched(watched: &[Watched], event: &Event) -> bool
+    ensures { result ≡ is_watched watched.now event.now }
+{
     for one in watched {
-        let hit = match one {
-            Watched::Variable(number) => event.written == Some(*number),
-            Watched::Channel(number) => event.channel == Some(*number),
-        };
-        if hit {
+        if is_hit(*one, event) {
             return true;
         }
     }
     false
+}
+
+/// Whether the event writes this variable, or is on this channel.
+fn is_hit(watched: Watched, event: &Event) -> bool
+    ensures { result ≡ is_hit watched event.now }
+{
+    match watched {
+        Watched::Variable(number) => is_number(number, event.written),
+        Watched::Channel(number) => is_number(number, event.channel),
+    }
+}
+
+/// Whether this is the number.
+fn is_number(number: u32, found: Option<u32>) -> bool
+    ensures { result ≡ is_branch number found }
+{
+    match found {
+        Some(one) => one == number,
+        None => false,
+    }
 }
 
 /// Whether this is the choice of the event.

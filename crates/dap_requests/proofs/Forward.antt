@@ -1,19 +1,39 @@
--- One step forth.
-use Rattle.std.proofs.Common.{◌≡◌, ◌∙◌, ℕ, List, Option, None, Some, inl, inr, ap, subst, refl, sym}
-use Rattle.std.specs.Prelude.{slice_get}
+-- Steps forth, and runs.
+use Rattle.std.proofs.Common.{◌≡◌, ◌⊎◌, ◌∙◌, ℕ, ◌-◌, List, [], ◌∷◌, ◌++◌, Option, None, Some, Bool, true, false, inl, inr, ap, subst, refl, sym, codes}
+use Rattle.std.specs.Prelude.{slice_get, unwrap_or}
+use Rattle.serde_json.specs.View.{view}
+use Rattle.syntax.specs.Lists.{Every, In}
 use Rattle.system.specs.declared.system.System.{System}
+use Rattle.system_places.specs.SystemBranches.{branch_count}
+use Rattle.runs.specs.Choices.{choice_of}
 use Rattle.runs.specs.Object.{Reaches}
 use Rattle.runs.specs.Ready.{ReadyList}
 use Rattle.runs.specs.Steps.{State}
+use Rattle.runs.specs.declared.command.Refusal.{Refusal}
+use Rattle.runs.specs.declared.event.Choice.{Choice}
 use Rattle.runs.specs.declared.event.Event.{Event}
 use Rattle.machine.specs.AtMachine.{AtMachine, object}
-use Rattle.locked_execution.specs.AtDesk.{AtDesk}
+use Rattle.locked_execution.specs.AtDesk.{AtDesk, execution}
 use Rattle.locked_execution.specs.declared.command.Reply.{Reply}
-use Rattle.runs.specs.declared.event.Choice.{Choice}
-use Rattle.dap_moves.specs.Moves.{StepsAt, targets}
-use Rattle.dap_moves.specs.Passing.{PassesNone}
+use Rattle.dap_messages.specs.Arguments.{flag_named, number_named}
+use Rattle.dap_messages.specs.declared.answer.Answer.{Answer}
+use Rattle.dap_messages.specs.declared.answer.Effect.{Effect}
 use Rattle.dap_messages.specs.declared.kind.Kind.{Kind}
-use Rattle.dap_requests.specs.Forth.{ForthBy, IsTarget, RunsBy, StepsForth, Takes}
+use Rattle.dap_messages.specs.declared.request.Request.{Request}
+use Rattle.dap_messages.specs.declared.told.Stop.{Stop}
+use Rattle.dap_messages.specs.declared.told.Told.{Told}
+use Rattle.dap_moves.specs.Moves.{StepsAt, StepsBack, targets}
+use Rattle.dap_moves.specs.Running.{KeepsChoice, RunsFrom}
+use Rattle.dap_moves.specs.TakingBack.{GoesBack, KeepsBack}
+use Rattle.dap_moves.specs.declared.back.Back.{Back}
+use Rattle.dap_moves.specs.declared.run.Ended.{Ended}
+use Rattle.dap_moves.specs.declared.run.Plan.{Plan}
+use Rattle.dap_moves.specs.declared.taken_back.Rewound.{Rewound}
+use Rattle.dap_threads.specs.Threads.{branch_named}
+use Rattle.dap_requests.specs.Back.{Backs, Remembers, Reverses, ReversesFor, ReversesIn, SeenBehind, stop_back, stop_behind}
+use Rattle.dap_requests.specs.Forth.{AreSeen, Going, IsFirst, IsPlanned, RunsBy, StepsForth, Takes, alone, stop_at, stop_of, target_of}
+use Rattle.dap_requests.specs.Said.{Runs, TellsOutputs, TellsStop}
+use Rattle.dap_requests.proofs.public.Saying.{runs_on, stops_behind, stops_on}
 
 -- what was looked for in the desk's own system and list
 here : (d : AtDesk) (system : System) (es fs : List Event) (k n : ℕ) (o : Option Event) → system ≡ d.machine.checked → fs ≡ es →
@@ -24,46 +44,159 @@ here d system es fs k n o same list found =
     ∙ ap (λ (ys : List Event). slice_get (targets d.machine.checked k ys) n) list
 
 -- the step that was found is asked for
-pub takes_found : (d d' : AtDesk) (system : System) (es fs : List Event) (k n : ℕ) (e : Event) → system ≡ d.machine.checked → fs ≡ es →
-    Some e ≡ slice_get (targets system k fs) n → (reply : Reply) × StepsAt d e reply d' → Takes d (slice_get (targets d.machine.checked k es) n) d'
-takes_found d d' system es fs k n e same list found h =
-    subst (λ (o : Option Event). Takes d o d') (here d system es fs k n (Some e) same list found) h
+pub takes_found : (d d' : AtDesk) (a b : Answer) (system : System) (es fs : List Event) (k n : ℕ) (e : Event) → system ≡ d.machine.checked → fs ≡ es →
+    Some e ≡ slice_get (targets system k fs) n → (stop : Stop) × TellsStop a stop b × Takes d (Some e) stop d' →
+    (stop : Stop) × TellsStop a stop b × Takes d (slice_get (targets d.machine.checked k es) n) stop d'
+takes_found d d' a b system es fs k n e same list found h =
+    (h.0, h.1, subst (λ (o : Option Event). Takes d o h.0 d') (here d system es fs k n (Some e) same list found) h.2)
 
 -- there is none
-pub takes_none : (d d' : AtDesk) (system : System) (es fs : List Event) (k n : ℕ) → system ≡ d.machine.checked → fs ≡ es →
-    None ≡ slice_get (targets system k fs) n → d' ≡ d → Takes d (slice_get (targets d.machine.checked k es) n) d'
-takes_none d d' system es fs k n same list found h = subst (λ (o : Option Event). Takes d o d') (here d system es fs k n None same list found) h
+pub takes_none : (d : AtDesk) (a b : Answer) (system : System) (es fs : List Event) (k n : ℕ) → system ≡ d.machine.checked → fs ≡ es →
+    None ≡ slice_get (targets system k fs) n → TellsStop a Stop.Stands b →
+    (stop : Stop) × TellsStop a stop b × Takes d (slice_get (targets d.machine.checked k es) n) stop d
+takes_none d a b system es fs k n same list found h =
+    (Stop.Stands, h, subst (λ (o : Option Event). Takes d o Stop.Stands d) (here d system es fs k n None same list found) (refl, refl))
 
 -- of the events that are ready
-pub forth_listed : (d d' : AtDesk) (m : AtMachine) (es : List Event) (k n : ℕ) → m ≡ d.machine →
-    ((T : State) × Reaches (object m) T × ReadyList T es) → Takes d (slice_get (targets d.machine.checked k es) n) d' → StepsForth d k n d'
-forth_listed d d' m es k n same ready h =
+pub forth_listed : (d d' : AtDesk) (a b : Answer) (m : AtMachine) (es : List Event) (k n : ℕ) → m ≡ d.machine →
+    ((T : State) × Reaches (object m) T × ReadyList T es) →
+    (stop : Stop) × TellsStop a stop b × Takes d (slice_get (targets d.machine.checked k es) n) stop d' →
+    (stop : Stop) × TellsStop a stop b × StepsForth d k n stop d'
+forth_listed d d' a b m es k n same ready h =
     let there = subst (λ (x : AtMachine). (T : State) × Reaches (object x) T × ReadyList T es) same ready in
-    inl (there.0, es, there.1, there.2, h)
+    (h.0, h.1, inl (there.0, es, there.1, there.2, h.2))
 
 -- there was no memory to look
-pub forth_nowhere : (d d' : AtDesk) (k n : ℕ) → d' ≡ d → StepsForth d k n d'
-forth_nowhere d d' k n same = inr same
-
--- the first step is what a request asks for that is no `stepIn`
-pub target_first : (kind : Kind) → (kind ≡ Kind.StepIn → ⊥) → IsTarget kind (Some 0)
-target_first Kind.StepIn other = absurd (other refl)
-target_first _ other = refl
-
--- and any is of one that is
-pub target_any : (kind : Kind) (target : Option ℕ) → kind ≡ Kind.StepIn → IsTarget kind target
-target_any kind target is = let to : IsTarget Kind.StepIn target = tt in subst (λ (k : Kind). IsTarget k target) (sym is) to
+pub forth_nowhere : (d : AtDesk) (a b : Answer) (k n : ℕ) → TellsStop a (Stop.Refused 1) b → (stop : Stop) × TellsStop a stop b × StepsForth d k n stop d
+forth_nowhere d a b k n h = (Stop.Refused 1, h, inr (refl, refl))
 
 -- the step that a request asks for
-pub forth_by : (d d' : AtDesk) (kind : Kind) (k number : ℕ) → IsTarget kind (Some number) → StepsForth d k number d' → ForthBy d kind k d'
-forth_by d d' Kind.StepIn k number is h = (number, h)
-forth_by d d' _ k number is h = subst (λ (n : ℕ). StepsForth d k n d') is h
+pub runs_target : (a m b : Answer) (d d' : AtDesk) (k n target : ℕ) → m ≡ a → n ≡ target →
+    (stop : Stop) × TellsStop m stop b × StepsForth d k n stop d' → Runs a b d d' (λ (stop : Stop). StepsForth d k target stop d')
+runs_target a m b d d' k n target same is h =
+    runs_on a m b d d' (λ (stop : Stop). StepsForth d k target stop d') same
+    (h.0, h.1, subst (λ (x : ℕ). StepsForth d k x h.0 d') is h.2)
 
--- none is asked for
-pub forth_unasked : (d : AtDesk) (kind : Kind) (k : ℕ) → IsTarget kind None → ForthBy d kind k d
-forth_unasked d Kind.StepIn k is = (0, inr refl)
-forth_unasked d _ k is = absurd is
+pub target_other : (kind : Kind) (named : Option ℕ) → (kind ≡ Kind.StepIn → ⊥) → 0 ≡ target_of kind named
+target_other Kind.StepIn named other = absurd (other refl)
+target_other _ named other = refl
 
--- a run passes none of these lines
-pub runs_by : (lines slice : List ℕ) (seen : List Choice) (d d' : AtDesk) → slice ≡ lines → PassesNone slice seen d d' → RunsBy lines d d'
-runs_by lines slice seen d d' same h = (seen, subst (λ (ls : List ℕ). PassesNone ls seen d d') same h)
+pub target_this : (kind : Kind) (named : Option ℕ) (n : ℕ) → kind ≡ Kind.StepIn → Some n ≡ named → n - 1 ≡ target_of kind named
+target_this kind named n is some =
+    subst (λ (o : Option ℕ). n - 1 ≡ target_of kind o) some
+    (subst (λ (k : Kind). n - 1 ≡ target_of k (Some n)) (sym is) refl)
+
+pub target_none : (kind : Kind) (named : Option ℕ) → kind ≡ Kind.StepIn → None ≡ named → 0 ≡ target_of kind named
+target_none kind named is none =
+    subst (λ (o : Option ℕ). 0 ≡ target_of kind o) none
+    (subst (λ (k : Kind). 0 ≡ target_of k None) (sym is) refl)
+
+-- a run
+pub runs_by : (going : Going) (k : Option ℕ) (d d' : AtDesk) (before after : List Choice) (plan : Plan) (ended : Ended) → IsPlanned going plan →
+    AreSeen d k before plan.seen.now → RunsFrom 0 plan plan.seen.now d d' ended → KeepsChoice plan.lines.now d' ended after →
+    RunsBy going k d before (stop_at ended) d' after
+runs_by going k d d' before after plan ended planned seen runs keeps = record {
+  plan = plan;
+  ended = ended;
+  planned = planned;
+  seen = seen;
+  runs = runs;
+  told = refl;
+  keeps = subst (λ (ls : List ℕ). KeepsChoice ls d' ended after) planned.lines keeps;
+}
+
+-- steps before which a run has stood already
+every-seen : (d : AtDesk) (k : Option ℕ) (before seen : List Choice) → ((c : Choice) → In c seen → In c before) → AreSeen d k before seen
+every-seen d k before [] all = tt
+every-seen d k before (c ∷ seen) all = (inl (all c (inl refl)), every-seen d k before seen (λ x there. all x (inr there)))
+
+pub seen_same : (d : AtDesk) (k : Option ℕ) (before : List Choice) → AreSeen d k before before
+seen_same d k before = every-seen d k before before (λ c there. there)
+
+both-seen : (d : AtDesk) (k : Option ℕ) (before xs ys : List Choice) → AreSeen d k before xs → AreSeen d k before ys → AreSeen d k before (xs ++ ys)
+both-seen d k before [] ys h g = g
+both-seen d k before (x ∷ xs) ys h g = (h.0, both-seen d k before xs ys h.1 g)
+
+-- and the first of the branch
+pub seen_more : (d : AtDesk) (k : Option ℕ) (before : List Choice) (c : Choice) → IsFirst d k c → AreSeen d k before (before ++ c ∷ [])
+seen_more d k before c first = both-seen d k before before (c ∷ []) (seen_same d k before) (inr first, tt)
+
+pub first_of : (d : AtDesk) (m : AtMachine) (system : System) (es fs : List Event) (k : ℕ) (e : Event) (c : Choice) → d.machine ≡ m →
+    system ≡ m.checked → fs ≡ es → ((T : State) × Reaches (object m) T × ReadyList T es) → Some e ≡ slice_get (targets system k fs) 0 →
+    c ≡ choice_of e → IsFirst d (Some k) c
+first_of d m system es fs k e c same checked list ready found is =
+    let there = subst (λ (x : AtMachine). (T : State) × Reaches (object x) T × ReadyList T es) (sym same) ready in
+    let own : system ≡ d.machine.checked = checked ∙ sym (ap (λ (x : AtMachine). x.checked) same) in
+    (there.0, es, e, there.1, there.2, sym (here d system es fs k 0 (Some e) own list found), is)
+
+-- what was kept in mind, or one step more
+pub seen_or_more : (d : AtDesk) (k : Option ℕ) (before after : List Choice) (c : Choice) → IsFirst d k c → (after ≡ before) ⊎ (after ≡ before ++ c ∷ []) →
+    AreSeen d k before after
+seen_or_more d k before after c first h = elim h [
+  | inl same ↦ subst (λ (xs : List Choice). AreSeen d k before xs) (sym same) (seen_same d k before)
+  | inr more ↦ subst (λ (xs : List Choice). AreSeen d k before xs) (sym more) (seen_more d k before c first)
+]
+
+-- a step that was not refused
+pub stop_other : (reply : Reply) → ((why : Refusal) → reply ≡ Reply.Refused why → ⊥) → stop_of reply ≡ Stop.Stands
+stop_other (Reply.Refused why) other = absurd (other why refl)
+stop_other _ other = refl
+
+-- the same `stopped`
+pub tells_as : (a b : Answer) (stop other : Stop) → stop ≡ other → TellsStop a stop b → TellsStop a other b
+tells_as a b stop other same h = subst (λ (s : Stop). TellsStop a s b) same h
+
+-- nothing is kept in mind behind a step back that was not refused
+pub seen_cleared : (t : ℕ) (reply : Reply) (before after : List Choice) → ((why : Refusal) → reply ≡ Reply.Refused why → ⊥) → after ≡ [] →
+    SeenBehind (Back.Asked t reply) before after
+seen_cleared t (Reply.Refused why) before after other none = absurd (other why refl)
+seen_cleared t _ before after other none = none
+
+-- steps are taken back for the branch of the thread that the request names
+pub reverses_thread : (d d' : AtDesk) (m : AtMachine) (request : Request) (found : Option ℕ) (k : ℕ) (single : Bool) (stop : Stop) → m ≡ d.machine →
+    found ≡ branch_named (branch_count m.checked) (number_named (codes "threadId") (view request.arguments)) → found ≡ Some k →
+    single ≡ unwrap_or (flag_named (codes "singleThread") (view request.arguments)) false → Reverses (alone k single) d stop d' →
+    ReversesFor d request stop d'
+reverses_thread d d' m request found k single stop same is some alone_is h =
+    subst (λ (o : Option ℕ). ReversesIn o request d stop d')
+    (sym some ∙ is ∙ ap (λ (x : AtMachine). branch_named (branch_count x.checked) (number_named (codes "threadId") (view request.arguments))) same)
+    (subst (λ (b : Bool). Reverses (alone k b) d stop d') alone_is h)
+
+-- how it ended is told
+pub run_told : (going : Going) (k : Option ℕ) (d d' : AtDesk) (before after : List Choice) (a m b : Answer) (ended : Ended) →
+    TellsOutputs a m → TellsStop m (stop_at ended) b → RunsBy going k d before (stop_at ended) d' after →
+    (stop : Stop) × TellsStop a stop b × RunsBy going k d before stop d' after
+run_told going k d d' before after a m b ended outputs stops h = (stop_at ended, stops_on a m b (stop_at ended) outputs stops, h)
+
+-- a body before it
+pub run_behind : (going : Going) (k : Option ℕ) (d d' : AtDesk) (before after : List Choice) (a m b : Answer) → TellsOutputs a m →
+    (stop : Stop) × TellsStop m stop b × RunsBy going k d before stop d' after →
+    (stop : Stop) × TellsStop a stop b × RunsBy going k d before stop d' after
+run_behind going k d d' before after a m b outputs h = (h.0, stops_on a m b h.0 outputs h.1, h.2)
+
+-- what is kept in mind
+pub remembers_same : (d d' : AtDesk) (b : Answer) (before : List Choice) → d' ≡ d → Remembers d d' b before before
+remembers_same d d' b before same = inr (inl (refl, same))
+
+pub remembers_still : (d d' : AtDesk) (b : Answer) (before after : List Choice) → after ≡ before → d' ≡ d → Remembers d d' b before after
+remembers_still d d' b before after seen same = inr (inl (seen, same))
+
+pub remembers_none : (d d' : AtDesk) (b : Answer) (before after : List Choice) → after ≡ [] → Remembers d d' b before after
+remembers_none d d' b before after none = inl none
+
+pub remembers_back : (d d' : AtDesk) (a b : Answer) (before after : List Choice) (ended : Rewound) → TellsStop a (stop_behind ended) b →
+    KeepsBack ended after → Remembers d d' b before after
+remembers_back d d' a b before after Rewound.AtBeginning stops keeps = inl keeps
+remembers_back d d' a b before after (Rewound.AtLine branch line) stops keeps = elim keeps [
+  | inl none ↦ inl none
+  | inr one ↦ inr (inr (stops.effect, one))
+]
+remembers_back d d' a b before after (Rewound.Watched branch ticket) stops keeps = inl keeps
+remembers_back d d' a b before after (Rewound.Refused why) stops keeps = inl keeps
+
+-- a step back that was refused changes nothing
+pub remembers_moved : (d d' : AtDesk) (k : ℕ) (b : Answer) (before after : List Choice) (moved : Back) → StepsBack d k moved d' →
+    SeenBehind moved before after → ((t : ℕ) (why : Refusal) → moved ≡ Back.Asked t (Reply.Refused why) → d' ≡ d) → Remembers d d' b before after
+remembers_moved d d' k b before after Back.AtBeginning back seen refused = inr (inl (seen, back.1))
+remembers_moved d d' k b before after (Back.Asked t (Reply.Refused why)) back seen refused = inr (inl (seen, refused t why refl))
+remembers_moved d d' k b before after (Back.Asked t _) back seen refused = inl seen

@@ -1,3 +1,4 @@
 pub mod public
 mod Forward
+mod Kept
 mod Reading

@@ -1,40 +1,108 @@
 -- Steps forth.
-use Rattle.std.specs.Prelude.{◌≡◌, ◌⊎◌, ℕ, List, Option, None, Some, slice_get}
+use Rattle.std.specs.Prelude.{◌≡◌, ◌⊎◌, ℕ, ◌-◌, List, Bool, true, false, Option, None, Some, codes, slice_get}
+use Rattle.serde_json.specs.View.{view}
+use Rattle.syntax.specs.Lists.{Every, In}
+use Rattle.runs.specs.Choices.{choice_of}
 use Rattle.runs.specs.Object.{Reaches}
 use Rattle.runs.specs.Ready.{ReadyList}
+use Rattle.runs.specs.Refusals.{refusal_number}
 use Rattle.runs.specs.Steps.{State}
+use Rattle.runs.specs.declared.event.Choice.{Choice}
 use Rattle.runs.specs.declared.event.Event.{Event}
 use Rattle.locked_execution.specs.AtDesk.{AtDesk, execution}
 use Rattle.locked_execution.specs.declared.command.Reply.{Reply}
-use Rattle.runs.specs.declared.event.Choice.{Choice}
+use Rattle.dap_messages.specs.Arguments.{number_named}
 use Rattle.dap_messages.specs.declared.kind.Kind.{Kind}
+use Rattle.dap_messages.specs.declared.request.Request.{Request}
+use Rattle.dap_messages.specs.declared.told.Stop.{Stop}
 use Rattle.dap_moves.specs.Moves.{StepsAt, targets}
-use Rattle.dap_moves.specs.Passing.{PassesNone}
+use Rattle.dap_moves.specs.Running.{KeepsChoice, RunsFrom}
+use Rattle.dap_moves.specs.declared.run.Ended.{Ended}
+use Rattle.dap_moves.specs.declared.run.Plan.{Plan}
+use Rattle.dap_moves.specs.declared.seen.Watched.{Watched}
+use Rattle.dap_views.specs.declared.program.Program.{Program}
 
--- the step of this event is asked for, if there is one
-abbrev pub Takes : AtDesk → Option Event → AtDesk → Type 0
-Takes d None d' = d' ≡ d
-Takes d (Some e) d' = (reply : Reply) × StepsAt d e reply d'
+-- how a thread stands behind a step that was answered so
+abbrev pub stop_of : Reply → Stop
+stop_of (Reply.Refused why) = Stop.Refused (refusal_number why)
+stop_of _ = Stop.Stands
+
+-- the step of this event is asked for, if there is one, and how it went is told
+abbrev pub Takes : AtDesk → Option Event → Stop → AtDesk → Type 0
+Takes d None stop d' = (stop ≡ Stop.Stands) × (d' ≡ d)
+Takes d (Some e) stop d' = (reply : Reply) × StepsAt d e reply d' × (stop ≡ stop_of reply)
 
 -- of the steps that branch k can be, the one of this number is asked for, if there is one; or there was no memory to
--- list them, and nothing changed
-abbrev pub StepsForth : AtDesk → ℕ → ℕ → AtDesk → Type 0
-StepsForth d k number d' =
+-- list them: nothing changed, and that is told
+abbrev pub StepsForth : AtDesk → ℕ → ℕ → Stop → AtDesk → Type 0
+StepsForth d k number stop d' =
     ((T : State) × (es : List Event) × Reaches (execution d) T × ReadyList T es
-    × Takes d (slice_get (targets d.machine.checked k es) number) d')
-    ⊎ (d' ≡ d)
+    × Takes d (slice_get (targets d.machine.checked k es) number) stop d')
+    ⊎ ((stop ≡ Stop.Refused 1) × (d' ≡ d))
 
--- which step a request of this kind asks for: `stepIn` may name any, if it names one; the others the first
-abbrev pub IsTarget : Kind → Option ℕ → Type 0
-IsTarget Kind.StepIn target = Unit {0}
-IsTarget _ None = ⊥
-IsTarget _ (Some number) = number ≡ 0
+-- which step a request of this kind asks for, from 0, where this one is named, from 1: `stepIn` may name any, the
+-- others ask for the first
+abbrev pub target_of : Kind → Option ℕ → ℕ
+target_of Kind.StepIn (Some named) = named - 1
+target_of _ _ = 0
 
--- a request of this kind asks for one step of branch k
-abbrev pub ForthBy : AtDesk → Kind → ℕ → AtDesk → Type 0
-ForthBy d Kind.StepIn k d' = (number : ℕ) × StepsForth d k number d'
-ForthBy d _ k d' = StepsForth d k 0 d'
+-- the step that a request asks for
+abbrev pub target_in : Request → ℕ
+target_in request = target_of request.kind (number_named (codes "targetId") (view request.arguments))
 
--- a run from d to d' passes none of these lines, but at its first step where it stood before one already
-abbrev pub RunsBy : List ℕ → AtDesk → AtDesk → Type 0
-RunsBy lines d d' = (seen : List Choice) × PassesNone lines seen d d'
+-- how a thread stands where a run ends so
+abbrev pub stop_at : Ended → Stop
+stop_at (Ended.AtLine branch line) = Stop.AtLine
+stop_at (Ended.Refused branch why) = Stop.Refused (refusal_number why)
+stop_at _ = Stop.Stands
+
+-- the choice is that of the first step of the branch, if one is meant
+abbrev pub IsFirst : AtDesk → Option ℕ → Choice → Type 0
+IsFirst d None c = ⊥
+IsFirst d (Some k) c =
+    (T : State) × (es : List Event) × (e : Event) × Reaches (execution d) T × ReadyList T es
+    × (slice_get (targets d.machine.checked k es) 0 ≡ Some e) × (c ≡ choice_of e)
+
+-- before these steps a run has stood already: before each of those that were kept, or before the first of the branch
+abbrev pub AreSeen : AtDesk → Option ℕ → List Choice → List Choice → Type 0
+AreSeen d k before seen = Every (λ (c : Choice). In c before ⊎ IsFirst d k c) seen
+
+-- how a run goes: the lines that stop it, what is watched, the most steps, and the branch that steps alone
+pub record Going : Type 0 where
+  pub lines : List ℕ
+  pub watched : List Watched
+  pub most : ℕ
+  pub only : Option ℕ
+
+-- the branch that steps alone, if it does
+abbrev pub alone : ℕ → Bool → Option ℕ
+alone branch true = Some branch
+alone branch false = None
+
+-- as what is launched is set
+abbrev pub going_of : Program → Option ℕ → Going
+going_of program only = record {
+  lines = program.stops.items;
+  watched = program.watched.items;
+  most = program.launch.most;
+  only = only;
+}
+
+-- it is planned so
+pub record IsPlanned (going : Going) (plan : Plan) : Type 0 where
+  pub lines : plan.lines.now ≡ going.lines
+  pub watched : plan.watched.now ≡ going.watched
+  pub most : plan.most ≡ going.most
+  pub only : plan.only ≡ going.only
+
+-- a run goes on from d, where branch k stands, to d', and how it ended is told. It passes no line but at its first
+-- step, where it has stood before that: `before` are the steps that were kept in mind, `after` those that are
+pub record RunsBy (going : Going) (k : Option ℕ) (d : AtDesk) (before : List Choice) (stop : Stop) (d' : AtDesk)
+    (after : List Choice) : Type 0 where
+  pub plan : Plan
+  pub ended : Ended
+  pub planned : IsPlanned going plan
+  pub seen : AreSeen d k before plan.seen.now
+  pub runs : RunsFrom 0 plan plan.seen.now d d' ended
+  pub told : stop ≡ stop_at ended
+  pub keeps : KeepsChoice going.lines d' ended after

@@ -1,9 +1,11 @@
 -- What an answer tells behind its response.
 use Rattle.std.specs.Prelude.{◌≡◌, ◌++◌, ◌⊎◌, List, [], ◌∷◌, false}
 use Rattle.syntax.specs.Lists.{Every}
+use Rattle.locked_execution.specs.AtDesk.{AtDesk}
 use Rattle.dap_messages.specs.Notes.{IsDone, IsRefusal, told_by}
 use Rattle.dap_messages.specs.declared.answer.Answer.{Answer}
 use Rattle.dap_messages.specs.declared.answer.Effect.{Effect}
+use Rattle.dap_messages.specs.declared.told.Stop.{Stop}
 use Rattle.dap_messages.specs.declared.told.Told.{Told}
 
 -- these events are told behind those of before, where there is memory for all
@@ -23,13 +25,23 @@ pub record TellsOutputs (a b : Answer) : Type 0 where
   pub effect : b.effect ≡ a.effect
 
 -- texts are told, and behind them one `stopped`, which comes even where there is no memory for others
-pub record TellsStop (a b : Answer) : Type 0 where
+pub record TellsStop (a : Answer) (stop : Stop) (b : Answer) : Type 0 where
   pub outputs : List Told
   pub are : AreOutputs outputs
-  pub told : Tells a (outputs ++ Told.Stopped ∷ []) b
+  pub told : Tells a (outputs ++ Told.Stopped stop ∷ []) b
   pub done : IsDone a.outcome → IsDone b.outcome
-  pub effect : b.effect ≡ Effect.Due Told.Stopped
+  pub effect : b.effect ≡ Effect.Due (Told.Stopped stop)
 
--- a request to run is refused and tells nothing, or ends with one `stopped`
-abbrev pub Runs : Answer → Answer → Type 0
-Runs a b = (IsRefusal b.outcome × (b.notes ≡ a.notes)) ⊎ TellsStop a b
+-- a request to run is refused, and tells nothing and changes nothing; or it ends with one `stopped`, which tells how it
+-- went
+abbrev pub Runs : Answer → Answer → AtDesk → AtDesk → (Stop → Type 0) → Type 0
+Runs a b d d' goes =
+    (IsRefusal b.outcome × (b.notes ≡ a.notes) × (d' ≡ d)) ⊎ ((stop : Stop) × TellsStop a stop b × goes stop)
+
+-- texts are told, and that the run has ended and there is nothing more to debug
+pub record TellsEnd (a b : Answer) : Type 0 where
+  pub outputs : List Told
+  pub are : AreOutputs outputs
+  pub told : Tells a (outputs ++ Told.Exited ∷ Told.Terminated ∷ []) b
+  pub done : IsDone a.outcome → IsDone b.outcome
+  pub effect : b.effect ≡ Effect.Due Told.Terminated

@@ -1,10 +1,13 @@
 -- Where a breakpoint stands.
-use Rattle.std.specs.Prelude.{ℕ, ◌≡◌, ◌≤◌, true, Option, None, Some}
+use Rattle.std.specs.Prelude.{ℕ, ◌⊎◌, ◌≤◌, List, Option, None, Some, length}
 use Rattle.system.specs.declared.command.Command.{Command}
-use Rattle.dap_moves.specs.Stops.{stops, NoneStops}
+use Rattle.dap_moves.specs.Stops.{FirstStop}
+use Rattle.dap_views.specs.Lined.{end_of}
+use Rattle.dap_views.specs.declared.lines.Lines.{Lines}
+use Rattle.dap_requests.specs.declared.breakpoints.TheConstants.{MOST_LINES}
 
 -- where it stands on a line, that is the first, from the one that was asked for on, on which a command can be an action
--- of an event
-abbrev pub StandsOn : Command → ℕ → Option ℕ → Type 0
-StandsOn c asked None = Unit {0}
-StandsOn c asked (Some line) = (asked ≤ line) × (stops line c ≡ true) × NoneStops c asked line
+-- of an event, in the same procedure; it stands on none where there is no such line, or as many lines stop as may
+abbrev pub StandsOn : Command → Lines → List ℕ → ℕ → Option ℕ → Type 0
+StandsOn c lines stops asked None = FirstStop c asked (end_of lines asked) None ⊎ (MOST_LINES ≤ length stops)
+StandsOn c lines stops asked (Some line) = FirstStop c asked (end_of lines asked) (Some line)

@@ -1,4 +1,8 @@
 // Breakpoints on lines.
+ghost use Rattle.std.specs.Prelude.{◌≡◌, ◌≤◌, true, length};
+ghost use Rattle.dap_moves.specs.Stops.{FirstStop};
+ghost use Rattle.dap_views.specs.Kept.{SameButExcepts, SameButLines};
+ghost use Rattle.dap_views.specs.Lined.{end_of};
 ghost use Rattle.dap_requests.specs.Stands.{StandsOn};
 
 use dap_messages::{Answer, Listed, Members, Request, Told, number_in, text_in};
@@ -91,7 +95,9 @@ pub fn set_lines(
     program: &mut Program,
     request: &Request,
     answer: &mut Answer,
-) {
+)
+    ensures { SameButLines program.old program.new }
+{
     let path = path_in(request);
     let own = program.is_at(path);
     if own || is_elsewhere(program, path) {
@@ -133,7 +139,9 @@ fn set_anew(
     own: bool,
     request: &Request,
     answer: &mut Answer,
-) {
+)
+    ensures { SameButLines program.old program.new }
+{
     let Some(lines) = lines_in(alloc, request, answer) else {
         return;
     };
@@ -145,15 +153,22 @@ fn set_anew(
         answer.lacks = true;
         return;
     };
-    if own {
-        program.elsewhere = None;
-    }
+    forget_elsewhere(program, own);
     program.last_id = program.last_id.saturating_add(lines.len() as u64);
     answer.did();
     let shown = keep(program, placing, answer);
     let mut body = Members::new(alloc);
     body.value("breakpoints", Value::Array(shown));
     answer.body(body);
+}
+
+/// Forgets that the breakpoints were asked for in another file, where they are of the one that is debugged.
+fn forget_elsewhere(program: &mut Program, own: bool)
+    ensures { SameButLines program.old program.new }
+{
+    if own {
+        program.elsewhere = None;
+    }
 }
 
 /// Breakpoints on these lines, each with a number of its own; `None` where there is no memory.
@@ -226,7 +241,9 @@ fn place_all(
 }
 
 /// Keeps the breakpoints, tells which have moved, and gives each as the client sees it.
-fn keep(program: &mut Program, placing: Placing, answer: &mut Answer) -> Vec<Value> {
+fn keep(program: &mut Program, placing: Placing, answer: &mut Answer) -> Vec<Value>
+    ensures { SameButLines program.old program.new }
+{
     let Placing {
         asked,
         stops,
@@ -265,7 +282,7 @@ fn place_in(
     own: bool,
     stops: &[u64],
 ) -> Placed
-    ensures { StandsOn machine.now.checked.main asked.line result.line }
+    ensures { own ≡ true → StandsOn machine.now.checked.main program.now.lines stops.now asked.line result.line }
 {
     if own {
         place(alloc, machine, program, asked, stops)
@@ -279,7 +296,7 @@ fn place_in(
 
 /// Where the breakpoint stands: on its line, else on the next one of the same procedure that stops.
 fn place(alloc: Global, machine: &Machine, program: &Program, asked: Asked, stops: &[u64]) -> Placed
-    ensures { StandsOn machine.now.checked.main asked.line result.line }
+    ensures { StandsOn machine.now.checked.main program.now.lines stops.now asked.line result.line }
 {
     match stop_below(machine, program, asked.line) {
         Some(stop) if is_full(stops, stop) => Placed {
@@ -302,16 +319,15 @@ fn place(alloc: Global, machine: &Machine, program: &Program, asked: Asked, stop
 
 /// The first line of the same procedure, from this one on, that stops.
 fn stop_below(machine: &Machine, program: &Program, line: u64) -> Option<u64>
-    ensures { StandsOn machine.now.checked.main line result }
+    ensures { FirstStop machine.now.checked.main line (end_of program.now.lines line) result }
 {
-    if program.lines.procedure(line).is_empty() || line > program.lines.count() {
-        return None;
-    }
-    first_stop(machine.checked().system(), line, program.lines.below(line))
+    first_stop(machine.checked().system(), line, program.lines.end_of(line))
 }
 
 /// Whether as many lines stop as may, and this is none of them.
-fn is_full(stops: &[u64], line: u64) -> bool {
+fn is_full(stops: &[u64], line: u64) -> bool
+    ensures { result ≡ true → MOST_LINES ≤ length stops.now }
+{
     stops.len() >= MOST_LINES && !stops.contains(&line)
 }
 
@@ -403,7 +419,9 @@ pub fn locations(
 }
 
 /// Answers `setExceptionBreakpoints`.
-pub fn set_exceptions(program: &mut Program, request: &Request, answer: &mut Answer) {
+pub fn set_exceptions(program: &mut Program, request: &Request, answer: &mut Answer)
+    ensures { SameButExcepts program.old program.new }
+{
     if let Some(excepts) = asks_for_refusals(request, answer) {
         program.excepts = excepts;
     }

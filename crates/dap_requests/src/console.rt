@@ -1,15 +1,18 @@
 // Expressions and lines that are typed, and how they can be completed.
-ghost use Rattle.std.specs.Prelude.{◌≡◌, true};
+ghost use Rattle.std.specs.Prelude.{◌≡◌, ◌⊎◌, false, true};
+ghost use Rattle.dap_messages.specs.Notes.{IsDone, IsRefusal};
 ghost use Rattle.dap_moves.specs.Led.{Led};
 ghost use Rattle.dap_requests.specs.Reading.{reads};
+ghost use Rattle.dap_requests.specs.Typed.{KeepsSome, is_typed};
 
+use crate::entered::is_typed;
 use crate::hints::add_in_place;
 use crate::moves::{back_in, reverse_in};
 use crate::said::{stop, tell, words_of};
 use dap_messages::{Answer, Members, Request};
 use dap_moves::{Command, Desk, Machine, Reply};
 use dap_threads::{channel_words, frame_in};
-use dap_views::{Program, Thing, Words, event_words};
+use dap_views::{Memo, Program, Thing, Words, event_words};
 use line_text::{
     Field, Keyword, add_bytes, add_consequences, add_entry, add_live, add_numbered, add_ready,
     add_refusal, add_valued, cut_at_space, read_branch, read_choice, read_ticket, read_variable,
@@ -35,39 +38,81 @@ enum Line {
 
 /// Answers `evaluate`: a variable, a channel, or a line of a script. One that changes something is taken only where it
 /// was typed for that: in the console, or behind a `!`.
-#[tactic(auto, using(crate::proofs::Reading::led_still))]
+#[tactic(auto, using(crate::proofs::Reading::led_still, crate::proofs::public::Saying::keeps_same))]
 pub fn evaluate(
     alloc: Global,
     desk: &mut Desk,
-    program: &mut Program,
+    program: &Program,
+    memo: &mut Memo,
     request: &Request,
     answer: &mut Answer,
 )
     ensures led { Led desk.old desk.new }
     ensures system { desk.new.machine.checked ≡ desk.old.machine.checked }
+    ensures looks { is_typed request.now ≡ false → desk.new ≡ desk.old }
+    ensures refused { (desk.new ≡ desk.old) ⊎ (IsDone answer.old.outcome → IsDone answer.new.outcome) }
+    ensures keeps { KeepsSome answer.new memo.old.seen.items memo.new.seen.items }
 {
-    if let Some((branch, instance)) = frame_in(alloc, desk.machine(), program, request, answer) {
-        let text = request.text("expression").unwrap_or("").trim_ascii();
-        let line = text.trim_start_matches('!').trim_ascii();
-        if is_typed(request, text) {
-            typed(alloc, desk, program, branch, instance, line, answer);
-        } else {
-            looked_at(alloc, desk, program, instance, line, answer);
-        }
+    if is_typed(request) {
+        evaluate_typed(alloc, desk, program, memo, request, answer);
+    } else {
+        evaluate_seen(alloc, desk, program, request, answer);
     }
 }
 
-/// Whether the expression was typed as a line.
-fn is_typed(request: &Request, text: &str) -> bool {
-    text.starts_with('!') || request.text("context") == Some("repl")
+/// Answers an expression that was typed as a line.
+#[tactic(auto, using(crate::proofs::Reading::led_still, crate::proofs::public::Saying::keeps_same))]
+fn evaluate_typed(
+    alloc: Global,
+    desk: &mut Desk,
+    program: &Program,
+    memo: &mut Memo,
+    request: &Request,
+    answer: &mut Answer,
+)
+    ensures led { Led desk.old desk.new }
+    ensures system { desk.new.machine.checked ≡ desk.old.machine.checked }
+    ensures refused { (desk.new ≡ desk.old) ⊎ (IsDone answer.old.outcome → IsDone answer.new.outcome) }
+    ensures keeps { KeepsSome answer.new memo.old.seen.items memo.new.seen.items }
+{
+    match frame_in(alloc, desk.machine(), program, request, answer) {
+        Some((branch, instance)) => {
+            let line = line_in(request);
+            typed(alloc, desk, program, memo, branch, instance, line, answer);
+        }
+        None => {}
+    }
+}
+
+/// Answers an expression that a client looks at, which changes nothing.
+fn evaluate_seen(
+    alloc: Global,
+    desk: &mut Desk,
+    program: &Program,
+    request: &Request,
+    answer: &mut Answer,
+)
+    ensures same { desk.new ≡ desk.old }
+{
+    match frame_in(alloc, desk.machine(), program, request, answer) {
+        Some((_, instance)) => looked_at(alloc, desk, program, instance, line_in(request), answer),
+        None => {}
+    }
+}
+
+/// The expression, without a mark before it.
+fn line_in(request: &Request) -> &str {
+    let text = request.text("expression").unwrap_or("").trim_ascii();
+    text.trim_start_matches('!').trim_ascii()
 }
 
 /// Answers a line that was typed.
-#[tactic(auto, using(crate::proofs::Reading::led_still))]
+#[tactic(auto, using(crate::proofs::Reading::led_still, crate::proofs::public::Saying::keeps_same))]
 fn typed(
     alloc: Global,
     desk: &mut Desk,
-    program: &mut Program,
+    program: &Program,
+    memo: &mut Memo,
     branch: u32,
     instance: usize,
     line: &str,
@@ -75,15 +120,17 @@ fn typed(
 )
     ensures led { Led desk.old desk.new }
     ensures system { desk.new.machine.checked ≡ desk.old.machine.checked }
+    ensures refused { (desk.new ≡ desk.old) ⊎ (IsDone answer.old.outcome → IsDone answer.new.outcome) }
+    ensures keeps { KeepsSome answer.new memo.old.seen.items memo.new.seen.items }
 {
     if is_own(line) {
-        own_line(alloc, desk, program, branch, line, answer);
+        own_line(alloc, desk, program, memo, branch, line, answer);
         return;
     }
     match program.index.find(instance, line) {
         Some(thing) if !is_bare(line) => told(alloc, desk.machine(), program, thing, answer),
         None if is_several(program, line) => tell_several(alloc, program, line, answer),
-        _ => typed_line(alloc, desk, program, branch, line, answer),
+        _ => typed_line(alloc, desk, program, memo, branch, line, answer),
     }
 }
 
@@ -124,6 +171,11 @@ fn is_own(line: &str) -> bool {
     line == "back" || line == "rewind"
 }
 
+/// Whether the line takes one step back.
+fn is_back(line: &str) -> bool {
+    line == "back"
+}
+
 /// Whether the line is one of a script that stands alone.
 fn is_bare(line: &str) -> bool {
     line == "ready" || line == "live" || line == "view" || line == "trace"
@@ -133,25 +185,29 @@ fn is_bare(line: &str) -> bool {
 fn own_line(
     alloc: Global,
     desk: &mut Desk,
-    program: &mut Program,
+    program: &Program,
+    memo: &mut Memo,
     branch: u32,
     line: &str,
     answer: &mut Answer,
 )
     ensures led { Led desk.old desk.new }
     ensures system { desk.new.machine.checked ≡ desk.old.machine.checked }
+    ensures done { IsDone answer.old.outcome → IsDone answer.new.outcome }
+    ensures keeps { KeepsSome answer.new memo.old.seen.items memo.new.seen.items }
 {
-    program.sight = None;
     result(alloc, line, "", answer);
-    if line == "back" {
-        back_in(alloc, desk, program, branch, answer);
+    if is_back(line) {
+        back_in(alloc, desk, program, memo, branch, answer);
     } else {
-        reverse_in(alloc, desk, program, branch, false, answer);
+        reverse_in(alloc, desk, program, memo, branch, false, answer);
     }
 }
 
 /// Gives the response a result.
-fn result(alloc: Global, text: &str, kind: &str, answer: &mut Answer) {
+fn result(alloc: Global, text: &str, kind: &str, answer: &mut Answer)
+    ensures { IsDone answer.old.outcome → IsDone answer.new.outcome }
+{
     let mut body = Members::new(alloc);
     body.text("result", text);
     if !kind.is_empty() {
@@ -216,20 +272,23 @@ fn told_channel(
 }
 
 /// Answers a line of a script that was typed.
-#[tactic(auto, using(crate::proofs::Reading::led_still))]
+#[tactic(auto, using(crate::proofs::Reading::led_still, crate::proofs::public::Saying::keeps_same))]
 fn typed_line(
     alloc: Global,
     desk: &mut Desk,
-    program: &mut Program,
+    program: &Program,
+    memo: &mut Memo,
     branch: u32,
     line: &str,
     answer: &mut Answer,
 )
     ensures led { Led desk.old desk.new }
     ensures system { desk.new.machine.checked ≡ desk.old.machine.checked }
+    ensures refused { (desk.new ≡ desk.old) ⊎ (IsDone answer.old.outcome → IsDone answer.new.outcome) }
+    ensures keeps { KeepsSome answer.new memo.old.seen.items memo.new.seen.items }
 {
     match line_of(alloc, desk.machine().checked().system(), line.as_bytes()) {
-        Ok(Line::Asked(command)) => ask(alloc, desk, program, branch, command.get(), answer),
+        Ok(Line::Asked(command)) => ask(alloc, desk, memo, branch, command.get(), answer),
         Ok(other) => show_line(alloc, desk, program, &other, line, answer),
         Err(AllocError) => answer.lacks = true,
     }
@@ -288,7 +347,9 @@ fn no_line(alloc: Global, line: &str, answer: &mut Answer) {
 }
 
 /// Answers with these bytes, without the end of their last line.
-fn show(alloc: Global, bytes: Result<Vec<u8>, AllocError>, answer: &mut Answer) {
+fn show(alloc: Global, bytes: Result<Vec<u8>, AllocError>, answer: &mut Answer)
+    ensures { IsDone answer.old.outcome → IsDone answer.new.outcome }
+{
     match bytes {
         Ok(bytes) => {
             let text = str::from_utf8(bytes.as_slice()).unwrap_or("(not a text)");
@@ -302,28 +363,44 @@ fn show(alloc: Global, bytes: Result<Vec<u8>, AllocError>, answer: &mut Answer) 
 fn ask(
     alloc: Global,
     desk: &mut Desk,
-    program: &mut Program,
+    memo: &mut Memo,
     branch: u32,
     command: &Command,
     answer: &mut Answer,
 )
     ensures led { Led desk.old desk.new }
     ensures system { desk.new.machine.checked ≡ desk.old.machine.checked }
+    ensures done { IsDone answer.old.outcome → IsDone answer.new.outcome }
+    ensures keeps { KeepsSome answer.new memo.old.seen.items memo.new.seen.items }
 {
     let reply = asked(desk, command);
     show_reply(alloc, desk.machine(), command, &reply, answer);
-    if let Command::Break(_) | Command::Clear(_) = command {
-        answer.did();
+    tell_set(alloc, command, &reply, answer);
+    if has_moved(&reply) {
+        memo.seen.clear();
+        stop(alloc, answer, "step", branch, "");
     }
-    if is_set(command, &reply) {
+}
+
+/// Keeps in mind that breakpoints were set or cleared, and tells what stops there.
+fn tell_set(alloc: Global, command: &Command, reply: &Reply, answer: &mut Answer)
+    ensures { IsDone answer.old.outcome → IsDone answer.new.outcome }
+{
+    keep_set(command, answer);
+    if is_set(command, reply) {
         let words =
             "`branch` in the console stops there. `continue` stops where the editor has a breakpoint.";
         tell(alloc, words, "console", answer);
     }
-    if has_moved(&reply) {
-        program.sight = None;
-        program.seen.clear();
-        stop(alloc, answer, "step", branch, "");
+}
+
+/// Keeps in mind that breakpoints were set or cleared, if they were.
+fn keep_set(command: &Command, answer: &mut Answer)
+    ensures { IsDone answer.old.outcome → IsDone answer.new.outcome }
+{
+    match command {
+        Command::Break(_) | Command::Clear(_) => answer.did(),
+        _ => {}
     }
 }
 
@@ -347,7 +424,9 @@ fn show_reply(
     command: &Command,
     reply: &Reply,
     answer: &mut Answer,
-) {
+)
+    ensures { IsDone answer.old.outcome → IsDone answer.new.outcome }
+{
     let system = machine.checked().system();
     let meaning = meaning_of(alloc, machine, reply);
     let bytes = reply_bytes(alloc, system, command, reply, meaning.as_str());

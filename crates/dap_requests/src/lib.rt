@@ -5,6 +5,7 @@ mod breakpoints;
 mod choices;
 mod completion;
 mod console;
+mod entered;
 mod hints;
 mod moves;
 mod said;
@@ -18,6 +19,7 @@ pub use breakpoints::{
 pub use choices::targets;
 pub use completion::completions;
 pub use console::evaluate;
+pub use entered::is_typed;
 pub use moves::{back_in, go_in, reverse, reverse_in, run, run_free, step_in};
 pub use said::{stop, tell};
 pub use watches::{data_info, set_data, set_data_before};

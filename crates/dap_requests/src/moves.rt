@@ -1,22 +1,32 @@
 // Requests to run: forth and back. Each that succeeds ends with one `stopped`.
-ghost use Rattle.std.specs.Prelude.{◌≡◌, MatchOption, slice_get};
-ghost use Rattle.locked_execution.specs.declared.command.Reply.{Reply as Replied};
+ghost use Rattle.std.specs.Prelude.{◌≡◌, ◌⊎◌, ◌++◌, [], ◌∷◌, MatchOption, Some, slice_get};
+ghost use Rattle.runs.specs.Choices.{choice_of};
+ghost use Rattle.runs.specs.Object.{Reaches};
+ghost use Rattle.runs.specs.Ready.{ReadyList};
+ghost use Rattle.runs.specs.Refusals.{refusal_number};
+ghost use Rattle.runs.specs.Steps.{State};
+ghost use Rattle.machine.specs.AtMachine.{object};
+ghost use Rattle.locked_execution.specs.AtDesk.{AtDesk};
 ghost use Rattle.dap_moves.specs.Led.{Led};
-ghost use Rattle.dap_moves.specs.Moves.{StepsAt, StepsBack, targets};
-ghost use Rattle.dap_moves.specs.declared.back.Back.{Back as MovedBack};
+ghost use Rattle.dap_moves.specs.Moves.{targets};
+ghost use Rattle.dap_moves.specs.TakingBack.{GoesBack, KeepsBack};
+ghost use Rattle.dap_moves.specs.declared.back.Back as moved;
 ghost use Rattle.dap_messages.specs.Notes.{IsRefusal};
-ghost use Rattle.dap_requests.specs.Forth.{ForthBy, IsTarget, RunsBy, StepsForth, Takes};
+ghost use Rattle.dap_messages.specs.declared.kind.Kind as asks;
+ghost use Rattle.dap_messages.specs.declared.told.Stop.{Stop as Stands};
+ghost use Rattle.dap_requests.specs.Back.{Backs, Remembers, Reverses, ReversesFor, SeenBehind, stop_back, stop_behind};
+ghost use Rattle.dap_requests.specs.Forth.{AreSeen, RunsBy, StepsForth, Takes, alone, going_of, stop_at, stop_of, target_in};
 ghost use Rattle.dap_requests.specs.Said.{Runs, TellsOutputs, TellsStop};
 
 use crate::said::{stop, stop_at_line, tell, tell_outputs, tell_refused, tell_step, words_of};
-use crate::still::nothing_words;
+use crate::still::{nothing_words, why_none};
 use dap_messages::{Answer, Kind, Members, Request};
 use dap_moves::{
     Back, Desk, Ended, Machine, Marks, Plan, Reply, Rewound, go_on, rewind, rewind_branch, step_at,
-    step_back, target_at,
+    step_back, step_back_laws, target_at,
 };
-use dap_threads::{places_in, thread_in};
-use dap_views::{Program, Sight, Words, add_waits, event_words};
+use dap_threads::thread_in;
+use dap_views::{Memo, Program, Words, event_words};
 use runs::{Choice, Event, Refusal};
 use std::alloc::Global;
 use std::mem;
@@ -24,31 +34,32 @@ use syntax::Items;
 use system_places::branch_at;
 
 /// Answers `next`, `stepIn` and `stepOut`: one step of the branch.
-#[tactic(auto, using(crate::proofs::public::Saying::run_ends, crate::proofs::Reading::led_still))]
 pub fn step_in(
     alloc: Global,
     desk: &mut Desk,
-    program: &mut Program,
+    program: &Program,
+    memo: &mut Memo,
     branch: u32,
     request: &Request,
     answer: &mut Answer,
 )
     ensures led { Led desk.old desk.new }
-    ensures stops { Runs answer.old answer.new }
-    ensures forth { ForthBy desk.old request.now.kind branch desk.new }
+    ensures system { desk.new.machine.checked ≡ desk.old.machine.checked }
+    ensures goes { Runs answer.old answer.new desk.old desk.new
+        (λ stop. StepsForth desk.old branch (target_in request.now) stop desk.new) }
+    ensures keeps { Remembers desk.old desk.new answer.new memo.old.seen.items memo.new.seen.items }
 {
-    match target_in(request, answer) {
-        Some(number) => next_in(alloc, desk, program, branch, number, answer),
+    match target_asked(request, answer) {
+        Some(number) => next_in(alloc, desk, program, memo, branch, number, answer),
         None => {}
     }
 }
 
 /// The number of the step that is asked for among those that it can be, from 0. `stepIn` may name one, and is refused
 /// where it names none by a number from 1 on.
-fn target_in(request: &Request, answer: &mut Answer) -> Option<u64>
-    ensures target { IsTarget request.now.kind result }
-    ensures outcome { MatchOption result (IsRefusal answer.new.outcome × (answer.new.notes ≡ answer.old.notes))
-        (λ _. answer.new ≡ answer.old) }
+fn target_asked(request: &Request, answer: &mut Answer) -> Option<u64>
+    ensures { MatchOption result (IsRefusal answer.new.outcome × (answer.new.notes ≡ answer.old.notes))
+        (λ number. (number ≡ target_in request.now) × (answer.new ≡ answer.old)) }
 {
     match request.kind {
         Kind::StepIn => target_named(request, answer),
@@ -58,14 +69,13 @@ fn target_in(request: &Request, answer: &mut Answer) -> Option<u64>
 
 /// The number of the step that `stepIn` names, from 0; the first where it names none.
 fn target_named(request: &Request, answer: &mut Answer) -> Option<u64>
+    requires { request.now.kind ≡ asks.Kind.StepIn }
     ensures { MatchOption result (IsRefusal answer.new.outcome × (answer.new.notes ≡ answer.old.notes))
-        (λ _. answer.new ≡ answer.old) }
+        (λ number. (number ≡ target_in request.now) × (answer.new ≡ answer.old)) }
 {
-    let Some(value) = request.part("targetId") else {
-        return Some(0);
-    };
-    match value.as_u64() {
+    match request.number("targetId") {
         Some(number) if number >= 1 => Some(number - 1),
+        None if request.part("targetId").is_none() => Some(0),
         _ => {
             answer.refuse(104, "`targetId` is no number from 1 on");
             None
@@ -77,30 +87,39 @@ fn target_named(request: &Request, answer: &mut Answer) -> Option<u64>
 pub fn next_in(
     alloc: Global,
     desk: &mut Desk,
-    program: &mut Program,
+    program: &Program,
+    memo: &mut Memo,
     branch: u32,
     number: u64,
     answer: &mut Answer,
 )
     ensures led { Led desk.old desk.new }
     ensures system { desk.new.machine.checked ≡ desk.old.machine.checked }
-    ensures stops { TellsStop answer.old answer.new }
-    ensures forth { StepsForth desk.old branch number desk.new }
+    ensures goes { (stop : Stands) × TellsStop answer.old stop answer.new
+        × StepsForth desk.old branch number stop desk.new }
+    ensures keeps { Remembers desk.old desk.new answer.new memo.old.seen.items memo.new.seen.items }
 {
     match desk.machine().ready() {
-        Ok(events) => take_target(alloc, desk, program, &events, branch, number, answer),
-        Err(why) => {
-            let words = "no memory to look for a step";
-            tell_refused(alloc, program, answer, branch, why, words);
-        }
+        Ok(events) => take_target(alloc, desk, program, memo, &events, branch, number, answer),
+        Err(_) => no_memory(alloc, program, memo, branch, answer),
     }
+}
+
+/// Tells that there is no memory to look for a step.
+fn no_memory(alloc: Global, program: &Program, memo: &mut Memo, branch: u32, answer: &mut Answer)
+    ensures seen { memo.new.seen ≡ memo.old.seen }
+    ensures stops { TellsStop answer.old (Stands.Refused 1) answer.new }
+{
+    let words = "no memory to look for a step";
+    tell_refused(alloc, program, memo, answer, branch, Refusal::Memory, words);
 }
 
 /// Takes the step of this number among those that a step of the branch can be.
 fn take_target(
     alloc: Global,
     desk: &mut Desk,
-    program: &mut Program,
+    program: &Program,
+    memo: &mut Memo,
     events: &Items<Event>,
     branch: u32,
     number: u64,
@@ -108,12 +127,13 @@ fn take_target(
 )
     ensures led { Led desk.old desk.new }
     ensures system { desk.new.machine.checked ≡ desk.old.machine.checked }
-    ensures stops { TellsStop answer.old answer.new }
-    ensures forth { Takes desk.old (slice_get (targets desk.old.machine.checked branch events.now) number) desk.new }
+    ensures goes { (stop : Stands) × TellsStop answer.old stop answer.new
+        × Takes desk.old (slice_get (targets desk.old.machine.checked branch events.now) number) stop desk.new }
+    ensures keeps { Remembers desk.old desk.new answer.new memo.old.seen.items memo.new.seen.items }
 {
     let system = desk.machine().checked().system();
     match target_at(system, events.as_slice(), branch, number) {
-        Some(event) => take(alloc, desk, program, event, branch, answer),
+        Some(event) => take(alloc, desk, program, memo, event, branch, answer),
         None => no_target(alloc, desk.machine(), program, branch, number, answer),
     }
 }
@@ -122,36 +142,58 @@ fn take_target(
 fn take(
     alloc: Global,
     desk: &mut Desk,
-    program: &mut Program,
+    program: &Program,
+    memo: &mut Memo,
     event: &Event,
     branch: u32,
     answer: &mut Answer,
 )
     ensures led { Led desk.old desk.new }
     ensures system { desk.new.machine.checked ≡ desk.old.machine.checked }
-    ensures stops { TellsStop answer.old answer.new }
-    ensures steps { (reply : Replied) × StepsAt desk.old event.now reply desk.new }
+    ensures goes { (stop : Stands) × TellsStop answer.old stop answer.new
+        × Takes desk.old (Some event.now) stop desk.new }
+    ensures keeps { memo.new.seen.items ≡ [] }
 {
     let before = desk.machine().live_events().len();
-    let refusal = refusal_in(&step_at(alloc, desk, event));
-    program.seen.clear();
-    match refusal {
-        Some(why) => tell_refused(alloc, program, answer, branch, why, words_of(why)),
-        None => tell_taken(alloc, desk.machine(), before, branch, answer),
-    }
+    let reply = step_at(alloc, desk, event);
+    memo.seen.clear();
+    tell_took(
+        alloc,
+        desk.machine(),
+        program,
+        memo,
+        before,
+        branch,
+        &reply,
+        answer,
+    );
 }
 
-/// Why it was refused, if it was.
-fn refusal_in(reply: &Reply) -> Option<Refusal> {
+/// Tells what came of a step; where it was taken it is the live one at this index.
+fn tell_took(
+    alloc: Global,
+    machine: &Machine,
+    program: &Program,
+    memo: &mut Memo,
+    index: usize,
+    branch: u32,
+    reply: &Reply,
+    answer: &mut Answer,
+)
+    ensures seen { memo.new.seen ≡ memo.old.seen }
+    ensures stops { TellsStop answer.old (stop_of reply.now) answer.new }
+{
     match reply {
-        Reply::Refused(why) => Some(*why),
-        _ => None,
+        Reply::Refused(why) => {
+            tell_refused(alloc, program, memo, answer, branch, *why, words_of(*why));
+        }
+        _ => tell_taken(alloc, machine, index, branch, answer),
     }
 }
 
 /// Tells the live step at this index, which was taken.
 fn tell_taken(alloc: Global, machine: &Machine, index: usize, branch: u32, answer: &mut Answer)
-    ensures { TellsStop answer.old answer.new }
+    ensures { TellsStop answer.old Stands.Stands answer.new }
 {
     tell_outputs(alloc, machine, index, answer);
     tell_live(alloc, machine, index, answer);
@@ -177,7 +219,7 @@ fn no_target(
     number: u64,
     answer: &mut Answer,
 )
-    ensures { TellsStop answer.old answer.new }
+    ensures { TellsStop answer.old Stands.Stands answer.new }
 {
     let words = if number > 0 {
         Words::of(alloc, "There is no such step any more")
@@ -190,79 +232,31 @@ fn no_target(
 /// Tells the words, and that nothing moves.
 #[tactic(auto, using(crate::proofs::public::Saying::stops_on))]
 fn tell_and_stop(alloc: Global, answer: &mut Answer, reason: &str, branch: u32, words: &Words)
-    ensures { TellsStop answer.old answer.new }
+    ensures { TellsStop answer.old Stands.Stands answer.new }
 {
     tell(alloc, words.as_str(), "console", answer);
     stop(alloc, answer, reason, branch, words.as_str());
-}
-
-/// Why the branch has no step.
-fn why_none(alloc: Global, machine: &Machine, program: &Program, branch: u32) -> Words {
-    match &program.sight {
-        Some(sight) => waits_words(alloc, machine, program, sight, branch),
-        None => Words::of(alloc, "No step"),
-    }
-}
-
-/// For whom the branch waits, at each of its places.
-fn waits_words(
-    alloc: Global,
-    machine: &Machine,
-    program: &Program,
-    sight: &Sight,
-    branch: u32,
-) -> Words {
-    let mut words = Words::new(alloc);
-    for number in &places_in(alloc, machine, sight, branch).unwrap_or(Vec::new(alloc)) {
-        add_wait(alloc, machine, program, sight, *number, &mut words);
-    }
-    if words.is_empty() {
-        words.add("Done");
-    }
-    words
-}
-
-/// Adds for whom the action at this index waits.
-fn add_wait(
-    alloc: Global,
-    machine: &Machine,
-    program: &Program,
-    sight: &Sight,
-    number: usize,
-    words: &mut Words,
-) {
-    if let Some(offered) = sight.actions.as_slice().get(number) {
-        words.add(if words.is_empty() {
-            "Waits for "
-        } else {
-            " and "
-        });
-        add_waits(alloc, machine, &program.lines, sight, offered, words);
-    }
 }
 
 /// Answers `continue`: goes on from where the branch stands, alone or in turn with the others.
 pub fn go_in(
     alloc: Global,
     desk: &mut Desk,
-    program: &mut Program,
+    program: &Program,
+    memo: &mut Memo,
     branch: u32,
     single: bool,
     answer: &mut Answer,
 )
     ensures led { Led desk.old desk.new }
-    ensures stops { TellsStop answer.old answer.new }
-    ensures passes { RunsBy program.old.stops.items desk.old desk.new }
+    ensures system { desk.new.machine.checked ≡ desk.old.machine.checked }
+    ensures goes { (stop : Stands) × TellsStop answer.old stop answer.new
+        × RunsBy (going_of program.now (alone branch single)) (Some branch) desk.old memo.old.seen.items stop desk.new
+        memo.new.seen.items }
 {
     answer.body(continued(alloc, single));
-    run(
-        alloc,
-        desk,
-        program,
-        Some(branch),
-        alone(branch, single),
-        answer,
-    );
+    let only = alone(branch, single);
+    run(alloc, desk, program, memo, Some(branch), only, answer);
 }
 
 /// That all threads go on, or one.
@@ -273,7 +267,9 @@ fn continued(alloc: Global, single: bool) -> Members {
 }
 
 /// The branch, where it steps alone.
-fn alone(branch: u32, single: bool) -> Option<u32> {
+fn alone(branch: u32, single: bool) -> Option<u32>
+    ensures { result ≡ alone branch single }
+{
     if single { Some(branch) } else { None }
 }
 
@@ -281,32 +277,76 @@ fn alone(branch: u32, single: bool) -> Option<u32> {
 pub fn run(
     alloc: Global,
     desk: &mut Desk,
-    program: &mut Program,
+    program: &Program,
+    memo: &mut Memo,
     branch: Option<u32>,
     only: Option<u32>,
     answer: &mut Answer,
 )
     ensures led { Led desk.old desk.new }
     ensures system { desk.new.machine.checked ≡ desk.old.machine.checked }
-    ensures stops { TellsStop answer.old answer.new }
-    ensures passes { RunsBy program.old.stops.items desk.old desk.new }
+    ensures goes { (stop : Stands) × TellsStop answer.old stop answer.new
+        × RunsBy (going_of program.now only) branch desk.old memo.old.seen.items stop desk.new memo.new.seen.items }
 {
     let before = desk.machine().live_events().len();
-    let ended = run_on(alloc, desk, program, branch, only);
+    let ended = run_on(alloc, desk, program, memo, branch, only);
     tell_outputs(alloc, desk.machine(), before, answer);
-    tell_ended(alloc, desk.machine(), program, answer, branch, only, ended);
+    tell_ended(
+        alloc,
+        desk.machine(),
+        program,
+        memo,
+        answer,
+        branch,
+        only,
+        ended,
+    );
+}
+
+/// Goes on; why it ended.
+fn run_on(
+    alloc: Global,
+    desk: &mut Desk,
+    program: &Program,
+    memo: &mut Memo,
+    branch: Option<u32>,
+    only: Option<u32>,
+) -> Ended
+    ensures led { Led desk.old desk.new }
+    ensures system { desk.new.machine.checked ≡ desk.old.machine.checked }
+    ensures goes { RunsBy (going_of program.now only) branch desk.old memo.old.seen.items (stop_at result) desk.new
+        memo.new.seen.items }
+{
+    let mut seen = mem::replace(&mut memo.seen, Vec::new(alloc));
+    see_first(alloc, desk.machine(), branch, &mut seen);
+    let plan = Plan {
+        first: branch.unwrap_or(0),
+        only,
+        lines: program.stops.as_slice(),
+        watched: program.watched.as_slice(),
+        seen: seen.as_slice(),
+        most: program.launch.most,
+    };
+    go_on(alloc, desk, &plan, &mut memo.seen)
 }
 
 /// Runs to the end without stops, and tells what came out.
-pub fn run_free(alloc: Global, desk: &mut Desk, program: &mut Program, answer: &mut Answer)
+pub fn run_free(alloc: Global, desk: &mut Desk, program: &Program, answer: &mut Answer)
     ensures led { Led desk.old desk.new }
     ensures system { desk.new.machine.checked ≡ desk.old.machine.checked }
     ensures tells { TellsOutputs answer.old answer.new }
 {
-    program.stops.clear();
-    program.watched.clear();
     let before = desk.machine().live_events().len();
-    let ended = run_on(alloc, desk, program, None, None);
+    let plan = Plan {
+        first: 0,
+        only: None,
+        lines: &[],
+        watched: &[],
+        seen: &[],
+        most: program.launch.most,
+    };
+    let mut kept = Vec::new(alloc);
+    let ended = go_on(alloc, desk, &plan, &mut kept);
     tell_outputs(alloc, desk.machine(), before, answer);
     tell_free_end(alloc, desk.machine(), ended, answer);
 }
@@ -317,6 +357,12 @@ fn tell_free_end(alloc: Global, machine: &Machine, ended: Ended, answer: &mut An
 {
     match ended {
         Ended::Refused(_, why) => tell(alloc, words_of(why), "important", answer),
+        Ended::Most(_) => tell(
+            alloc,
+            "Paused after as many steps as `maxSteps` allows",
+            "important",
+            answer,
+        ),
         _ => {
             let words = nothing_words(alloc, machine, None);
             tell(alloc, words.as_str(), "console", answer);
@@ -324,46 +370,61 @@ fn tell_free_end(alloc: Global, machine: &Machine, ended: Ended, answer: &mut An
     }
 }
 
-/// Goes on; why it ended.
-fn run_on(
-    alloc: Global,
-    desk: &mut Desk,
-    program: &mut Program,
-    branch: Option<u32>,
-    only: Option<u32>,
-) -> Ended
-    ensures led { Led desk.old desk.new }
-    ensures system { desk.new.machine.checked ≡ desk.old.machine.checked }
-    ensures passes { RunsBy program.old.stops.items desk.old desk.new }
+/// Keeps in mind the step before which the branch stands.
+fn see_first(alloc: Global, machine: &Machine, branch: Option<u32>, seen: &mut Vec<Choice>)
+    ensures { (d : AtDesk) → d.machine ≡ machine.now → AreSeen d branch seen.old.items seen.new.items }
 {
-    let mut seen = mem::replace(&mut program.seen, Vec::new(alloc));
-    if !program.stops.is_empty() {
-        see_first(alloc, desk.machine(), branch, &mut seen);
+    match branch {
+        Some(branch) => see_in(alloc, machine, branch, seen),
+        None => {}
     }
-    let lines = program.stops.as_slice();
-    let plan = Plan {
-        first: branch.unwrap_or(0),
-        only,
-        lines,
-        watched: program.watched.as_slice(),
-        seen: seen.as_slice(),
-        most: program.launch.most,
-    };
-    let mut kept = Vec::new(alloc);
-    let ended = go_on(alloc, desk, &plan, &mut kept);
-    program.seen = kept;
-    ended
 }
 
-/// Keeps in mind the step before which the branch stands.
-fn see_first(alloc: Global, machine: &Machine, branch: Option<u32>, seen: &mut Vec<Choice>) {
-    if let (Some(branch), Ok(events)) = (branch, machine.ready()) {
-        let system = machine.checked().system();
-        if let Some(event) = target_at(system, events.as_slice(), branch, 0) {
-            if let Ok(choice) = event.choice(alloc) {
-                let _ = seen.push(choice);
-            }
-        }
+/// Keeps in mind the first step of the branch, if it has one.
+fn see_in(alloc: Global, machine: &Machine, branch: u32, seen: &mut Vec<Choice>)
+    ensures { (d : AtDesk) → d.machine ≡ machine.now → AreSeen d (Some branch) seen.old.items seen.new.items }
+{
+    match machine.ready() {
+        Ok(events) => see_among(alloc, machine, branch, &events, seen),
+        Err(_) => {}
+    }
+}
+
+/// Keeps in mind the first of these steps, which are ready, that the branch can take.
+fn see_among(
+    alloc: Global,
+    machine: &Machine,
+    branch: u32,
+    events: &Items<Event>,
+    seen: &mut Vec<Choice>,
+)
+    requires { (T : State) × Reaches (object machine.now) T × ReadyList T events.now }
+    ensures { (d : AtDesk) → d.machine ≡ machine.now → AreSeen d (Some branch) seen.old.items seen.new.items }
+{
+    let system = machine.checked().system();
+    match target_at(system, events.as_slice(), branch, 0) {
+        Some(event) => see(alloc, event, seen),
+        None => {}
+    }
+}
+
+/// Keeps the choice of the event in mind, where there is memory for it.
+fn see(alloc: Global, event: &Event, seen: &mut Vec<Choice>)
+    ensures { (seen.new.items ≡ seen.old.items) ⊎ (seen.new.items ≡ seen.old.items ++ choice_of event.now ∷ []) }
+{
+    match event.choice(alloc) {
+        Ok(choice) => add_seen(seen, choice),
+        Err(_) => {}
+    }
+}
+
+/// Keeps the choice in mind, where there is memory for it.
+fn add_seen(seen: &mut Vec<Choice>, choice: Choice)
+    ensures { (seen.new.items ≡ seen.old.items) ⊎ (seen.new.items ≡ seen.old.items ++ choice ∷ []) }
+{
+    match seen.push(choice) {
+        Ok(()) => {}
+        Err(_) => {}
     }
 }
 
@@ -371,13 +432,15 @@ fn see_first(alloc: Global, machine: &Machine, branch: Option<u32>, seen: &mut V
 fn tell_ended(
     alloc: Global,
     machine: &Machine,
-    program: &mut Program,
+    program: &Program,
+    memo: &mut Memo,
     answer: &mut Answer,
     branch: Option<u32>,
     only: Option<u32>,
     ended: Ended,
 )
-    ensures { TellsStop answer.old answer.new }
+    ensures seen { memo.new.seen ≡ memo.old.seen }
+    ensures stops { TellsStop answer.old (stop_at ended) answer.new }
 {
     match ended {
         Ended::Nothing => {
@@ -388,14 +451,14 @@ fn tell_ended(
         Ended::Watched(branch, ticket) => stop_watched(alloc, machine, answer, branch, ticket),
         Ended::Most(branch) => stop_after_most(alloc, program, answer, branch),
         Ended::Refused(branch, why) => {
-            tell_refused(alloc, program, answer, branch, why, words_of(why));
+            tell_refused(alloc, program, memo, answer, branch, why, words_of(why));
         }
     }
 }
 
 /// Tells that as many steps were taken as there may be.
 fn stop_after_most(alloc: Global, program: &Program, answer: &mut Answer, branch: u32)
-    ensures { TellsStop answer.old answer.new }
+    ensures { TellsStop answer.old Stands.Stands answer.new }
 {
     let mut words = Words::of(alloc, "Paused after ");
     words.number(program.launch.most);
@@ -409,7 +472,7 @@ fn stop_after_most(alloc: Global, program: &Program, answer: &mut Answer, branch
 
 /// Tells that a step was taken that is watched.
 fn stop_watched(alloc: Global, machine: &Machine, answer: &mut Answer, branch: u32, ticket: u64)
-    ensures { TellsStop answer.old answer.new }
+    ensures { TellsStop answer.old Stands.Stands answer.new }
 {
     let words = watched_words(alloc, machine, ticket);
     stop(alloc, answer, "data breakpoint", branch, words.as_str());
@@ -433,29 +496,34 @@ fn watched_words(alloc: Global, machine: &Machine, ticket: u64) -> Words {
 pub fn back_in(
     alloc: Global,
     desk: &mut Desk,
-    program: &mut Program,
+    program: &Program,
+    memo: &mut Memo,
     branch: u32,
     answer: &mut Answer,
 )
-    ensures back { (told : MovedBack) × StepsBack desk.old branch told desk.new }
     ensures led { Led desk.old desk.new }
     ensures system { desk.new.machine.checked ≡ desk.old.machine.checked }
-    ensures stops { TellsStop answer.old answer.new }
+    ensures goes { (stop : Stands) × TellsStop answer.old stop answer.new × Backs desk.old branch stop desk.new }
+    ensures keeps { Remembers desk.old desk.new answer.new memo.old.seen.items memo.new.seen.items }
 {
+    // What one that is refused leaves.
+    step_back_laws();
     let moved = step_back(desk, branch);
-    tell_moved_back(alloc, desk.machine(), program, branch, &moved, answer);
+    tell_moved_back(alloc, desk.machine(), program, memo, branch, &moved, answer);
 }
 
 /// Tells what came of a step back, if there was one to take.
 fn tell_moved_back(
     alloc: Global,
     machine: &Machine,
-    program: &mut Program,
+    program: &Program,
+    memo: &mut Memo,
     branch: u32,
     moved: &Back,
     answer: &mut Answer,
 )
-    ensures { TellsStop answer.old answer.new }
+    ensures seen { SeenBehind moved.now memo.old.seen.items memo.new.seen.items }
+    ensures stops { TellsStop answer.old (stop_back moved.now) answer.new }
 {
     match moved {
         Back::AtBeginning => {
@@ -463,7 +531,9 @@ fn tell_moved_back(
             stop(alloc, answer, "step", branch, text);
         }
         Back::Asked(ticket, reply) => {
-            tell_back(alloc, machine, program, branch, *ticket, reply, answer);
+            tell_back(
+                alloc, machine, program, memo, branch, *ticket, reply, answer,
+            );
         }
     }
 }
@@ -472,21 +542,28 @@ fn tell_moved_back(
 fn tell_back(
     alloc: Global,
     machine: &Machine,
-    program: &mut Program,
+    program: &Program,
+    memo: &mut Memo,
     branch: u32,
     ticket: u64,
     reply: &Reply,
     answer: &mut Answer,
 )
-    ensures { TellsStop answer.old answer.new }
+    ensures seen { SeenBehind (moved.Back.Asked ticket reply.now) memo.old.seen.items memo.new.seen.items }
+    ensures stops { TellsStop answer.old (stop_of reply.now) answer.new }
 {
     match reply {
+        Reply::Refused(why) => tell_kept(
+            alloc, machine, program, memo, branch, ticket, *why, answer,
+        ),
         Reply::Undone(_, event) => {
-            program.seen.clear();
+            memo.seen.clear();
             tell_undone(alloc, machine, branch, ticket, event, answer);
         }
-        Reply::Refused(why) => tell_kept(alloc, machine, program, branch, ticket, *why, answer),
-        _ => stop(alloc, answer, "step", branch, ""),
+        _ => {
+            memo.seen.clear();
+            stop(alloc, answer, "step", branch, "");
+        }
     }
 }
 
@@ -499,7 +576,7 @@ fn tell_undone(
     event: &Event,
     answer: &mut Answer,
 )
-    ensures { TellsStop answer.old answer.new }
+    ensures { TellsStop answer.old Stands.Stands answer.new }
 {
     tell_step(alloc, machine, "taken back, step ", ticket, event, answer);
     stop(alloc, answer, "step", branch, "");
@@ -509,16 +586,18 @@ fn tell_undone(
 fn tell_kept(
     alloc: Global,
     machine: &Machine,
-    program: &mut Program,
+    program: &Program,
+    memo: &mut Memo,
     branch: u32,
     ticket: u64,
     why: Refusal,
     answer: &mut Answer,
 )
-    ensures { TellsStop answer.old answer.new }
+    ensures seen { memo.new.seen ≡ memo.old.seen }
+    ensures stops { TellsStop answer.old (Stands.Refused (refusal_number why)) answer.new }
 {
     let (words, thread) = kept_words(alloc, machine, branch, ticket, why);
-    tell_refused(alloc, program, answer, thread, why, words.as_str());
+    tell_refused(alloc, program, memo, answer, thread, why, words.as_str());
 }
 
 /// Why a step stays, and the branch of the step that is in the way.
@@ -554,21 +633,26 @@ fn add_live(alloc: Global, machine: &Machine, ticket: u64, words: &mut Words) ->
 }
 
 /// Answers `reverseContinue`.
-#[tactic(auto, using(crate::proofs::public::Saying::run_ends, crate::proofs::Reading::led_still))]
 pub fn reverse(
     alloc: Global,
     desk: &mut Desk,
-    program: &mut Program,
+    program: &Program,
+    memo: &mut Memo,
     request: &Request,
     answer: &mut Answer,
 )
     ensures led { Led desk.old desk.new }
     ensures system { desk.new.machine.checked ≡ desk.old.machine.checked }
-    ensures stops { Runs answer.old answer.new }
+    ensures goes { Runs answer.old answer.new desk.old desk.new
+        (λ stop. ReversesFor desk.old request.now stop desk.new) }
+    ensures keeps { Remembers desk.old desk.new answer.new memo.old.seen.items memo.new.seen.items }
 {
-    if let Some(branch) = thread_in(request, desk.machine(), answer) {
-        let single = request.flag("singleThread", false);
-        reverse_in(alloc, desk, program, branch, single, answer);
+    match thread_in(request, desk.machine(), answer) {
+        Some(branch) => {
+            let single = request.flag("singleThread", false);
+            reverse_in(alloc, desk, program, memo, branch, single, answer);
+        }
+        None => {}
     }
 }
 
@@ -576,76 +660,66 @@ pub fn reverse(
 pub fn reverse_in(
     alloc: Global,
     desk: &mut Desk,
-    program: &mut Program,
+    program: &Program,
+    memo: &mut Memo,
     branch: u32,
     single: bool,
     answer: &mut Answer,
 )
     ensures led { Led desk.old desk.new }
     ensures system { desk.new.machine.checked ≡ desk.old.machine.checked }
-    ensures stops { TellsStop answer.old answer.new }
+    ensures goes { (stop : Stands) × TellsStop answer.old stop answer.new
+        × Reverses (alone branch single) desk.old stop desk.new }
+    ensures keeps { Remembers desk.old desk.new answer.new memo.old.seen.items memo.new.seen.items }
 {
-    let ended = rewind_in(alloc, desk, program, branch, single);
-    tell_rewound(alloc, program, branch, single, ended, answer);
+    let ended = rewind_in(alloc, desk, program, memo, branch, single);
+    tell_rewound(alloc, program, memo, branch, single, ended, answer);
 }
 
 /// Takes steps back until something stops it; why it ended.
 fn rewind_in(
     alloc: Global,
     desk: &mut Desk,
-    program: &mut Program,
+    program: &Program,
+    memo: &mut Memo,
     branch: u32,
     single: bool,
 ) -> Rewound
     ensures led { Led desk.old desk.new }
     ensures system { desk.new.machine.checked ≡ desk.old.machine.checked }
+    ensures back { GoesBack (alone branch single) desk.old desk.new }
+    ensures keeps { KeepsBack result memo.new.seen.items }
 {
     let marks = Marks {
         lines: program.stops.as_slice(),
         watched: program.watched.as_slice(),
     };
-    let mut kept = Vec::new(alloc);
-    let ended = rewind_by(alloc, desk, branch, single, marks, &mut kept);
-    program.seen = kept;
-    ended
-}
-
-/// Takes steps of the branch back with all that depend on them, or all.
-fn rewind_by(
-    alloc: Global,
-    desk: &mut Desk,
-    branch: u32,
-    single: bool,
-    marks: Marks<'_>,
-    kept: &mut Vec<Choice>,
-) -> Rewound
-    ensures led { Led desk.old desk.new }
-    ensures system { desk.new.machine.checked ≡ desk.old.machine.checked }
-{
     if single {
-        rewind_branch(alloc, desk, branch, marks, kept)
+        rewind_branch(alloc, desk, branch, marks, &mut memo.seen)
     } else {
-        rewind(alloc, desk, marks, kept)
+        rewind(alloc, desk, marks, &mut memo.seen)
     }
 }
 
 /// Tells why a run back ended.
 fn tell_rewound(
     alloc: Global,
-    program: &mut Program,
+    program: &Program,
+    memo: &mut Memo,
     branch: u32,
     single: bool,
     ended: Rewound,
     answer: &mut Answer,
 )
-    ensures { TellsStop answer.old answer.new }
+    ensures seen { memo.new.seen ≡ memo.old.seen }
+    ensures stops { TellsStop answer.old (stop_behind ended) answer.new }
 {
     match ended {
         Rewound::AtBeginning => stop(alloc, answer, "entry", branch, beginning_text(single)),
         Rewound::AtLine(action, line) => stop_at_line(alloc, program, answer, action, line),
         Rewound::Watched(branch, ticket) => stop_before(alloc, branch, ticket, answer),
         Rewound::Refused(why) => {
-            tell_refused(alloc, program, answer, branch, why, words_of(why));
+            tell_refused(alloc, program, memo, answer, branch, why, words_of(why));
         }
     }
 }
@@ -661,7 +735,7 @@ fn beginning_text(single: bool) -> &'static str {
 
 /// Tells that a step was taken back that is watched.
 fn stop_before(alloc: Global, branch: u32, ticket: u64, answer: &mut Answer)
-    ensures { TellsStop answer.old answer.new }
+    ensures { TellsStop answer.old Stands.Stands answer.new }
 {
     let mut words = Words::of(alloc, "before step ");
     words.number(ticket);

@@ -1,9 +1,12 @@
 // What is told behind a response: texts, and that nothing moves.
+ghost use Rattle.std.specs.Prelude.{◌≡◌};
+ghost use Rattle.runs.specs.Refusals.{refusal_number};
+ghost use Rattle.dap_messages.specs.declared.told.Stop as stops;
 ghost use Rattle.dap_requests.specs.Said.{TellsOutputs, TellsStop};
 
-use dap_messages::{Answer, Members, Told};
+use dap_messages::{Answer, Members, Stop, Told};
 use dap_moves::Machine;
-use dap_views::{Program, Refused, Words, event_words};
+use dap_views::{Memo, Program, Refused, Words, event_words};
 use runs::{Event, Kind, Refusal};
 use serde_json::Value;
 use std::alloc::Global;
@@ -14,9 +17,12 @@ const MOST_OUTPUTS: usize = 1_000;
 /// Tells that nothing moves, with the reason and the thread, and what else there is to say.
 #[tactic(auto, using(crate::proofs::public::Saying::stops_now))]
 pub fn stop(alloc: Global, answer: &mut Answer, reason: &str, branch: u32, text: &str)
-    ensures { TellsStop answer.old answer.new }
+    ensures { TellsStop answer.old stops.Stop.Stands answer.new }
 {
-    answer.note(Told::Stopped, stopped(alloc, reason, branch, text));
+    answer.note(
+        Told::Stopped(Stop::Stands),
+        stopped(alloc, reason, branch, text),
+    );
 }
 
 /// What a `stopped` says.
@@ -41,13 +47,13 @@ pub(crate) fn stop_at_line(
     branch: u32,
     line: u64,
 )
-    ensures { TellsStop answer.old answer.new }
+    ensures { TellsStop answer.old stops.Stop.AtLine answer.new }
 {
     let mut words = Words::of(alloc, "line ");
     words.number(program.shown_line(line));
     let mut body = stopped(alloc, "breakpoint", branch, words.as_str());
     add_hits(alloc, program, line, &mut body);
-    answer.note(Told::Stopped, body);
+    answer.note(Told::Stopped(Stop::AtLine), body);
 }
 
 /// Adds the breakpoints that stand on the line.
@@ -133,19 +139,23 @@ fn add_output(alloc: Global, machine: &Machine, event: &Event, words: &mut Words
 /// Tells that a step was refused, as an exception where the client wants these.
 pub(crate) fn tell_refused(
     alloc: Global,
-    program: &mut Program,
+    program: &Program,
+    memo: &mut Memo,
     answer: &mut Answer,
     branch: u32,
     why: Refusal,
     words: &str,
 )
-    ensures { TellsStop answer.old answer.new }
+    ensures seen { memo.new.seen ≡ memo.old.seen }
+    ensures stops { TellsStop answer.old (stops.Stop.Refused (refusal_number why)) answer.new }
 {
     let line = refusal_line(alloc, why);
-    keep_refusal(alloc, program, answer, line.as_str(), words);
+    keep_refusal(alloc, memo, answer, line.as_str(), words);
     tell(alloc, words, "important", answer);
     let reason = if program.excepts { "exception" } else { "step" };
-    stop_refused(alloc, answer, reason, branch, line.as_str(), words);
+    let mut body = stopped(alloc, reason, branch, words);
+    body.text("description", line.as_str());
+    stop_refused(answer, why, body);
 }
 
 /// The refusal as a script tells it.
@@ -161,28 +171,20 @@ fn refusal_line(alloc: Global, why: Refusal) -> Words {
 
 /// Tells that nothing moves since a step was refused.
 #[tactic(auto, using(crate::proofs::public::Saying::stops_now))]
-fn stop_refused(
-    alloc: Global,
-    answer: &mut Answer,
-    reason: &str,
-    branch: u32,
-    line: &str,
-    words: &str,
-)
-    ensures { TellsStop answer.old answer.new }
+fn stop_refused(answer: &mut Answer, why: Refusal, body: Members)
+    ensures { TellsStop answer.old (stops.Stop.Refused (refusal_number why)) answer.new }
 {
-    let mut body = stopped(alloc, reason, branch, words);
-    body.text("description", line);
-    answer.note(Told::Stopped, body);
+    answer.note(Told::Stopped(Stop::Refused(u64::from(why.number()))), body);
 }
 
 /// Keeps the refusal, for whoever asks.
 #[tactic(auto, using(crate::proofs::public::Saying::says_none, crate::proofs::public::Saying::says_lacking))]
-fn keep_refusal(alloc: Global, program: &mut Program, answer: &mut Answer, line: &str, words: &str)
-    ensures { TellsOutputs answer.old answer.new }
+fn keep_refusal(alloc: Global, memo: &mut Memo, answer: &mut Answer, line: &str, words: &str)
+    ensures seen { memo.new.seen ≡ memo.old.seen }
+    ensures tells { TellsOutputs answer.old answer.new }
 {
-    program.refused = kept_refusal(alloc, line, words);
-    if program.refused.is_none() {
+    memo.refused = kept_refusal(alloc, line, words);
+    if memo.refused.is_none() {
         answer.lacks = true;
     }
 }

@@ -1,8 +1,54 @@
 // Why nothing goes on, in words.
 use dap_moves::Machine;
-use dap_views::Words;
+use dap_threads::places_in;
+use dap_views::{Program, Sight, Words, add_waits};
 use std::alloc::Global;
 use waiting::{Progress, Waiting, who_waits};
+
+/// Why the branch has no step.
+pub(crate) fn why_none(alloc: Global, machine: &Machine, program: &Program, branch: u32) -> Words {
+    match &program.sight {
+        Some(sight) => waits_words(alloc, machine, program, sight, branch),
+        None => Words::of(alloc, "No step"),
+    }
+}
+
+/// For whom the branch waits, at each of its places.
+fn waits_words(
+    alloc: Global,
+    machine: &Machine,
+    program: &Program,
+    sight: &Sight,
+    branch: u32,
+) -> Words {
+    let mut words = Words::new(alloc);
+    for number in &places_in(alloc, machine, sight, branch).unwrap_or(Vec::new(alloc)) {
+        add_wait(alloc, machine, program, sight, *number, &mut words);
+    }
+    if words.is_empty() {
+        words.add("Done");
+    }
+    words
+}
+
+/// Adds for whom the action at this index waits.
+fn add_wait(
+    alloc: Global,
+    machine: &Machine,
+    program: &Program,
+    sight: &Sight,
+    number: usize,
+    words: &mut Words,
+) {
+    if let Some(offered) = sight.actions.as_slice().get(number) {
+        words.add(if words.is_empty() {
+            "Waits for "
+        } else {
+            " and "
+        });
+        add_waits(alloc, machine, &program.lines, sight, offered, words);
+    }
+}
 
 /// Tells that nothing can go on, and why: all is done, the stimulus is used up, or a deadlock.
 pub(crate) fn nothing_words(alloc: Global, machine: &Machine, only: Option<u32>) -> Words {

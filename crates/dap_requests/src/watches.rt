@@ -1,4 +1,6 @@
 // Breakpoints on variables and on channels.
+ghost use Rattle.dap_views.specs.Kept.{SameButWatched};
+
 use crate::breakpoints::items_in;
 use dap_messages::{Answer, Listed, Members, Request, field, text_in};
 use dap_moves::{Handle, Machine, Watched, handle_of};
@@ -92,7 +94,9 @@ fn whole_name(alloc: Global, machine: &Machine, thing: Thing) -> Words {
 }
 
 /// Answers `setDataBreakpoints`. Where it is refused, or there is no memory, what is watched stays.
-pub fn set_data(alloc: Global, program: &mut Program, request: &Request, answer: &mut Answer) {
+pub fn set_data(alloc: Global, program: &mut Program, request: &Request, answer: &mut Answer)
+    ensures { SameButWatched program.old program.new }
+{
     let Some(items) = items_in(request, "breakpoints", answer) else {
         return;
     };

@@ -1,5 +1,5 @@
 -- Parts of a session, one after another.
-use Rattle.std.proofs.Common.{◌≡◌, ◌+◌, ℕ, List, [], ◌∷◌, ◌++◌, length, Option, Some, None, refl, sym, ap, ◌∙◌, subst, append_assoc, append-nil, arith, length-append}
+use Rattle.std.proofs.Common.{◌≡◌, ◌+◌, ℕ, Bool, true, false, List, [], ◌∷◌, ◌++◌, length, Option, Some, None, refl, sym, ap, ◌∙◌, subst, append_assoc, append-nil, arith, length-append}
 use Rattle.std.specs.Io.KnownBytes.{Appends}
 use Rattle.dap_messages.specs.declared.answer.Answer.{Answer}
 use Rattle.dap_messages.specs.declared.request.Request.{Request}
@@ -56,6 +56,10 @@ session_then answers a m b next after (None ∷ heard) more sent rest at h k =
       session_then answers a m b (next + 1) after heard more h.1 rest there h.2 k,
       ap (λ (xs : List (List ℕ)). xs ++ rest) h.3,
     )
+
+-- what goes on does not end
+pub goes_on : {P : Type 0} (more : Bool) → more ≡ true → more ≡ false → P
+goes_on more on off = let both : true ≡ false = sym on ∙ off in absurd (cc)
 
 -- nothing came
 pub serves_nothing : {A : Type 0} (answers : A → Request → Answer → A → Type 0) (a : A) (next : ℕ) (u : Option (List ℕ))

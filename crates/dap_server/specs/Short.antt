@@ -9,6 +9,7 @@ use Rattle.dap_messages.specs.declared.answer.Effect.{Effect}
 use Rattle.dap_messages.specs.declared.answer.Outcome.{Outcome}
 use Rattle.dap_messages.specs.declared.kind.Kind.{Kind}
 use Rattle.dap_messages.specs.declared.request.Request.{Request}
+use Rattle.dap_messages.specs.declared.told.Stop.{Stop}
 use Rattle.dap_messages.specs.declared.told.Told.{Told}
 use Rattle.dap_server.specs.declared.gist.Gist.{Gist}
 
@@ -93,15 +94,30 @@ short_response request gist seq =
 abbrev pub thread_named : Request → ℕ
 thread_named request = unwrap_or (number_named (codes "threadId") (view request.arguments)) 1
 
--- that nothing moves: what a request did is not told, since memory is lacking
-abbrev pub stopped_text : ℕ → List ℕ
-stopped_text thread =
-    codes "\",\"body\":{\"reason\":\"pause\",\"threadId\":" ++ decimal thread
-    ++ codes ",\"allThreadsStopped\":true,\"text\":\"stopped; there is no memory left to tell more\"}}"
+-- why nothing moves, as far as that is known without memory, up to the number of the thread
+abbrev pub stop_head : Stop → List ℕ
+stop_head Stop.Stands = codes "\",\"body\":{\"reason\":\"pause\",\"threadId\":"
+stop_head Stop.AtLine = codes "\",\"body\":{\"reason\":\"breakpoint\",\"threadId\":"
+stop_head (Stop.Refused why) = codes "\",\"body\":{\"reason\":\"exception\",\"threadId\":"
+
+-- that a step was refused, for the reason of this number
+abbrev pub refused_words : ℕ → List ℕ
+refused_words why = codes "refused " ++ decimal why ++ codes "; there is no memory left to tell more\"}}"
+
+-- the same in words, and all that is left
+abbrev pub stop_rest : Stop → List ℕ
+stop_rest Stop.Stands = codes ",\"allThreadsStopped\":true,\"text\":\"stopped; there is no memory left to tell more\"}}"
+stop_rest Stop.AtLine =
+    codes ",\"allThreadsStopped\":true,\"text\":\"stopped at a breakpoint; there is no memory left to tell more\"}}"
+stop_rest (Stop.Refused why) = codes ",\"allThreadsStopped\":true,\"text\":\"" ++ refused_words why
+
+-- that nothing moves
+abbrev pub stopped_text : Stop → ℕ → List ℕ
+stopped_text stop thread = (stop_head stop ++ decimal thread) ++ stop_rest stop
 
 -- what stands behind the name of an event
 abbrev pub event_rest : Request → Told → List ℕ
-event_rest request Told.Stopped = stopped_text (thread_named request)
+event_rest request (Told.Stopped stop) = stopped_text stop (thread_named request)
 event_rest request _ = codes "\"}"
 
 -- the event that has to come behind the response to a request

@@ -1,3 +1,4 @@
+ghost use Rattle.std.specs.Prelude.{◌≡◌, Bool};
 ghost use Rattle.dap_messages.specs.declared.answer.Answer.{Answer as Given};
 ghost use Rattle.dap_messages.specs.declared.request.Request.{Request as Asked};
 
@@ -8,10 +9,14 @@ pub trait Adapter<C> {
     // Of the adapter before, a request, its answer and the adapter after: what may come of the request.
     ghost answers: { Self → Asked → Given → Self → Type 0 };
 
+    // Whether the client has ended the session.
+    ghost over: { Self → Bool };
+
     /// Answers the request.
     fn answer(&mut self, context: &C, request: &Request) -> Answer
         ensures { answers self.old request.now result self.new };
 
     /// Whether the client has ended the session.
-    fn is_over(&self) -> bool;
+    fn is_over(&self) -> bool
+        ensures { result ≡ over self.now };
 }

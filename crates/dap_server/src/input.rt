@@ -1,18 +1,20 @@
 // The messages of a reader, one after another.
+ghost use Rattle.std.specs.Prelude.{◌≡◌, ◌≢◌, ◌<◌, IfOk, IfSome, false, length};
+ghost use Rattle.std.specs.Io.KnownBytes.{IsAtEnd};
+ghost use Rattle.dap_server.specs.declared.input.Next as comes;
+
 use crate::Fault;
 use dap_frames::{Unframed, unframe};
-use std::alloc::{AllocError, Global};
+use std::alloc::Global;
 use std::io::{ErrorKind, Read};
 
 /// How many bytes are asked for at a time.
-const CHUNK: usize = 8_192;
+const CHUNK: usize = 4_096;
 
 /// What has been read, and how far it was looked at.
 #[derive(Drop)]
 pub(crate) struct Input {
     bytes: Vec<u8>,
-    /// the room for what comes next
-    chunk: Vec<u8>,
     /// where what was not looked at begins
     start: usize,
     /// how many bytes are to be passed over
@@ -31,18 +33,19 @@ pub(crate) enum Next {
 }
 
 impl Input {
-    /// Nothing has been read. It is an error if there is no memory.
-    pub(crate) fn new(alloc: Global) -> Result<Input, AllocError> {
-        Ok(Input {
+    /// Nothing has been read.
+    pub(crate) fn new(alloc: Global) -> Input {
+        Input {
             bytes: Vec::new(alloc),
-            chunk: vec![in alloc; 0; CHUNK]?,
             start: 0,
             skip: 0,
-        })
+        }
     }
 
     /// The next message.
-    pub(crate) fn next<R: Read>(&mut self, reader: &mut R) -> Result<Next, Fault> {
+    pub(crate) fn next<R: Read>(&mut self, reader: &mut R) -> Result<Next, Fault>
+        ensures { IfOk result (λ next. next ≡ comes.Next.End → IsAtEnd (R.remaining reader.new)) }
+    {
         for _ in 0..u64::MAX {
             self.pass_over();
             if let Some(next) = self.at_hand()? {
@@ -69,7 +72,9 @@ impl Input {
     }
 
     /// The message that is there whole.
-    fn at_hand(&mut self) -> Result<Option<Next>, Fault> {
+    fn at_hand(&mut self) -> Result<Option<Next>, Fault>
+        ensures { IfOk result (λ found. IfSome found (λ next. next ≢ comes.Next.End)) }
+    {
         if self.skip > 0 {
             return Ok(None);
         }
@@ -91,10 +96,13 @@ impl Input {
     }
 
     /// Reads some bytes more, behind those that were not looked at; whether there were any.
-    fn read_more<R: Read>(&mut self, reader: &mut R) -> Result<bool, Fault> {
+    fn read_more<R: Read>(&mut self, reader: &mut R) -> Result<bool, Fault>
+        ensures { IfOk result (λ more. more ≡ false → IsAtEnd (R.remaining reader.new)) }
+    {
         self.drop_looked_at();
-        let count = read_some(reader, self.chunk.as_mut_slice())?;
-        let read = self.chunk.as_slice().get(..count).unwrap_or(&[]);
+        let mut chunk = [0; CHUNK];
+        let count = read_some(reader, &mut chunk)?;
+        let read = chunk.get(..count).unwrap_or(&[]);
         self.bytes.extend_from_slice(read)?;
         Ok(count > 0)
     }
@@ -122,7 +130,10 @@ impl Input {
 }
 
 /// Reads some bytes; how many they are.
-fn read_some<R: Read>(reader: &mut R, chunk: &mut [u8]) -> Result<usize, Fault> {
+fn read_some<R: Read>(reader: &mut R, chunk: &mut [u8]) -> Result<usize, Fault>
+    requires { 0 < length chunk.old }
+    ensures { IfOk result (λ count. count ≡ 0 → IsAtEnd (R.remaining reader.new)) }
+{
     for _ in 0..u64::MAX {
         match reader.read(chunk) {
             Ok(count) => return Ok(count),

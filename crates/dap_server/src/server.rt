@@ -1,8 +1,10 @@
 // A session over a reader and a writer.
-ghost use Rattle.std.specs.Prelude.{ℕ, ◌≡◌, List, [], ◌∷◌, IfOk, OnOk};
+ghost use Rattle.std.specs.Prelude.{ℕ, ◌≡◌, ◌⊎◌, List, [], ◌∷◌, IfOk, OnOk, true, false};
+ghost use Rattle.std.specs.Io.KnownBytes.{IsAtEnd};
 ghost use Rattle.dap_server.specs.Sent.{Sends};
 ghost use Rattle.dap_server.specs.Session.{Exchange, Serves};
 ghost use Rattle.dap_server.specs.Short.{short_bodies, short_line};
+ghost use Rattle.dap_server.specs.declared.input.Next as comes;
 
 use crate::adapter::Adapter;
 use crate::batch::batch_of;
@@ -34,8 +36,9 @@ pub fn serve<R: Read, W: Write, C, A: Adapter<C>>(
     context: &C,
     adapter: &mut A,
 ) -> Result<(), Fault>
-    ensures { OnOk result ((after : ℕ)
+    ensures serves { OnOk result ((after : ℕ)
         × Serves A.answers adapter.old 1 adapter.new after (W.contents writer.old) (W.contents writer.new)) }
+    ensures ends { OnOk result ((A.over adapter.new ≡ true) ⊎ IsAtEnd (R.remaining reader.new)) }
 {
     match Server::new(alloc) {
         Ok(mut server) => server.serve_all(reader, writer, context, adapter),
@@ -57,11 +60,10 @@ impl Server {
     fn new(alloc: Global) -> Result<Server, AllocError>
         ensures { IfOk result (λ server. server.next ≡ 1) }
     {
-        let input = Input::new(alloc)?;
         let room = Room::new(alloc)?;
         Ok(Server {
             alloc,
-            input,
+            input: Input::new(alloc),
             room,
             next: 1,
         })
@@ -75,8 +77,9 @@ impl Server {
         context: &C,
         adapter: &mut A,
     ) -> Result<(), Fault>
-        ensures { OnOk result (Serves A.answers adapter.old self.old.next adapter.new self.new.next
+        ensures serves { OnOk result (Serves A.answers adapter.old self.old.next adapter.new self.new.next
             (W.contents writer.old) (W.contents writer.new)) }
+        ensures ends { OnOk result ((A.over adapter.new ≡ true) ⊎ IsAtEnd (R.remaining reader.new)) }
     {
         for turn in 0..u64::MAX {
             match self.serve_next(reader, writer, context, adapter) {
@@ -97,8 +100,10 @@ impl Server {
         context: &C,
         adapter: &mut A,
     ) -> Result<bool, Fault>
-        ensures { IfOk result (λ more. Serves A.answers adapter.old self.old.next adapter.new self.new.next
+        ensures serves { IfOk result (λ more. Serves A.answers adapter.old self.old.next adapter.new self.new.next
             (W.contents writer.old) (W.contents writer.new)) }
+        ensures ends { IfOk result (λ more.
+            more ≡ false → (A.over adapter.new ≡ true) ⊎ IsAtEnd (R.remaining reader.new)) }
     {
         match self.input.next(reader) {
             Ok(next) => self.serve_message(writer, context, adapter, next),
@@ -114,8 +119,9 @@ impl Server {
         adapter: &mut A,
         next: Next,
     ) -> Result<bool, Fault>
-        ensures { IfOk result (λ more. Serves A.answers adapter.old self.old.next adapter.new self.new.next
+        ensures serves { IfOk result (λ more. Serves A.answers adapter.old self.old.next adapter.new self.new.next
             (W.contents writer.old) (W.contents writer.new)) }
+        ensures ends { IfOk result (λ more. more ≡ false → (A.over adapter.new ≡ true) ⊎ (next ≡ comes.Next.End)) }
     {
         match next {
             Next::Body(from, to) => self.hear(writer, context, adapter, from, to),
@@ -126,9 +132,10 @@ impl Server {
 
     /// Tells that a message was passed over, and that others may follow.
     fn pass_over<W: Write>(&mut self, writer: &mut W) -> Result<bool, Fault>
-        ensures { IfOk result (λ more. (line : List ℕ)
+        ensures tells { IfOk result (λ more. (line : List ℕ)
             × Sends (short_line line self.old.next ∷ []) (W.contents writer.old) (W.contents writer.new) self.old.next
             self.new.next) }
+        ensures on { IfOk result (λ more. more ≡ true) }
     {
         match self.tell(writer, "a message of more than 4 MB is passed over") {
             Ok(()) => Ok(true),
@@ -145,8 +152,9 @@ impl Server {
         from: usize,
         to: usize,
     ) -> Result<bool, Fault>
-        ensures { IfOk result (λ more. Serves A.answers adapter.old self.old.next adapter.new self.new.next
+        ensures serves { IfOk result (λ more. Serves A.answers adapter.old self.old.next adapter.new self.new.next
             (W.contents writer.old) (W.contents writer.new)) }
+        ensures ends { IfOk result (λ more. more ≡ false → A.over adapter.new ≡ true) }
     {
         match self.take(writer, context, adapter, from, to) {
             Ok(()) => Ok(!adapter.is_over()),

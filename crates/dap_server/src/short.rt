@@ -2,10 +2,11 @@
 ghost use Rattle.std.specs.Prelude.{◌≡◌, ◌++◌, OnOk, codes, string_bytes};
 ghost use Rattle.std.specs.Fmt.{decimal};
 ghost use Rattle.dap_messages.specs.Messages.{event_name};
+ghost use Rattle.dap_messages.specs.declared.told.Stop as stops;
 ghost use Rattle.dap_server.specs.Short as model;
 
 use crate::gist::Gist;
-use dap_messages::{Kind, Request, Told};
+use dap_messages::{Kind, Request, Stop, Told};
 use std::alloc::AllocError;
 use std::io::Write;
 
@@ -196,7 +197,7 @@ fn add_rest(body: &mut Vec<u8>, request: &Request, told: Told) -> Result<(), All
     ensures { OnOk result (body.new.items ≡ body.old.items ++ model.event_rest request.now told) }
 {
     match told {
-        Told::Stopped => add_stopped(body, thread_named(request)),
+        Told::Stopped(stop) => add_stopped(body, stop, thread_named(request)),
         _ => body.extend_from_slice(b"\"}"),
     }
 }
@@ -208,15 +209,67 @@ fn thread_named(request: &Request) -> u64
     request.number("threadId").unwrap_or(1)
 }
 
-/// Adds that nothing moves: what the request did is not told, since memory is lacking.
-fn add_stopped(body: &mut Vec<u8>, thread: u64) -> Result<(), AllocError>
-    ensures { OnOk result (body.new.items ≡ body.old.items ++ model.stopped_text thread) }
+/// Adds that nothing moves.
+fn add_stopped(body: &mut Vec<u8>, stop: Stop, thread: u64) -> Result<(), AllocError>
+    ensures { OnOk result (body.new.items ≡ body.old.items ++ model.stopped_text stop thread) }
 {
-    body.extend_from_slice(b"\",\"body\":{\"reason\":\"pause\",\"threadId\":")?;
-    add_number(body, thread)?;
-    body.extend_from_slice(
-        b",\"allThreadsStopped\":true,\"text\":\"stopped; there is no memory left to tell more\"}}",
-    )
+    add_stop_thread(body, stop, thread)?;
+    add_stop_rest(body, stop)
+}
+
+/// Adds why nothing moves, and the thread that stopped.
+fn add_stop_thread(body: &mut Vec<u8>, stop: Stop, thread: u64) -> Result<(), AllocError>
+    ensures { OnOk result (body.new.items ≡ body.old.items ++ (model.stop_head stop ++ decimal thread)) }
+{
+    add_stop_head(body, stop)?;
+    add_number(body, thread)
+}
+
+/// Adds why nothing moves, up to the number of the thread.
+fn add_stop_head(body: &mut Vec<u8>, stop: Stop) -> Result<(), AllocError>
+    ensures { OnOk result (body.new.items ≡ body.old.items ++ model.stop_head stop) }
+{
+    match stop {
+        Stop::Stands => body.extend_from_slice(b"\",\"body\":{\"reason\":\"pause\",\"threadId\":"),
+        Stop::AtLine => body.extend_from_slice(
+            b"\",\"body\":{\"reason\":\"breakpoint\",\"threadId\":",
+        ),
+        Stop::Refused(_) => body.extend_from_slice(
+            b"\",\"body\":{\"reason\":\"exception\",\"threadId\":",
+        ),
+    }
+}
+
+/// Adds the words for why nothing moves, and all that is left.
+fn add_stop_rest(body: &mut Vec<u8>, stop: Stop) -> Result<(), AllocError>
+    ensures { OnOk result (body.new.items ≡ body.old.items ++ model.stop_rest stop) }
+{
+    match stop {
+        Stop::Stands => body.extend_from_slice(
+            b",\"allThreadsStopped\":true,\"text\":\"stopped; there is no memory left to tell more\"}}",
+        ),
+        Stop::AtLine => body.extend_from_slice(
+            b",\"allThreadsStopped\":true,\"text\":\"stopped at a breakpoint; there is no memory left to tell more\"}}",
+        ),
+        Stop::Refused(why) => add_refused(body, why),
+    }
+}
+
+/// Adds that a step was refused, for the reason of this number, and all that is left.
+fn add_refused(body: &mut Vec<u8>, why: u64) -> Result<(), AllocError>
+    ensures { OnOk result (body.new.items ≡ body.old.items ++ model.stop_rest (stops.Stop.Refused why)) }
+{
+    body.extend_from_slice(b",\"allThreadsStopped\":true,\"text\":\"")?;
+    add_refused_words(body, why)
+}
+
+/// Adds the words for a step that was refused, and all that is left.
+fn add_refused_words(body: &mut Vec<u8>, why: u64) -> Result<(), AllocError>
+    ensures { OnOk result (body.new.items ≡ body.old.items ++ model.refused_words why) }
+{
+    body.extend_from_slice(b"refused ")?;
+    add_number(body, why)?;
+    body.extend_from_slice(b"; there is no memory left to tell more\"}}")
 }
 
 /// Adds a number in decimal.

@@ -1,5 +1,5 @@
 // Threads and their frames.
-ghost use Rattle.std.specs.Prelude.{◌≡◌, MatchOption, codes};
+ghost use Rattle.std.specs.Prelude.{◌≡◌, IfSome, MatchOption, codes};
 ghost use Rattle.serde_json.specs.View.{view};
 ghost use Rattle.runs.specs.Tests.{same_place};
 ghost use Rattle.system_places.specs.SystemBranches.{branch_count};
@@ -343,7 +343,9 @@ pub fn frame_in(
     program: &Program,
     request: &Request,
     answer: &mut Answer,
-) -> Option<(u32, usize)> {
+) -> Option<(u32, usize)>
+    ensures { IfSome result (λ _. answer.new ≡ answer.old) }
+{
     let Some(sight) = &program.sight else {
         answer.lacks = true;
         return None;
@@ -362,7 +364,9 @@ fn frame_at(
     sight: &Sight,
     id: u64,
     answer: &mut Answer,
-) -> Option<(u32, usize)> {
+) -> Option<(u32, usize)>
+    ensures { IfSome result (λ _. answer.new ≡ answer.old) }
+{
     let system = machine.checked().system();
     let Some((branch, index)) = frame_named(system, sight.actions.as_slice(), id) else {
         answer.refuse(109, "there is no such frame any more");

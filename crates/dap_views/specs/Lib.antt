@@ -1,2 +1,4 @@
+pub mod Kept
+pub mod Lined
 pub mod Named
 pub mod Seen

@@ -12,7 +12,7 @@ mod words;
 pub use index::{Index, Named, Thing};
 pub use lines::{Heading, Lines};
 pub use paths::{base_of, is_rooted, is_same_file, own_name};
-pub use program::{Asked, Counting, Launch, Program, Refused};
+pub use program::{Asked, Counting, Launch, Memo, Program, Refused};
 pub use short::event_words;
 pub use sight::{
     Rank, Sight, add_action, add_waits, add_who, channel_of, line_at, sight_of, variable_of,

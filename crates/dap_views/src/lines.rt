@@ -1,4 +1,7 @@
 // The lines of a source: where each begins, and which procedure it is in.
+ghost use Rattle.std.specs.Prelude.{◌≡◌, nat_lt, not};
+ghost use Rattle.dap_views.specs.Lined as model;
+
 use lexer::{Kind, Token, lex};
 use std::alloc::{AllocError, Global};
 use std::str;
@@ -15,6 +18,8 @@ pub struct Heading {
 pub struct Lines {
     /// the offset at which each line begins
     begins: Vec<usize>,
+    /// the line behind the last
+    behind: u64,
     /// in the order of the source
     headings: Vec<Heading>,
 }
@@ -22,8 +27,11 @@ pub struct Lines {
 impl Lines {
     /// The lines of the source. It is an error if there is no memory.
     pub fn new(alloc: Global, source: &[u8]) -> Result<Lines, AllocError> {
+        let begins = begins_of(alloc, source)?;
+        let behind = (begins.len() as u64).saturating_add(1);
         Ok(Lines {
-            begins: begins_of(alloc, source)?,
+            begins,
+            behind,
             headings: headings_of(alloc, source)?,
         })
     }
@@ -74,14 +82,39 @@ impl Lines {
         name
     }
 
-    /// The line on which the next procedure begins behind this line, or that behind the last.
-    pub fn below(&self, line: u64) -> u64 {
+    /// The line before which the procedure ends that is around this line; 0 where none is.
+    pub fn end_of(&self, line: u64) -> u64
+        ensures { result ≡ model.end_of self.now line }
+    {
+        if line < self.behind && self.is_inside(line) {
+            self.below(line)
+        } else {
+            0
+        }
+    }
+
+    /// Whether a procedure begins on this line or above it.
+    fn is_inside(&self, line: u64) -> bool
+        ensures { result ≡ model.is_inside line self.now.headings.items }
+    {
         for heading in &self.headings {
-            if heading.line > line {
+            if !(line < heading.line) {
+                return true;
+            }
+        }
+        false
+    }
+
+    /// The line on which the next procedure begins behind this line, or that behind the last.
+    fn below(&self, line: u64) -> u64
+        ensures { result ≡ model.below line self.now.behind self.now.headings.items }
+    {
+        for heading in &self.headings {
+            if line < heading.line {
                 return heading.line;
             }
         }
-        self.count().saturating_add(1)
+        self.behind
     }
 }
 

@@ -1,4 +1,6 @@
 // What is launched.
+ghost use Rattle.std.specs.Prelude.{◌≡◌, []};
+
 use crate::index::Index;
 use crate::lines::Lines;
 use crate::paths::{base_of, is_same_file};
@@ -46,6 +48,27 @@ pub struct Refused {
     pub words: String,
 }
 
+/// What is kept in mind of moves.
+#[derive(Drop)]
+pub struct Memo {
+    /// the step before which a run has stopped at a line, if it is not taken yet
+    pub seen: Vec<Choice>,
+    /// the last refusal of a step
+    pub refused: Option<Refused>,
+}
+
+impl Memo {
+    /// Nothing has moved.
+    pub fn new(alloc: Global) -> Memo
+        ensures { result.seen.items ≡ [] }
+    {
+        Memo {
+            seen: Vec::new(alloc),
+            refused: None,
+        }
+    }
+}
+
 /// A description that was accepted, and what a client has set on it.
 #[derive(Drop)]
 pub struct Program {
@@ -61,10 +84,6 @@ pub struct Program {
     /// the lines that stop
     pub stops: Vec<u64>,
     pub watched: Vec<Watched>,
-    /// the step before which a run has stopped, if it is not taken yet
-    pub seen: Vec<Choice>,
-    /// the last refusal of a step
-    pub refused: Option<Refused>,
     /// whether a refusal stops as an exception
     pub excepts: bool,
     pub last_id: u64,

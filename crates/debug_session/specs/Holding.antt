@@ -1,12 +1,14 @@
--- Which answers may be held back. A reader of lines is seen as the bytes in its buffer and what it asks for more.
-use Rattle.std.specs.Prelude.{ℕ, ◌≡◌, ◌⊎◌, ◌≤◌, List, [], ◌∷◌, ◌++◌, length, Option, IfSome, Result, Err}
+-- Which answers may be held back, and what is out where writing failed. A reader of lines is seen as the bytes in its
+-- buffer and what it asks for more; a writer as what was written, how many of the last bytes of that may be unsent, and
+-- how many it was asked to take when it last failed.
+use Rattle.std.specs.Prelude.{ℕ, ◌≡◌, ◌⊎◌, ◌≤◌, ◌+◌, List, [], ◌∷◌, ◌++◌, length, Option, IfSome, Result, Err}
 use Rattle.std.specs.List.{flat_map}
 use Rattle.std.specs.Io.KnownBytes.{Appends, Consumes, IsAtEnd}
 use Rattle.syntax.specs.Lists.{Every}
-use Rattle.devices.specs.Counting.{IsBeginning}
 use Rattle.system.specs.declared.system.System.{System}
 use Rattle.debug_session.specs.Accepting.{AcceptedAs}
 use Rattle.debug_session.specs.AtLine.{AtLine, first_line}
+use Rattle.debug_session.specs.Counting.{StopsShort}
 use Rattle.debug_session.specs.declared.fault.Fault.{Fault}
 use Rattle.debug_session.specs.Lines.{AsksNothing, LineMayWantMemory}
 use Rattle.debug_session.specs.Script.{IsLine, with_end}
@@ -25,60 +27,66 @@ pub record TookLines (read left : Option (List ℕ)) (lines : List (List ℕ)) :
       ⊎ ((init : List (List ℕ)) × (last : List ℕ) × (lines ≡ init ++ last ∷ [])
       × (text ≡ flat_map with_end init ++ last) × IfSome read (λ _. IsAtEnd left))
 
--- the lines are answered so; but for the answer to the last of them, no more is pending than may be
-pub record AnswersHeld (system : System) (a : AtLine) (lines : List (List ℕ)) (pending : List ℕ)
+-- the lines are answered so, and the answers are no more than may be held
+pub record AnswersHeld (system : System) (a : AtLine) (lines : List (List ℕ)) (held : List ℕ)
     (a' : AtLine) : Type 0 where
-  pub transcript : Transcript system a lines pending a'
-  pub few : length pending ≤ most_held
+  pub transcript : Transcript system a lines held a'
+  pub few : length held ≤ most_held
 
--- a beginning of the answers to the lines is out. Without the answer to the last line they would have been pending;
--- that line may be one that says nothing that can be answered, or for which there was no memory
-abbrev pub BeginsHeld : System → AtLine → List (List ℕ) → List ℕ → Type 0
-BeginsHeld system a lines given =
-    (first : List (List ℕ)) × (pending : List ℕ) × (a' : AtLine) × AnswersHeld system a first pending a'
-    × (((lines ≡ first) × IsBeginning pending given)
+-- these bytes are due behind the lines: the answers to all of them, of which that to the last line alone may make more
+-- than may be held. The last line may lack an answer: it says nothing that can be answered, or there was no memory
+abbrev pub AreDue : System → AtLine → List (List ℕ) → List ℕ → Type 0
+AreDue system a lines due =
+    (first : List (List ℕ)) × (held : List ℕ) × (a' : AtLine) × AnswersHeld system a first held a'
+    × (((lines ≡ first) × (due ≡ held))
     ⊎ ((last : List ℕ) × (lines ≡ first ++ last ∷ [])
-    × (((AsksNothing system last ⊎ LineMayWantMemory system last) × IsBeginning pending given)
-    ⊎ ((answer : List ℕ) × (a'' : AtLine) × LineAnswered system a' last answer a''
-    × IsBeginning (pending ++ answer) given))))
+    × (((AsksNothing system last ⊎ LineMayWantMemory system last) × (due ≡ held))
+    ⊎ ((answer : List ℕ) × (a'' : AtLine) × LineAnswered system a' last answer a'' × (due ≡ held ++ answer)))))
 
 module _ {R A : Type 0} (buffered : R → List ℕ) (asked : R → A) where
   -- the reader gave these lines, each with its end, out of its buffer, and asked for nothing
   abbrev pub GaveAtHand : R → R → List (List ℕ) → Type 0
   GaveAtHand before now lines = (buffered before ≡ flat_map with_end lines ++ buffered now) × (asked now ≡ asked before)
 
-  -- but for the first of these lines the reader gave them out of its buffer, and asked for nothing since it gave that
-  abbrev pub OneWasAskedFor : R → List (List ℕ) → Type 0
-  OneWasAskedFor now [] = Unit {0}
-  OneWasAskedFor now (line ∷ lines) = (before : R) × GaveAtHand before now lines
+  -- the reader gave all of these lines but the first out of its buffer, and asked for nothing since it gave the first
+  abbrev pub RestWasAtHand : R → List (List ℕ) → Type 0
+  RestWasAtHand now [] = Unit {0}
+  RestWasAtHand now (line ∷ lines) = (before : R) × GaveAtHand before now lines
 
-  -- writing failed, with this output: the answers to the lines before are out, and a beginning of those to the last
-  -- lines, all of which but the first stood whole in the reader's buffer, and nothing was asked for since
-  pub record BreaksOff (system : System) (a : AtLine) (now : R) (lines : List (List ℕ)) (output : List ℕ) : Type 0 where
+module _ {R A W : Type 0} (buffered : R → List ℕ) (asked : R → A) (written : W → Option (List ℕ))
+    (unsent wanted : W → ℕ) where
+  -- writing failed, with this output: the answers to the lines before are out and sent on, and a beginning of what is
+  -- due behind the last lines, the rest of which was at hand behind the first of them. The writer failed when it was
+  -- asked to take all that is missing: behind that no line was taken, but for one at most that has no answer there
+  pub record BreaksOff (system : System) (a : AtLine) (now : R) (writer writer' : W) (lines : List (List ℕ))
+      (output : List ℕ) : Type 0 where
     pub before : List (List ℕ)
     pub since : List (List ℕ)
     pub all : lines ≡ before ++ since
     pub out : List ℕ
     pub mid : AtLine
     pub answered : Transcript system a before out mid
-    pub at_hand : OneWasAskedFor now since
+    pub at_hand : RestWasAtHand buffered asked now since
+    pub due : List ℕ
+    pub are_due : AreDue system mid since due
     pub given : List ℕ
-    pub begins : BeginsHeld system mid since given
+    pub short : StopsShort due given (wanted writer')
     pub put : output ≡ out ++ given
+    pub sent : unsent writer' ≤ unsent writer + length given
 
-  -- so a session ends, between these bytes of reader and writer, where writing failed
-  pub record EndsWriting (system : System) (a : AtLine) (now : R)
-      (read left wrote contents : Option (List ℕ)) : Type 0 where
+  -- so a session ends, between these two states of its writer and these bytes of its reader, where writing failed
+  pub record EndsWriting (system : System) (a : AtLine) (now : R) (read left : Option (List ℕ))
+      (writer writer' : W) : Type 0 where
     pub lines : List (List ℕ)
     pub took : TookLines read left lines
     pub output : List ℕ
-    pub writes : Appends wrote contents output
-    pub breaks : BreaksOff system a now lines output
+    pub writes : Appends (written writer) (written writer') output
+    pub breaks : BreaksOff system a now writer writer' lines output
 
   -- the same of what was made of source and stimulus
-  abbrev pub HoldsBack : List ℕ → List ℕ → R → Option (List ℕ) → Option (List ℕ) → Option (List ℕ) → Option (List ℕ)
-      → Result (Unit {0}) Fault → Type 0
-  HoldsBack source stimulus now read left wrote contents result =
+  abbrev pub HoldsBack : List ℕ → List ℕ → R → Option (List ℕ) → Option (List ℕ) → W → W → Result (Unit {0}) Fault
+      → Type 0
+  HoldsBack source stimulus now read left writer writer' result =
       result ≡ Err Fault.WriteFailed
       → (system : System) × AcceptedAs source stimulus system
-      × EndsWriting system (first_line system source) now read left wrote contents
+      × EndsWriting system (first_line system source) now read left writer writer'

@@ -1,4 +1,4 @@
-ghost use Rattle.std.specs.Prelude.{◌≡◌, ◌≢◌, [], Err, MatchBool, MatchResult, IfOk, OnErr};
+ghost use Rattle.std.specs.Prelude.{◌≡◌, ◌≢◌, ◌≤◌, [], Err, MatchBool, MatchResult, IfOk, OnErr};
 ghost use Rattle.debug_session.specs.Counting.{after_reading, after_writing};
 ghost use Rattle.debug_session.specs.Lines.{SaysSession};
 ghost use Rattle.debug_session.specs.declared.line.Line.{Line};
@@ -30,8 +30,9 @@ pub(crate) fn answer_lines<R: CountedLines, W: CountedWrite>(
     ensures ends { Ends script_state.old.desk.machine.checked script_state.old
         (R.remaining reader.old) (R.remaining reader.new) (W.contents writer.old) (W.contents writer.new) result }
     ensures held_back { result ≡ Err WriteFailed
-        → EndsWriting R.buffered R.asked script_state.old.desk.machine.checked script_state.old reader.new
-        (R.remaining reader.old) (R.remaining reader.new) (W.contents writer.old) (W.contents writer.new) }
+        → EndsWriting R.buffered R.asked W.contents W.unsent W.wanted script_state.old.desk.machine.checked
+        script_state.old reader.new (R.remaining reader.old) (R.remaining reader.new) writer.old writer.new }
+    ensures sent { result ≢ Err WriteFailed → W.unsent writer.new ≤ W.unsent writer.old }
     ensures read_failures { R.failed reader.new ≡ after_reading result (R.failed reader.old) }
     ensures write_failures { W.failed writer.new ≡ after_writing result (W.failed writer.old) }
 {
@@ -64,8 +65,8 @@ fn hold_answers<R: CountedLines, W: CountedWrite>(
     ensures ends { EndsHolding script_state.old.desk.machine.checked script_state.old
         (R.remaining reader.old) (R.remaining reader.new) (W.contents writer.old) (W.contents writer.new)
         pending.new.items result }
-    ensures owes { EndsOwing R.buffered R.asked script_state.old.desk.machine.checked script_state.old reader.new
-        (R.remaining reader.old) (R.remaining reader.new) (W.contents writer.old) (W.contents writer.new)
+    ensures owes { EndsOwing R.buffered R.asked W.contents W.unsent W.wanted script_state.old.desk.machine.checked
+        script_state.old reader.new (R.remaining reader.old) (R.remaining reader.new) writer.old writer.new
         pending.new.items result }
     ensures read_failures { R.failed reader.new ≡ after_reading result (R.failed reader.old) }
     ensures write_failures { W.failed writer.new ≡ after_writing result (W.failed writer.old) }

@@ -25,10 +25,11 @@ pub(crate) fn next_line<R: CountedLines, W: CountedWrite>(
         fault) }
     ensures kept { MatchResult result
         (λ complete.
-        LineKept R.buffered R.asked W.contents reader.old reader.new writer.old writer.new pending.old.items
-        pending.new.items
-        line.new.items complete)
-        (λ fault. LineLacks reader.old reader.new writer.old writer.new pending.old.items pending.new.items fault) }
+        LineKept R.buffered R.asked W.contents W.unsent reader.old reader.new writer.old writer.new pending.old.items
+        pending.new.items line.new.items complete)
+        (λ fault.
+        LineLacks W.contents W.unsent W.wanted reader.old reader.new writer.old writer.new pending.old.items
+        pending.new.items fault) }
     ensures read_failures { R.failed reader.new ≡ after_reading result (R.failed reader.old) }
     ensures write_failures { W.failed writer.new ≡ after_writing result (W.failed writer.old) }
 {

@@ -1,7 +1,7 @@
 //! Answers that are held back while further lines are at hand, so that many of them take one write.
 ghost use Rattle.std.specs.Prelude.{◌≡◌, ◌≢◌, ◌≤◌, ◌⊎◌, ◌++◌, [], List, ℕ, length, MatchBool, MatchResult, IfErr};
 ghost use Rattle.std.specs.Io.KnownBytes.{Appends};
-ghost use Rattle.debug_session.specs.Counting.{after_writing, WritingStops};
+ghost use Rattle.debug_session.specs.Counting.{after_writing, WritingStops, WritesShort};
 ghost use Rattle.debug_session.specs.Holding.{most_held};
 
 use crate::Fault;
@@ -17,6 +17,8 @@ pub(crate) fn put_out<W: CountedWrite>(writer: &mut W, pending: &mut Vec<u8>) ->
         × MatchResult result
         (λ _. (given ≡ pending.old.items) × (pending.new.items ≡ []))
         (λ fault. WritingStops pending.old.items given fault) }
+    ensures short { MatchResult result (λ _. W.unsent writer.new ≤ W.unsent writer.old)
+        (λ _. WritesShort W.contents W.unsent W.wanted writer.old writer.new pending.old.items) }
     ensures some { IfErr result (λ _. pending.old.items ≢ []) }
     ensures failures { W.failed writer.new ≡ after_writing result (W.failed writer.old) }
 {
@@ -42,6 +44,9 @@ pub(crate) fn hold<W: CountedWrite>(
         × (length pending.new.items ≤ most_held))
         ⊎ ((given ≡ pending.old.items ++ answer.now) × (pending.new.items ≡ [])))
         (λ fault. WritingStops (pending.old.items ++ answer.now) given fault) }
+    ensures short { MatchResult result (λ _. W.unsent writer.new ≤ W.unsent writer.old)
+        (λ _. WritesShort W.contents W.unsent W.wanted writer.old writer.new pending.old.items
+        ⊎ WritesShort W.contents W.unsent W.wanted writer.old writer.new (pending.old.items ++ answer.now)) }
     ensures failures { W.failed writer.new ≡ after_writing result (W.failed writer.old) }
 {
     if is_held(pending, answer) {

@@ -1,9 +1,10 @@
-ghost use Rattle.std.specs.Prelude.{◌≡◌, IfOk, IfErr};
+ghost use Rattle.std.specs.Prelude.{◌≡◌, ◌≢◌, ◌≤◌, Err, IfOk, IfErr};
 ghost use Rattle.debug_session.specs.Accepting.{AcceptedAs, IsRefused};
 ghost use Rattle.debug_session.specs.Counting.{after_reading, after_writing};
 ghost use Rattle.debug_session.specs.Holding.{HoldsBack};
 ghost use Rattle.debug_session.specs.Transcript.{Debugged};
 ghost use Rattle.debug_session.specs.AtLine.{first_line};
+ghost use Rattle.debug_session.specs.declared.fault.Fault.TheVariants.{WriteFailed};
 ghost use Rattle.system.specs.declared.system.System.{System};
 
 use crate::Fault;
@@ -29,8 +30,9 @@ pub fn accept(alloc: Global, source: &[u8], stimulus: &[u8]) -> Result<Checked, 
 /// Source and stimulus are accepted before anything is read. Before the reader asks for more, the answers to all lines
 /// before are out and flushed; while its buffer has another line whole, answers may be held back, 8 KB at most.
 /// Where a write fails no further line is taken. (A buffer has to have room for a byte at least, or the script looks
-/// empty.) At a fault the answers of the lines before are out, and where writing failed a beginning of the answers.
-/// `ReadFailed` and `WriteFailed` come exactly where reader and writer count a failure.
+/// empty.) At a fault the answers of the lines before are out, and where writing failed a beginning of the answers. All
+/// else that was written is flushed. `ReadFailed` and `WriteFailed` come exactly where reader and writer count a
+/// failure.
 pub fn debug<R: CountedLines, W: CountedWrite>(
     alloc: Global,
     reader: &mut R,
@@ -40,34 +42,36 @@ pub fn debug<R: CountedLines, W: CountedWrite>(
 ) -> Result<(), Fault>
     ensures debugged { Debugged source.now stimulus.now ((reader.new ≡ reader.old) × (writer.new ≡ writer.old))
         (R.remaining reader.old) (R.remaining reader.new) (W.contents writer.old) (W.contents writer.new) result }
-    ensures held_back { HoldsBack R.buffered R.asked source.now stimulus.now reader.new
-        (R.remaining reader.old) (R.remaining reader.new) (W.contents writer.old) (W.contents writer.new) result }
+    ensures held_back { HoldsBack R.buffered R.asked W.contents W.unsent W.wanted source.now stimulus.now reader.new
+        (R.remaining reader.old) (R.remaining reader.new) writer.old writer.new result }
+    ensures sent { result ≢ Err WriteFailed → W.unsent writer.new ≤ W.unsent writer.old }
     ensures read_failures { R.failed reader.new ≡ after_reading result (R.failed reader.old) }
     ensures write_failures { W.failed writer.new ≡ after_writing result (W.failed writer.old) }
 {
-    let mut line = Vec::new(alloc);
-    debug_keeping(alloc, reader, writer, source, stimulus, &mut line)
+    let mut last_line = Vec::new(alloc);
+    debug_keeping(alloc, reader, writer, source, stimulus, &mut last_line)
 }
 
-/// The same, where `line` has the last line that was taken, without its end, once it ends. So a line that says nothing
-/// can be shown: no reader has it any more. No clause speaks of `line`.
+/// The same, where `last_line` has the line that was taken last, without its end, once it ends. So a line that says
+/// nothing can be shown: no reader has it any more. No clause speaks of `last_line`.
 pub fn debug_keeping<R: CountedLines, W: CountedWrite>(
     alloc: Global,
     reader: &mut R,
     writer: &mut W,
     source: &[u8],
     stimulus: &[u8],
-    line: &mut Vec<u8>,
+    last_line: &mut Vec<u8>,
 ) -> Result<(), Fault>
     ensures debugged { Debugged source.now stimulus.now ((reader.new ≡ reader.old) × (writer.new ≡ writer.old))
         (R.remaining reader.old) (R.remaining reader.new) (W.contents writer.old) (W.contents writer.new) result }
-    ensures held_back { HoldsBack R.buffered R.asked source.now stimulus.now reader.new
-        (R.remaining reader.old) (R.remaining reader.new) (W.contents writer.old) (W.contents writer.new) result }
+    ensures held_back { HoldsBack R.buffered R.asked W.contents W.unsent W.wanted source.now stimulus.now reader.new
+        (R.remaining reader.old) (R.remaining reader.new) writer.old writer.new result }
+    ensures sent { result ≢ Err WriteFailed → W.unsent writer.new ≤ W.unsent writer.old }
     ensures read_failures { R.failed reader.new ≡ after_reading result (R.failed reader.old) }
     ensures write_failures { W.failed writer.new ≡ after_writing result (W.failed writer.old) }
 {
     let mut script_state = begin(alloc, source, stimulus)?;
-    answer_lines(alloc, &mut script_state, reader, writer, line)
+    answer_lines(alloc, &mut script_state, reader, writer, last_line)
 }
 
 /// Session 0 before its first line, on the system of source and stimulus.

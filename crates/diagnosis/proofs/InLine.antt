@@ -1,10 +1,11 @@
 -- Bytes of one line have as many lines before them.
-use Rattle.std.proofs.Common.{◌≡◌, ◌≢◌, ◌⊎◌, inl, inr, ℕ, zero, suc, ◌+◌, ◌-◌, ◌<◌, ◌≤◌, false, true, List, length, Some, refl, sym, ◌∙◌, ap, subst, arith}
+use Rattle.std.proofs.Common.{◌≡◌, ◌≢◌, ◌⊎◌, inl, inr, ℕ, zero, suc, ◌+◌, ◌-◌, ◌<◌, ◌≤◌, Bool, false, true, List, length, Some, refl, sym, ◌∙◌, ap, subst, arith}
 use Rattle.std.specs.Prelude.{◌==◌, IfOk, Result, Ok, Err, slice_index}
 use Rattle.std.proofs.lemmas.Bool.Decides.{eqb_tells}
 use Rattle.std.proofs.lemmas.List.Sums.{count_by_more_no}
 use Rattle.source_places.specs.Places.{HasNoLine, ends_before, line_end, within}
-use Rattle.findings.specs.Heads.{TellsPlace}
+use Rattle.findings.specs.Marking.{TellsMarked}
+use Rattle.findings.specs.declared.finding.Finding.{Finding}
 use Rattle.findings.specs.declared.finding.Input.{Input}
 use Rattle.diagnosis.specs.Told.{TellsLine, TellsOffset}
 
@@ -34,20 +35,32 @@ same_line text start at stop from below fits inside =
     (ends_on text start (at - start) (omega (arith, is, below, fits))
     (λ k after before. inside k after (omega (arith, is, before, below))))
 
+-- a finding that is moved to another byte
+abbrev pub starts_at : ℕ → Finding → Finding
+starts_at start finding = record {
+  alloc = finding.alloc;
+  start = start;
+  stop = finding.stop;
+  what = finding.what;
+  help = finding.help;
+  beside = finding.beside;
+}
+
 -- what is told of a byte in a line is told of that line
-pub told_in_line : (input : Input) (start stop at : ℕ) (what told : List ℕ)
-    → TellsPlace input.name.now input.bytes.now at what told → start ≤ at → at ≤ stop
+pub told_in_line : (input : Input) (start stop : ℕ) (finding : Finding) (told : List ℕ)
+    → TellsMarked input.name.now input.bytes.now true finding told → start ≤ finding.start → finding.start ≤ stop
     → stop ≤ length input.bytes.now → ((k : ℕ) → start ≤ k → k < stop → slice_index input.bytes.now k ≢ line_end)
     → TellsLine (Some input) (ends_before input.bytes.now start + 1) told
-told_in_line input start stop at what told tells from below fits inside some few = (
-  at,
-  ap (λ n. n + 1) (same_line input.bytes.now start at stop from below fits inside),
-  (at, what, omega (arith, below, fits), tells),
+told_in_line input start stop finding told tells from below fits inside some few = (
+  finding.start,
+  ap (λ n. n + 1) (same_line input.bytes.now start finding.start stop from below fits inside),
+  (finding, omega (arith, below, fits), tells),
 )
 
-pub told_at : (input : Input) (at offset : ℕ) (what told : List ℕ) → TellsPlace input.name.now input.bytes.now at what told
-    → at ≡ within input.bytes.now offset → TellsOffset input offset told
-told_at input at offset what told tells is = (at, what, is, tells)
+pub told_at : (input : Input) (keeps : Bool) (offset : ℕ) (finding : Finding) (told : List ℕ)
+    → TellsMarked input.name.now input.bytes.now keeps finding told → finding.start ≡ within input.bytes.now offset
+    → TellsOffset input keeps offset told
+told_at input keeps offset finding told tells is = (finding, is, tells)
 
 -- what is told of whatever comes
 pub whatever : {X E : Type 0} (r : Result X E) (P : X → Type 0) → ((x : X) → P x) → IfOk r P

@@ -1,7 +1,8 @@
--- What is told of a fault begins with its place.
-use Rattle.std.specs.Prelude.{◌≡◌, ℕ, ◌+◌, ◌<◌, ◌≤◌, Bool, ◌||◌, ◌&&◌, ◌==◌, nat_le, if◌then◌else◌, List, length, Option, None, Some, IsTrue, unwrap_or}
+-- What is told of a fault begins with its place, and marks it.
+use Rattle.std.specs.Prelude.{◌≡◌, ℕ, ◌+◌, ◌<◌, ◌≤◌, Bool, ◌||◌, ◌&&◌, ◌==◌, nat_le, if◌then◌else◌, List, length, true, false, Option, None, Some, IsTrue, unwrap_or}
 use Rattle.std.specs.Bool.{MatchBool}
-use Rattle.findings.specs.Heads.{TellsPlace}
+use Rattle.findings.specs.Marking.{TellsMarked}
+use Rattle.findings.specs.declared.finding.Finding.{Finding}
 use Rattle.findings.specs.declared.finding.Input.{Input}
 use Rattle.source_places.specs.Places.{ends_before, within}
 use Rattle.diagnosis.specs.declared.told.Inputs.{Inputs}
@@ -19,24 +20,25 @@ abbrev pub input_of : ℕ → Inputs → Option Input
 input_of number inputs =
     if number == 51 then inputs.stimulus else (if number == 61 then inputs.script else inputs.trace)
 
--- the text begins with the name of the source, the line and the column of the byte at the offset, or of the end of the
--- source where it ends before, and what is wrong
-abbrev pub TellsOffset : Input → ℕ → List ℕ → Type 0
-TellsOffset source offset told =
-    (at : ℕ) × (what : List ℕ) × (at ≡ within source.bytes.now offset)
-    × TellsPlace source.name.now source.bytes.now at what told
+-- the text is that of a finding at the byte at the offset, or at the end of the source where it ends before: it begins
+-- with the name of the source, the line and the column of that byte, and what is wrong; behind that come rows of the
+-- source with marks in the order of their places, of which that at the byte is a `^`
+abbrev pub TellsOffset : Input → Bool → ℕ → List ℕ → Type 0
+TellsOffset source keeps offset told =
+    (finding : Finding) × (finding.start ≡ within source.bytes.now offset)
+    × TellsMarked source.name.now source.bytes.now keeps finding told
 
--- where there is such a line, the text begins with the place of a byte of it
+-- where there is such a line, the text is that of a finding at a byte of it
 abbrev pub TellsLine : Option Input → ℕ → List ℕ → Type 0
 TellsLine None line told = Unit {0}
 TellsLine (Some input) line told =
     0 < line → line ≤ ends_before input.bytes.now (length input.bytes.now) + 1 →
-    (offset : ℕ) × (ends_before input.bytes.now offset + 1 ≡ line) × TellsOffset input offset told
+    (offset : ℕ) × (ends_before input.bytes.now offset + 1 ≡ line) × TellsOffset input true offset told
 
 -- what is told of a refusal of a line, of the first one where none is named, and of one at an offset of the source
 abbrev pub TellsAt : Option ℕ → Inputs → List ℕ → Type 0
 TellsAt None inputs told = Unit {0}
-TellsAt (Some offset) inputs told = TellsOffset inputs.source offset told
+TellsAt (Some offset) inputs told = TellsOffset inputs.source false offset told
 
 abbrev pub TellsFault : ℕ → Option ℕ → Inputs → List ℕ → Type 0
 TellsFault number field inputs told =

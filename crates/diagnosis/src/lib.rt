@@ -1,10 +1,10 @@
 //! What people are told of a fault: where it is, the line with a mark under it, what is wrong and what helps.
 //!
 //! A fault is a number and what stands behind it, as the fault line has them. That the text begins with the place of the
-//! fault is proved, and that the use is marked which clashes with one; other words are tested.
+//! fault, and shows the lines with marks, is proved of `explain`; its words are tested.
 #![tactic(auto)]
 
-ghost use Rattle.std.specs.Prelude.{◌≡◌, IfOk, IsTrue, string_bytes};
+ghost use Rattle.std.specs.Prelude.{◌≡◌, false, IfOk, IsTrue, string_bytes};
 ghost use Rattle.diagnosis.specs.Told as model;
 
 mod clash;
@@ -29,7 +29,7 @@ use std::alloc::{AllocError, Global};
 pub use told::{Inputs, Unread, UnreadFile};
 
 /// What is told of a fault behind its line: nothing, or lines that each have their end. `number` and `field` are those
-/// of the fault. The first line has the place of the fault. Where the text in which it is is not at hand, the page of
+/// of the fault. The first line has the place of the fault, and behind it come lines of the text with marks. Where the text in which it is is not at hand, the page of
 /// the refusal alone is named. It is an error if there is no memory.
 pub fn explain(
     alloc: Global,
@@ -88,7 +88,7 @@ fn explain_source(
     offset: u64,
     source: Input<'_>,
 ) -> Result<String, AllocError>
-    ensures { IfOk result (λ told. model.TellsOffset source.entry offset (string_bytes told)) }
+    ensures { IfOk result (λ told. model.TellsOffset source.entry false offset (string_bytes told)) }
 {
     let offset = offset.min(source.bytes.len() as u64);
     let mut finding = Finding::new(alloc, offset, offset);

@@ -1,5 +1,5 @@
 -- The lines that are told of a finding, and the marks under them.
-use Rattle.std.specs.Prelude.{◌≡◌, ℕ, List, [], ◌∷◌, ◌++◌, map, string_bytes, IsPermutation}
+use Rattle.std.specs.Prelude.{◌≡◌, ℕ, Bool, List, [], ◌∷◌, ◌++◌, map, string_bytes, IsPermutation}
 use Rattle.std.specs.List.Sorted.{IsNonDecreasingBy}
 use Rattle.findings.specs.Heads.{IsHead}
 use Rattle.findings.specs.declared.finding.Beside.{Beside}
@@ -31,14 +31,14 @@ AreMarksOf finding marks =
     IsPermutation (seen_fault finding.start finding.stop ∷ map seen_beside finding.beside.items) (map seen marks)
     × IsNonDecreasingBy (λ (mark : Mark). mark.start) marks
 
--- rows with the marks of a finding, whatever stands behind them
-abbrev pub ShowsMarks : List ℕ → Finding → List ℕ → Type 0
-ShowsMarks source finding told =
-    (marks : List Mark) × (rows behind : List ℕ) × AreMarksOf finding marks × AreMarked source marks rows
+-- rows with the marks of a finding, whatever stands behind them; a byte 13 at the end of a line is shown where it is kept
+abbrev pub ShowsMarks : List ℕ → Bool → Finding → List ℕ → Type 0
+ShowsMarks source keeps finding told =
+    (marks : List Mark) × (rows behind : List ℕ) × AreMarksOf finding marks × AreMarked source keeps marks rows
     × (told ≡ rows ++ behind)
 
 -- the first line tells the place and what is wrong, and behind it come rows with the marks
-abbrev pub TellsMarked : List ℕ → List ℕ → Finding → List ℕ → Type 0
-TellsMarked name source finding told =
+abbrev pub TellsMarked : List ℕ → List ℕ → Bool → Finding → List ℕ → Type 0
+TellsMarked name source keeps finding told =
     (first rest : List ℕ) × IsHead name source finding.start (string_bytes finding.what) first
-    × ShowsMarks source finding rest × (told ≡ first ++ rest)
+    × ShowsMarks source keeps finding rest × (told ≡ first ++ rest)

@@ -153,8 +153,8 @@ impl Finding {
     pub fn text(&self, input: Input<'_>, keeps_return: bool) -> Result<String, AllocError>
         ensures place { IfOk result (λ told. TellsPlace input.entry.name.now input.entry.bytes.now self.now.start
             (string_bytes self.now.what) (string_bytes told)) }
-        ensures marks { IfOk result (λ told. TellsMarked input.entry.name.now input.entry.bytes.now self.now
-            (string_bytes told)) }
+        ensures marks { IfOk result (λ told. TellsMarked input.entry.name.now input.entry.bytes.now keeps_return
+            self.now (string_bytes told)) }
     {
         let mut text = self.head(input)?;
         let lines = self.lines(input, keeps_return)?;
@@ -180,7 +180,8 @@ impl Finding {
 
     /// The lines with their marks, and what helps.
     fn lines(&self, input: Input<'_>, keeps_return: bool) -> Result<String, AllocError>
-        ensures { IfOk result (λ told. ShowsMarks input.entry.bytes.now self.now (string_bytes told)) }
+        ensures { IfOk result (λ told. ShowsMarks input.entry.bytes.now keeps_return self.now
+            (string_bytes told)) }
     {
         let marks = self.marks()?;
         let mut text = String::new(self.alloc);

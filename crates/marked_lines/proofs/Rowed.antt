@@ -1,5 +1,5 @@
 -- Signs under characters, texts in turn, and rows one behind the other.
-use Rattle.std.proofs.Common.{◌≡◌, ◌+◌, ◌-◌, ◌≤◌, ◌++◌, ◌∷◌, [], ℕ, zero, suc, Bool, true, false, List, length, take, drop, refl, sym, ◌∙◌, ap, subst, arith, append-nil, append_assoc}
+use Rattle.std.proofs.Common.{◌≡◌, ◌+◌, ◌-◌, ◌<◌, ◌≤◌, ◌++◌, ◌∷◌, [], ℕ, zero, suc, Bool, true, false, List, length, take, drop, refl, sym, ◌∙◌, ap, subst, arith, append-nil, append_assoc}
 use Rattle.std.specs.Prelude.{◌||◌, nat_lt, sum_by, replicate, flat_map, encode_utf8}
 use Rattle.std.proofs.lemmas.List.{drop-drop, drop_all, length-drop, replicate-append-replicate, take-append-drop}
 use Rattle.std.proofs.lemmas.List.Concat.{flat_map-append}
@@ -8,57 +8,23 @@ use Rattle.marked_lines.specs.Marks.{columns, signs}
 use Rattle.marked_lines.specs.Rows.{AddsRow, AreRows, IsRow, marks_in}
 use Rattle.marked_lines.specs.declared.marks.Mark.{Mark}
 
--- ---- signs
+-- ---- columns
 
--- the signs under some characters are there, whose columns and those of the others are the whole
-abbrev pub Under : List ℕ → ℕ → ℕ → Bool → List ℕ → List ℕ → Type 0
-Under old sign whole any rest new =
-    (done : ℕ) × (any ≡ nat_lt 0 done) × (done + sum_by columns rest ≡ whole) × (new ≡ old ++ signs done sign)
+-- what begins with a character that takes a column takes one
+pub some_columns : (whole : ℕ) (chars rest : List ℕ) (one wide : ℕ) → sum_by columns chars ≡ whole → chars ≡ one ∷ rest
+    → wide ≡ columns one → 0 < wide → nat_lt 0 whole ≡ true
+some_columns whole chars rest one wide sum e w some =
+    let counted : sum_by columns chars ≡ columns one + sum_by columns rest =
+    ap (λ z. sum_by columns z) e ∙ sum_by-cons columns one rest in
+    let less : 0 < whole = omega (arith, sum, counted, w, some) in grind arith
 
-any_more : (a b : ℕ) → (nat_lt 0 a || nat_lt 0 b) ≡ nat_lt 0 (a + b)
-any_more zero b =
-    let e : b ≡ 0 + b = omega arith in
-    ap (λ n. nat_lt 0 n) e
-any_more (suc a) b = grind arith
-
-signs_more : (a b sign : ℕ) → signs a sign ++ signs b sign ≡ signs (a + b) sign
-signs_more a b sign =
-    sym (flat_map-append encode_utf8 (replicate a sign) (replicate b sign))
-    ∙ ap (λ z. flat_map encode_utf8 z) (replicate-append-replicate a b sign)
-
-one_more : (old new more : List ℕ) (sign whole : ℕ) (any next : Bool) (chars rest : List ℕ) (one wide : ℕ)
-    → Under old sign whole any chars new → chars ≡ one ∷ rest → wide ≡ columns one → more ≡ new ++ signs wide sign
-    → next ≡ (any || nat_lt 0 wide) → Under old sign whole next rest more
-one_more old new more sign whole any next chars rest one wide under e w put said =
-    let done = under.0 in
-    let columns_then : sum_by columns chars ≡ wide + sum_by columns rest =
-    ap (λ z. sum_by columns z) e ∙ sum_by-cons columns one rest ∙ ap (λ z. z + sum_by columns rest) (sym w) in
-    let counted : done + sum_by columns chars ≡ whole = under.2 in (
-      done + wide,
-      said ∙ ap (λ (z : Bool). z || nat_lt 0 wide) under.1 ∙ any_more done wide,
-      omega (arith, columns_then, counted),
-      put ∙ ap (λ z. z ++ signs wide sign) under.3 ∙ append_assoc old (signs done sign) (signs wide sign)
-          ∙ ap (λ z. old ++ z) (signs_more done wide sign),
-    )
-
-either_true : (a b : Bool) → a ≡ true → a ≡ (a || b)
-either_true a b e = subst (λ (z : Bool). z ≡ (z || b)) (sym e) refl
-
-either_false : (a b : Bool) → a ≡ false → b ≡ (a || b)
-either_false a b e = subst (λ (z : Bool). b ≡ (z || b)) (sym e) refl
-
-pub with_any : (old new more : List ℕ) (sign whole : ℕ) (any : Bool) (chars rest : List ℕ) (one wide : ℕ)
-    → Under old sign whole any chars new → chars ≡ one ∷ rest → wide ≡ columns one → more ≡ new ++ signs wide sign
-    → any ≡ true → Under old sign whole any rest more
-with_any old new more sign whole any chars rest one wide under e w put is =
-    one_more old new more sign whole any any chars rest one wide under e w put (either_true any (nat_lt 0 wide) is)
-
-pub with_none : (old new more : List ℕ) (sign whole : ℕ) (any : Bool) (chars rest : List ℕ) (one wide : ℕ)
-    → Under old sign whole any chars new → chars ≡ one ∷ rest → wide ≡ columns one → more ≡ new ++ signs wide sign
-    → any ≡ false → Under old sign whole (nat_lt 0 wide) rest more
-with_none old new more sign whole any chars rest one wide under e w put is =
-    one_more old new more sign whole any (nat_lt 0 wide) chars rest one wide under e w put
-    (either_false any (nat_lt 0 wide) is)
+-- behind one that takes none it takes as many
+pub no_columns : (whole : ℕ) (chars rest : List ℕ) (one wide : ℕ) → sum_by columns chars ≡ whole → chars ≡ one ∷ rest
+    → wide ≡ columns one → wide ≤ 0 → sum_by columns rest ≡ whole
+no_columns whole chars rest one wide sum e w none =
+    let counted : sum_by columns chars ≡ columns one + sum_by columns rest =
+    ap (λ z. sum_by columns z) e ∙ sum_by-cons columns one rest in
+    omega (arith, sum, counted, w, none)
 
 -- ---- texts in turn
 
@@ -90,33 +56,33 @@ marks_more [] row = append-nil row
 marks_more (one ∷ rows) row = ap (λ z. one ++ z) (marks_more rows row) ∙ sym (append_assoc one (marks_in rows) row)
 
 -- a row behind others
-rows_more : (text : List ℕ) (wide : ℕ) (rows : List (List Mark)) (told : List ℕ) (row later : List Mark) (more : List ℕ)
-    → AreRows text wide rows (row ++ later) told → IsRow text wide row later more
-    → AreRows text wide (rows ++ row ∷ []) later (told ++ more)
-rows_more text wide [] told row later more none is =
+rows_more : (text : List ℕ) (keeps : Bool) (wide : ℕ) (rows : List (List Mark)) (told : List ℕ) (row later : List Mark) (more : List ℕ)
+    → AreRows text keeps wide rows (row ++ later) told → IsRow text keeps wide row later more
+    → AreRows text keeps wide (rows ++ row ∷ []) later (told ++ more)
+rows_more text keeps wide [] told row later more none is =
     (more, [], ap (λ z. z ++ more) none ∙ sym (append-nil more), is, refl)
-rows_more text wide (one ∷ rows) told row later more all is = (
+rows_more text keeps wide (one ∷ rows) told row later more all is = (
   all.0,
   all.1 ++ more,
   ap (λ z. z ++ more) all.2 ∙ append_assoc all.0 all.1 more,
-  subst (λ z. IsRow text wide one z all.0)
+  subst (λ z. IsRow text keeps wide one z all.0)
       (sym (append_assoc (marks_in rows) row later) ∙ ap (λ z. z ++ later) (sym (marks_more rows row))) all.3,
-  rows_more text wide rows all.1 row later more all.4 is,
+  rows_more text keeps wide rows all.1 row later more all.4 is,
 )
 
 -- the first n marks are shown
-abbrev pub Shown : List ℕ → ℕ → List Mark → ℕ → List ℕ → List ℕ → Type 0
-Shown text wide marks n old new =
+abbrev pub Shown : List ℕ → Bool → ℕ → List Mark → ℕ → List ℕ → List ℕ → Type 0
+Shown text keeps wide marks n old new =
     (all : List (List Mark)) × (told : List ℕ) × (n ≤ length marks) × (marks_in all ++ drop n marks ≡ marks)
-    × AreRows text wide all (drop n marks) told × (new ≡ old ++ told)
+    × AreRows text keeps wide all (drop n marks) told × (new ≡ old ++ told)
 
-pub none_shown : (text : List ℕ) (wide : ℕ) (marks : List Mark) (old : List ℕ) → Shown text wide marks 0 old old
-none_shown text wide marks old = ([], [], omega arith, refl, refl, sym (append-nil old))
+pub none_shown : (text : List ℕ) (keeps : Bool) (wide : ℕ) (marks : List Mark) (old : List ℕ) → Shown text keeps wide marks 0 old old
+none_shown text keeps wide marks old = ([], [], omega arith, refl, refl, sym (append-nil old))
 
-pub more_shown : (text : List ℕ) (wide : ℕ) (marks rest : List Mark) (n count : ℕ) (old new more : List ℕ)
-    → Shown text wide marks n old new → rest ≡ drop n marks → count ≤ length rest
-    → AddsRow text wide (take count rest) (drop count rest) new more → Shown text wide marks (n + count) old more
-more_shown text wide marks rest n count old new more shown is fits row =
+pub more_shown : (text : List ℕ) (keeps : Bool) (wide : ℕ) (marks rest : List Mark) (n count : ℕ) (old new more : List ℕ)
+    → Shown text keeps wide marks n old new → rest ≡ drop n marks → count ≤ length rest
+    → AddsRow text keeps wide (take count rest) (drop count rest) new more → Shown text keeps wide marks (n + count) old more
+more_shown text keeps wide marks rest n count old new more shown is fits row =
     let front = marks_in shown.0 in
     let next = take count rest in
     let behind : drop (n + count) marks ≡ drop count rest =
@@ -130,20 +96,20 @@ more_shown text wide marks rest n count old new more shown is fits row =
       omega (arith, fits, long, within),
       ap (λ z. z ++ drop (n + count) marks) (marks_more shown.0 next) ∙ append_assoc front next (drop (n + count) marks)
           ∙ ap (λ z. front ++ (next ++ z)) behind ∙ ap (λ z. front ++ z) (take-append-drop count rest ∙ is) ∙ shown.3,
-      rows_more text wide shown.0 shown.1 next (drop (n + count) marks) row.0
-          (subst (λ z. AreRows text wide shown.0 z shown.1) split shown.4)
-          (subst (λ z. IsRow text wide next z row.0) (sym behind) row.1),
+      rows_more text keeps wide shown.0 shown.1 next (drop (n + count) marks) row.0
+          (subst (λ z. AreRows text keeps wide shown.0 z shown.1) split shown.4)
+          (subst (λ z. IsRow text keeps wide next z row.0) (sym behind) row.1),
       row.2 ∙ ap (λ z. z ++ row.0) shown.5 ∙ append_assoc old shown.1 row.0,
     )
 
-pub all_shown : (text : List ℕ) (wide : ℕ) (marks : List Mark) (n : ℕ) (old new : List ℕ) → length marks ≤ n
-    → Shown text wide marks n old new
-    → (all : List (List Mark)) × (told : List ℕ) × (marks_in all ≡ marks) × AreRows text wide all [] told
+pub all_shown : (text : List ℕ) (keeps : Bool) (wide : ℕ) (marks : List Mark) (n : ℕ) (old new : List ℕ) → length marks ≤ n
+    → Shown text keeps wide marks n old new
+    → (all : List (List Mark)) × (told : List ℕ) × (marks_in all ≡ marks) × AreRows text keeps wide all [] told
     × (new ≡ old ++ told)
-all_shown text wide marks n old new end shown = (
+all_shown text keeps wide marks n old new end shown = (
   shown.0,
   shown.1,
   sym (append-nil (marks_in shown.0)) ∙ ap (λ z. marks_in shown.0 ++ z) (sym (drop_all n marks end)) ∙ shown.3,
-  subst (λ z. AreRows text wide shown.0 z shown.1) (drop_all n marks end) shown.4,
+  subst (λ z. AreRows text keeps wide shown.0 z shown.1) (drop_all n marks end) shown.4,
   shown.5,
 )

@@ -19,8 +19,8 @@ is_from least most c = nat_le least c && nat_le c most
 -- writing, the ends of lines and paragraphs, and what is not seen at all
 abbrev pub acts : ℕ → Bool
 acts c =
-    is_from 0x80 0x9F c || is_from 0x200B 0x200F c || is_from 0x2028 0x202E c || is_from 0x2060 0x2069 c
-    || (c == 0xFEFF)
+    is_from 0x80 0x9F c || (c == 0x61C) || is_from 0x200B 0x200F c || is_from 0x2028 0x202E c
+    || is_from 0x2060 0x2069 c || (c == 0xFEFF)
 
 -- a character as it is shown: a tab as itself, a control character as the sign that stands for it
 abbrev pub shown : ℕ → ℕ
@@ -45,3 +45,10 @@ blanks_under cs = flat_map under cs
 -- so many of a sign, in bytes
 abbrev pub signs : ℕ → ℕ → List ℕ
 signs n sign = flat_map encode_utf8 (replicate n sign)
+
+-- what stands under a marked character: a tab under a tab, else a sign for each of its columns
+abbrev pub sign_under : ℕ → ℕ → List ℕ
+sign_under sign c = if c == tab then tab ∷ [] else signs (columns c) sign
+
+abbrev pub signs_under : ℕ → List ℕ → List ℕ
+signs_under sign cs = flat_map (sign_under sign) cs

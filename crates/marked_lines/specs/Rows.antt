@@ -2,7 +2,7 @@
 use Rattle.std.specs.Prelude.{◌≡◌, ◌≢◌, ◌⊎◌, ℕ, ◌+◌, ◌-◌, ◌<◌, ◌≤◌, Bool, false, true, ◌&&◌, nat_le, nat_lt, if◌then◌else◌, List, [], ◌∷◌, ◌++◌, length, max, min, sum_by, replicate, flat_map, slice_index, slice_range, codes, decimal, encode_utf8}
 use Rattle.bstr.specs.Utf8.{lossy_chars}
 use Rattle.source_places.specs.Places.{BeginsLine, ends_before, line_end, within}
-use Rattle.marked_lines.specs.Marks.{blank, blanks_under, columns, shown, signs}
+use Rattle.marked_lines.specs.Marks.{blank, blanks_under, columns, shown, signs_under}
 use Rattle.marked_lines.specs.declared.marks.Mark.{Mark}
 use Rattle.marked_lines.specs.declared.part.Part.{Part}
 
@@ -34,9 +34,14 @@ gutter number wide = codes "  " ++ replicate (wide - length number) blank ++ num
 abbrev pub columns_of : List ℕ → ℕ
 columns_of bytes = sum_by columns (lossy_chars bytes)
 
--- a sign under each column of what is marked, and one where it takes none
+-- a sign in front where what is marked takes no column
+abbrev pub sign_in_front : Bool → ℕ → List ℕ
+sign_in_front takes sign = if takes then [] else encode_utf8 sign
+
+-- a sign under each column of what is marked, and one where it takes none; a tab under each tab
 abbrev pub mark_signs : List ℕ → ℕ → List ℕ
-mark_signs bytes sign = signs (max 1 (columns_of bytes)) sign
+mark_signs bytes sign =
+    sign_in_front (nat_lt 0 (columns_of bytes)) sign ++ signs_under sign (lossy_chars bytes)
 
 -- the signs of marks, the first behind the byte at `behind`: each begins under the first character that it marks, and
 -- has a sign under each column up to its end, or that of the part. A mark of no bytes has one sign or more, up to where
@@ -78,17 +83,21 @@ note_rows text part wide (mark ∷ next ∷ marks) =
 abbrev pub IsEnd : List ℕ → ℕ → Type 0
 IsEnd text end = (end ≡ length text) ⊎ (slice_index text end ≡ line_end)
 
--- so does what is shown of a line, without a byte 13 that ends it
-abbrev pub EndsShown : List ℕ → ℕ → Type 0
-EndsShown text end = IsEnd text end ⊎ ((slice_index text end ≡ 13) × IsEnd text (end + 1))
+-- what is shown of a line that begins at `start` ends there: where the line ends, or before a byte 13 at its end, which
+-- is shown where it is kept
+abbrev pub EndsShown : List ℕ → Bool → ℕ → ℕ → Type 0
+EndsShown text true start end = IsEnd text end
+EndsShown text false start end =
+    (IsEnd text end × (start < end → slice_index text (end - 1) ≢ 13))
+    ⊎ ((slice_index text end ≡ 13) × IsEnd text (end + 1))
 
 -- so many bytes are shown at least of a line of which some behind them are cut off
 abbrev pub least_shown : ℕ
 least_shown = 160
 
 -- the part is one of the line of the byte at the offset, and all of it where nothing is cut off. A byte 13 at its end
--- belongs to it where `keeps_return` is set
-pub record IsPartAt (text : List ℕ) (offset : ℕ) (part : Part) : Type 0 where
+-- belongs to it where it is kept
+pub record IsPartAt (text : List ℕ) (keeps : Bool) (offset : ℕ) (part : Part) : Type 0 where
   pub line : part.line ≡ ends_before text (within text offset) + 1
   pub start : ℕ
   pub begins : BeginsLine text (within text offset) start
@@ -96,7 +105,9 @@ pub record IsPartAt (text : List ℕ) (offset : ℕ) (part : Part) : Type 0 wher
   pub whole : part.is_cut_before ≡ false → part.from ≡ start
   pub inside : (k : ℕ) → part.from ≤ k → k < part.to → k < length text → slice_index text k ≢ line_end
   -- it goes up to the end of the line, or is long and has the byte in it
-  pub all : part.is_cut_behind ≡ false → EndsShown text part.to
+  pub cut_before : part.is_cut_before ≡ true → start < part.from
+  pub all : part.is_cut_behind ≡ false → EndsShown text keeps start part.to
+  pub cut_behind : part.is_cut_behind ≡ true → (part.to < length text) × (slice_index text part.to ≢ line_end)
   pub long : part.is_cut_behind ≡ true → part.from + least_shown ≤ part.to
   pub ahead : part.from ≤ within text offset
   pub reached : part.is_cut_behind ≡ true → within text offset ≤ part.to
@@ -122,15 +133,16 @@ ShareRow part before (mark ∷ marks) later = (goes_on part before mark ≡ true
 
 -- A row shows a part of the line of its first mark, and under it the marks: as many as can share the row, where these
 -- come later.
-abbrev pub IsRow : List ℕ → ℕ → List Mark → List Mark → List ℕ → Type 0
-IsRow text wide [] later told = ⊥
-IsRow text wide (mark ∷ marks) later told =
-    (part : Part) × (signs : List ℕ) × IsPartAt text mark.start part × ShareRow part mark marks later
+abbrev pub IsRow : List ℕ → Bool → ℕ → List Mark → List Mark → List ℕ → Type 0
+IsRow text keeps wide [] later told = ⊥
+IsRow text keeps wide (mark ∷ marks) later told =
+    (part : Part) × (signs : List ℕ) × IsPartAt text keeps mark.start part × ShareRow part mark marks later
     × IsSigns text part part.from (mark ∷ marks) signs × (told ≡ row_text text wide part signs (mark ∷ marks))
 
 -- one more row is there
-abbrev pub AddsRow : List ℕ → ℕ → List Mark → List Mark → List ℕ → List ℕ → Type 0
-AddsRow text wide row later old new = (told : List ℕ) × IsRow text wide row later told × (new ≡ old ++ told)
+abbrev pub AddsRow : List ℕ → Bool → ℕ → List Mark → List Mark → List ℕ → List ℕ → Type 0
+AddsRow text keeps wide row later old new =
+    (told : List ℕ) × IsRow text keeps wide row later told × (new ≡ old ++ told)
 
 -- the marks of all rows
 abbrev pub marks_in : List (List Mark) → List Mark
@@ -138,13 +150,13 @@ marks_in [] = []
 marks_in (row ∷ rows) = row ++ marks_in rows
 
 -- rows, where these marks come later
-abbrev pub AreRows : List ℕ → ℕ → List (List Mark) → List Mark → List ℕ → Type 0
-AreRows text wide [] later told = told ≡ []
-AreRows text wide (row ∷ rows) later told =
-    (first : List ℕ) × (rest : List ℕ) × (told ≡ first ++ rest) × IsRow text wide row (marks_in rows ++ later) first
-    × AreRows text wide rows later rest
+abbrev pub AreRows : List ℕ → Bool → ℕ → List (List Mark) → List Mark → List ℕ → Type 0
+AreRows text keeps wide [] later told = told ≡ []
+AreRows text keeps wide (row ∷ rows) later told =
+    (first : List ℕ) × (rest : List ℕ) × (told ≡ first ++ rest)
+    × IsRow text keeps wide row (marks_in rows ++ later) first × AreRows text keeps wide rows later rest
 
--- rows, each with some of the marks, all of them in turn
-abbrev pub AreMarked : List ℕ → List Mark → List ℕ → Type 0
-AreMarked text marks told =
-    (wide : ℕ) × (rows : List (List Mark)) × (marks_in rows ≡ marks) × AreRows text wide rows [] told
+-- rows, each with some of the marks, all of them in turn; a byte 13 at the end of a line is shown where it is kept
+abbrev pub AreMarked : List ℕ → Bool → List Mark → List ℕ → Type 0
+AreMarked text keeps marks told =
+    (wide : ℕ) × (rows : List (List Mark)) × (marks_in rows ≡ marks) × AreRows text keeps wide rows [] told

@@ -218,7 +218,7 @@ fn add_next(
     columns: usize,
 ) -> Result<usize, AllocError>
     requires { 0 < length marks.now }
-    ensures { IfOk result (λ count. (0 < count) × (count ≤ length marks.now) × rows.AddsRow text.now columns
+    ensures { IfOk result (λ count. (0 < count) × (count ≤ length marks.now) × rows.AddsRow text.now keeps_return columns
         (take count marks.now) (drop count marks.now) (string_bytes out.old) (string_bytes out.new)) }
 {
     let Some((first, behind)) = marks.split_first() else {
@@ -241,7 +241,7 @@ fn add_rows(
     columns: usize,
 ) -> Result<(), AllocError>
     ensures { IfOk result (λ _. (all : List (List Mark)) × (told : List ℕ) × (rows.marks_in all ≡ marks.now)
-        × rows.AreRows text.now columns all [] told × (string_bytes out.new ≡ string_bytes out.old ++ told)) }
+        × rows.AreRows text.now keeps_return columns all [] told × (string_bytes out.new ≡ string_bytes out.old ++ told)) }
 {
     let mut shown = 0;
     'shown: while shown < marks.len() {
@@ -260,7 +260,7 @@ pub fn add_marked(
     marks: &[Mark<'_>],
     keeps_return: bool,
 ) -> Result<(), AllocError>
-    ensures { IfOk result (λ _. (told : List ℕ) × rows.AreMarked text.now marks.now told
+    ensures { IfOk result (λ _. (told : List ℕ) × rows.AreMarked text.now keeps_return marks.now told
         × (string_bytes out.new ≡ string_bytes out.old ++ told)) }
 {
     let columns = gutter_columns(alloc, text, marks)?;

@@ -2,7 +2,7 @@
 ghost use Rattle.std.specs.Prelude.{◌≡◌, ◌≢◌, ◌++◌, ◌+◌, ◌-◌, ◌<◌, ◌≤◌, ℕ, IfOk, length, min, nat_lt, slice_index, string_bytes};
 ghost use Rattle.bstr.specs.Utf8.{lossy_chars};
 ghost use Rattle.source_places.specs.Places.{line_end, within};
-ghost use Rattle.marked_lines.specs.Marks.{blanks_under, signs, under};
+ghost use Rattle.marked_lines.specs.Marks.{blanks_under, sign_under, signs_under, under};
 ghost use Rattle.marked_lines.specs.Rows.{EndsShown, IsPartAt, between, columns_of, cut_off, least_shown, mark_signs, part_text, shown_text, under_cut};
 
 use crate::shown::{add_blanks, add_signs, columns, shown};
@@ -46,7 +46,7 @@ fn shown_end(text: &[u8], start: usize, keeps_return: bool) -> usize
     ensures within { result ≤ length text.now }
     ensures behind { within text.now start ≤ result }
     ensures inside { (k : ℕ) → within text.now start ≤ k → k < result → slice_index text.now k ≢ line_end }
-    ensures end { EndsShown text.now result }
+    ensures end { EndsShown text.now keeps_return start result }
 {
     let end = end_of_line(text, start);
     if keeps_return || end <= start || text.get(end - 1) != Some(&b'\r') {
@@ -87,7 +87,7 @@ fn part_stop(text: &[u8], from: usize, end: usize) -> usize
 
 /// The part of a line around the byte at `offset`.
 pub fn part_around(text: &[u8], offset: usize, keeps_return: bool) -> Part
-    ensures { IsPartAt text.now offset result }
+    ensures { IsPartAt text.now keeps_return offset result }
 {
     let place = place_of(text, offset);
     let start = place.start;
@@ -174,27 +174,49 @@ fn add_under_one(out: &mut String, character: char) -> Result<(), AllocError>
     add_blanks(out, columns(character))
 }
 
-/// Adds a sign under each column of some characters, at least one.
+/// Adds what stands under characters that are marked: a tab under a tab, else a sign under each column; one sign in front
+/// where they take none.
 pub fn add_marks(out: &mut String, bytes: &[u8], sign: char) -> Result<(), AllocError>
     ensures { IfOk result (λ _. string_bytes out.new ≡ string_bytes out.old ++ mark_signs bytes.now sign) }
 {
-    if add_signs_under(out, bytes, sign)? {
-        return Ok(());
+    if !takes_columns(bytes) {
+        out.push(sign)?;
     }
-    out.push(sign)
+    add_signs_under(out, bytes, sign)
 }
 
-/// Adds a sign under each column of some characters. Whether they take any.
-fn add_signs_under(out: &mut String, bytes: &[u8], sign: char) -> Result<bool, AllocError>
-    ensures { IfOk result (λ is_any. (is_any ≡ nat_lt 0 (columns_of bytes.now))
-        × (string_bytes out.new ≡ string_bytes out.old ++ signs (columns_of bytes.now) sign)) }
+/// Whether some characters take a column.
+#[tactic(auto, using(crate::proofs::Rowed::some_columns, crate::proofs::Rowed::no_columns))]
+fn takes_columns(bytes: &[u8]) -> bool
+    ensures { result ≡ nat_lt 0 (columns_of bytes.now) }
 {
-    let mut is_any = false;
     let mut chars = bytes.chars();
     'chars: while let Some(character) = chars.next() {
-        let width = columns(character);
-        add_signs(out, sign, width)?;
-        is_any = is_any || width > 0;
+        if columns(character) > 0 {
+            return true;
+        }
     }
-    Ok(is_any)
+    false
+}
+
+/// Adds a tab under each tab of some characters, and a sign under each other column.
+fn add_signs_under(out: &mut String, bytes: &[u8], sign: char) -> Result<(), AllocError>
+    ensures { IfOk result (λ _. string_bytes out.new
+        ≡ string_bytes out.old ++ signs_under sign (lossy_chars bytes.now)) }
+{
+    let mut chars = bytes.chars();
+    'chars: while let Some(character) = chars.next() {
+        add_sign_under(out, character, sign)?;
+    }
+    Ok(())
+}
+
+/// Adds what stands under a character that is marked.
+fn add_sign_under(out: &mut String, character: char, sign: char) -> Result<(), AllocError>
+    ensures { IfOk result (λ _. string_bytes out.new ≡ string_bytes out.old ++ sign_under sign character) }
+{
+    if character != '\t' {
+        return add_signs(out, sign, columns(character));
+    }
+    out.push('\t')
 }

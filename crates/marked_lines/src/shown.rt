@@ -27,7 +27,7 @@ pub fn shown(character: char) -> char
 fn acts(code: u32) -> bool
     ensures { result ≡ marks.acts code }
 {
-    matches!(code, 0x80..=0x9F | 0x200B..=0x200F | 0x2028..=0x202E | 0x2060..=0x2069 | 0xFEFF)
+    matches!(code, 0x80..=0x9F | 0x61C | 0x200B..=0x200F | 0x2028..=0x202E | 0x2060..=0x2069 | 0xFEFF)
 }
 
 /// How many columns it takes. A tab counts as none.

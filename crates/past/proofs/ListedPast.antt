@@ -122,7 +122,7 @@ pub listed : (low next : ℕ) (all : Bool) (l : Live) (t : ℕ) (marks : List Bo
 listed low next all l t marks past r marked live lists = record {
   live = live;
   tickets = subst (λ (ts : List ℕ). ListsTickets all l t ts) (sym lists.tickets) (tickets-listed low next all l t marks r marked);
-  direct = lists.direct;
+  nearest = lists.nearest;
   left_out = (
     told_tickets true t l marks,
     tickets-listed low next true l t marks r marked,
@@ -137,7 +137,7 @@ listed low next all l t marks past r marked live lists = record {
 pub record Passed (all : Bool) (l : Live) (t : ℕ) (marks : List Bool) (i : ℕ) (left : Live) (events : List PastEvent) (n : ℕ) : Type 0 where
   pub counted : i + length left ≡ length l
   pub tickets : tickets_of events ++ told_tickets all t left (drop i marks) ≡ told_tickets all t l marks
-  pub direct : Every (λ p. ListsLeads l p.ticket p.follows) events
+  pub nearest : Every (λ p. ListsLeads l p.ticket p.follows) events
   pub left_out : n + untold all t left (drop i marks) ≡ untold all t l marks
   pub few : n ≤ i
 
@@ -183,7 +183,7 @@ passed-told all l t marks i left rest x events one n p is at told ticket leads =
           ∙ ap (λ (u : ℕ). tickets_of events ++ u ∷ others) ticket
           ∙ ap (λ (ts : List ℕ). tickets_of events ++ ts) (sym shown)
           ∙ p.tickets;
-      direct = every-more (λ (q : PastEvent). ListsLeads l q.ticket q.follows) events one p.direct
+      nearest = every-more (λ (q : PastEvent). ListsLeads l q.ticket q.follows) events one p.nearest
           (subst (λ (u : ℕ). ListsLeads l u one.follows) (sym ticket) leads);
       left_out = ap (λ (u : ℕ). n + u) (sym hidden) ∙ p.left_out;
       few = omega arith;
@@ -207,7 +207,7 @@ passed-untold all l t marks i left rest x events n p is at told =
     record {
       counted = omega arith;
       tickets = ap (λ (ts : List ℕ). tickets_of events ++ ts) (sym shown) ∙ p.tickets;
-      direct = p.direct;
+      nearest = p.nearest;
       left_out = omega arith;
       few = omega arith;
     }
@@ -222,7 +222,7 @@ passed-unmarked all l t marks i left rest x events n p is at =
     record {
       counted = omega arith;
       tickets = ap (λ (ts : List ℕ). tickets_of events ++ ts) (sym (told-next all t left rest x marks i false is at)) ∙ p.tickets;
-      direct = p.direct;
+      nearest = p.nearest;
       left_out = ap (λ (u : ℕ). n + u) (sym (untold-next all t left rest x marks i false is at)) ∙ p.left_out;
       few = omega arith;
     }
@@ -237,6 +237,6 @@ passed-all all l t marks i left events n p none =
     subst (λ (k : Live). n + untold all t k (drop i marks) ≡ untold all t l marks) none p.left_out in
     record {
       tickets = sym (append-nil (tickets_of events)) ∙ shown;
-      direct = p.direct;
+      nearest = p.nearest;
       left_out = omega arith;
     }

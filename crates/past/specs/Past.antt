@@ -34,10 +34,10 @@ LeavesOut l t tickets count = (whole : List ℕ) × ListsTickets true l t whole 
 abbrev pub tickets_of : List PastEvent → List ℕ
 tickets_of events = map (λ p. p.ticket) events
 
--- exactly the told events in the past of the live one of ticket t, in order of tickets, each with the tickets of those
--- that it follows, and how many are left out
+-- exactly the told events in the past of the live one of ticket t, in order of tickets, each with the tickets of its
+-- nearest causes, told or not: those that it follows, with no live event between. How many are left out
 pub record ListsPast (all : Bool) (l : Live) (t : ℕ) (past : Past) : Type 0 where
   pub live : IsLive l t
   pub tickets : ListsTickets all l t (tickets_of past.events)
-  pub direct : Every (λ p. ListsLeads l p.ticket p.follows) past.events
+  pub nearest : Every (λ p. ListsLeads l p.ticket p.follows) past.events
   pub left_out : LeavesOut l t (tickets_of past.events) past.left_out

@@ -9,9 +9,11 @@ use Rattle.picture_drawing.specs.Asked.{IsMissing, IsThere}
 use Rattle.picture_text.specs.declared.data.Names.{Names}
 use Rattle.json_text.specs.Strings.{IsPlain}
 use Rattle.picture_data.specs.Shown.{Shows}
+use Rattle.typed.specs.declared.tree.Procedure.{Procedure}
+use Rattle.typed_source.specs.Source.{IsTyped}
 use Rattle.picture_data.specs.declared.picture.Picture.{Picture}
 use Rattle.picture_text.specs.PageText.{page_text}
-use Rattle.picture.specs.Pictures.{AreData, IsPage, IsPictureBehind, IsPictureOf, IsPictured, IsShown, asked_event, data_text}
+use Rattle.picture.specs.Pictures.{AreData, IsPage, IsPictureBehind, IsPictureOf, IsPictured, IsShown, ShowsRun, asked_event, data_text}
 use Rattle.picture.specs.declared.Drawing.{Drawing}
 use Rattle.picture.specs.declared.Pictured.{Pictured}
 use Rattle.trace_file.specs.declared.fault.Fault.{Fault}
@@ -54,7 +56,7 @@ sheet m source names event quiet (Err error) h = tt
 
 -- the data of a picture that shows the machine
 pub are-data : {E : Type 0} (m : AtMachine) (source : List ℕ) (names : Names) (picture : Picture) (result : Result (Vec ℕ Global) E) →
-    Shows m picture → IfOk result (λ text. text.items ≡ data_text m picture source names) → IfOk result (λ text. All IsPlain text.items) →
+    ShowsRun m source picture → IfOk result (λ text. text.items ≡ data_text m picture source names) → IfOk result (λ text. All IsPlain text.items) →
     IfOk result (λ text. AreData m source names text.items)
 are-data m source names picture (Ok text) shows is plain = record { picture = picture; shows = shows; is_text = is; plain = plain }
 are-data m source names picture (Err error) shows is plain = tt
@@ -64,3 +66,10 @@ pub is-page : {E : Type 0} (m : AtMachine) (source : List ℕ) (names : Names) (
     AreData m source names json → IfOk result (λ made. made.items ≡ page_text bytes) → IfOk result (λ text. IsPage m source names text.items)
 is-page m source names bytes json (Ok made) same are is = (json, are, is ∙ ap page_text same)
 is-page m source names bytes json (Err error) same are is = tt
+
+-- what is drawn of these procedures
+pub shows-run : {E : Type 0} (m : AtMachine) (source : List ℕ) (given procedures : List Procedure) (result : Result Picture E) → given ≡ procedures →
+    IsTyped source procedures → IfOk result (Shows m given) → IfOk result (ShowsRun m source)
+shows-run m source given procedures (Ok picture) same are shows =
+    (procedures, are, subst (λ (ps : List Procedure). Shows m ps picture) same shows)
+shows-run m source given procedures (Err error) same are shows = tt

@@ -4,6 +4,8 @@ use Rattle.std.specs.List.{All}
 use Rattle.system.specs.declared.system.System.{System}
 use Rattle.runs.specs.Live.{Live}
 use Rattle.runs.specs.declared.event.Event.{Event}
+use Rattle.typed.specs.declared.tree.Procedure.{Procedure}
+use Rattle.typed_source.specs.Source.{IsTyped}
 use Rattle.machine.specs.AtMachine.{AtMachine}
 use Rattle.json_text.specs.Strings.{IsPlain}
 use Rattle.trace_file.specs.Loading.{IsLoaded, ticketed}
@@ -27,10 +29,14 @@ abbrev pub data_text : AtMachine → Picture → List ℕ → Names → List ℕ
 data_text m p source names =
     model.data_text m.checked m.live p source names.file.now names.stimulus.now names.trace.now
 
+-- the picture shows the machine, drawn on what there is in the source
+abbrev pub ShowsRun : AtMachine → List ℕ → Picture → Type 0
+ShowsRun m source picture = (procedures : List Procedure) × IsTyped source procedures × Shows m procedures picture
+
 -- the data of a picture that shows the machine, and no byte of them ends the script that they stand in
 pub record AreData (m : AtMachine) (source : List ℕ) (names : Names) (text : List ℕ) : Type 0 where
   pub picture : Picture
-  pub shows : Shows m picture
+  pub shows : ShowsRun m source picture
   pub is_text : text ≡ data_text m picture source names
   pub plain : All IsPlain text
 

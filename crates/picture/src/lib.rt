@@ -3,8 +3,7 @@
 
 ghost use Rattle.std.specs.Prelude.{◌≡◌, IfOk, MatchResult};
 ghost use Rattle.trace_file.specs.Loading.{IsRefused, after_writing};
-ghost use Rattle.picture_data.specs.Shown.{Shows};
-ghost use Rattle.picture.specs.Pictures.{AreData, IsPage, IsPictureBehind, IsPictureOf, IsPictured, IsShown};
+ghost use Rattle.picture.specs.Pictures.{AreData, IsPage, IsPictureBehind, IsPictureOf, IsPictured, IsShown, ShowsRun};
 
 use devices::{CountedWrite, write_out};
 use machine::Machine;
@@ -168,7 +167,7 @@ fn page_of(
     source: &[u8],
     names: Names<'_>,
 ) -> Result<Vec<u8>, AllocError>
-    requires { Shows machine.now picture.now }
+    requires { ShowsRun machine.now source.now picture.now }
     ensures { IfOk result (λ text. IsPage machine.now source.now names.entry text.items) }
 {
     let json = data_of(alloc, machine, picture, source, names)?;
@@ -183,19 +182,18 @@ fn data_of(
     source: &[u8],
     names: Names<'_>,
 ) -> Result<Vec<u8>, AllocError>
-    requires { Shows machine.now picture.now }
+    requires { ShowsRun machine.now source.now picture.now }
     ensures { IfOk result (λ text. AreData machine.now source.now names.entry text.items) }
 {
     data_text(alloc, machine, picture, source, names)
 }
 
-/// The picture of the run as data. Where the source is not one that is accepted, which it was, it has no blocks.
+/// The picture of the run as data. Where the source is not one that is accepted, which it was, it is an error too.
 fn taken(alloc: Global, machine: &Machine, source: &[u8]) -> Result<Picture, AllocError>
-    ensures { IfOk result (Shows machine.now) }
+    ensures { IfOk result (ShowsRun machine.now source.now) }
 {
     match typed_source(alloc, source) {
         Ok(typed) => picture_of(alloc, machine, typed.procedures()),
-        Err(typed_source::Fault::Memory) => Err(AllocError),
-        Err(_) => picture_of(alloc, machine, &[]),
+        Err(_) => Err(AllocError),
     }
 }

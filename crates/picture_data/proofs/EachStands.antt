@@ -1,12 +1,12 @@
 -- Where events stand, one behind another.
-use Rattle.std.proofs.Common.{◌≡◌, ◌∙◌, ℕ, suc, ◌+◌, ◌<◌, List, [], ◌∷◌, ◌++◌, length, get_or, take, Some, add-one, refl, sym, ap, subst, arith}
+use Rattle.std.proofs.Common.{◌≡◌, ◌∙◌, ℕ, ◌+◌, ◌<◌, List, [], ◌∷◌, ◌++◌, length, get_or, take, Some, add-one, refl, sym, ap, subst, arith}
 use Rattle.std.specs.Prelude.{slice_get}
 use Rattle.std.proofs.lemmas.Option.{slice_get-get_or}
 use Rattle.runs.specs.Live.{Live, events}
 use Rattle.runs.specs.declared.event.Event.{Event}
 use Rattle.dependence.proofs.public.ListPlaces.{take-all, take-next}
 use Rattle.machine.specs.AtMachine.{AtMachine}
-use Rattle.picture_data.specs.declared.lane.Lane.{Lane}
+use Rattle.picture_lanes.specs.declared.lane.Lane.{Lane}
 use Rattle.picture_data.specs.declared.actions.Actions.{Actions}
 use Rattle.picture_data.specs.Shown.{EachStandsIn, StandsIn}
 
@@ -46,8 +46,7 @@ next-live-stands m lanes l i x ss new s at each one is =
     (one-more-stands m lanes (events (take i l)) x.1 ss s each one))
 
 -- once none is left all stand there
-pub all-stand : (m : AtMachine) (lanes : List Lane) (k l : Live) (i : ℕ) (ss : List Actions) → k ≡ l → i ≡ length k →
-    EachStandsIn m lanes (events (take i k)) ss → EachStandsIn m lanes (events l) ss
-all-stand m lanes k l i ss same all each =
-    let whole : take i k ≡ l = take-all k i (omega (arith, all)) ∙ same in
-    subst (λ (xs : Live). EachStandsIn m lanes (events xs) ss) whole each
+pub all-stand : (m : AtMachine) (lanes : List Lane) (l : Live) (i : ℕ) (ss : List Actions) → i ≡ length l →
+    EachStandsIn m lanes (events (take i l)) ss → EachStandsIn m lanes (events l) ss
+all-stand m lanes l i ss all each =
+    let whole : take i l ≡ l = take-all l i (omega (arith, all)) in subst (λ (xs : Live). EachStandsIn m lanes (events xs) ss) whole each

@@ -1,3 +1,4 @@
 mod EachStands
 mod SpotLaws
 mod WaitLaws
+mod Whole

@@ -1,6 +1,6 @@
 -- Places, one behind another, and rings of them.
 use Rattle.std.proofs.Common.{◌≡◌, ◌⊎◌, inl, inr, ℕ, zero, suc, ◌+◌, ◌-◌, ◌<◌, ◌≤◌, List, [], ◌∷◌, ◌++◌, length, get_or, take, map, append_assoc, Bool, true, false, cond, Option, Some, None, refl, sym, ◌∙◌, ap, subst, arith, length-append}
-use Rattle.std.specs.Prelude.{IfSome, option_map, slice_get}
+use Rattle.std.specs.Prelude.{option_map, slice_get}
 use Rattle.std.specs.List.{flat_map}
 use Rattle.std.specs.Option.{option_to_list}
 use Rattle.std.proofs.lemmas.Grind.{flat_map-append}
@@ -19,9 +19,9 @@ use Rattle.local_actions.specs.declared.action.LocalAction.{LocalAction}
 use Rattle.rings.specs.Rings.{places_at}
 use Rattle.rings.specs.declared.partner.Partner.{Partner}
 use Rattle.waiting.specs.Rings.{NamesRing}
-use Rattle.picture_data.specs.Lines.{IsLaneOf, line_of}
-use Rattle.picture_data.specs.Spots.{LiesInLane, ShowsRing, Spot, event_spots, first_role, on_channel, place_at, ready_spot, ready_spots, role_of, second_role, second_spots, spot_at, spot_of, waiting_on, waiting_with, want_of, with_side, with_sides}
-use Rattle.picture_data.specs.declared.lane.Lane.{Lane}
+use Rattle.run_depths.specs.Since.{IsSince}
+use Rattle.picture_data.specs.Spots.{Deep, ShowsRing, Spot, StandsSince, Want, event_spots, first_role, made_spot, on_channel, place_at, places_of_sides, ready_spot, ready_spots, role_of, second_role, second_spots, spot_at, spot_of, waiting_with, want_of, with_side, with_sides}
+use Rattle.picture_data.specs.Wanted.{Seen}
 use Rattle.picture_data.specs.declared.places.Place.{Place as Shown}
 use Rattle.picture_data.specs.declared.places.Role.{Role}
 use Rattle.picture_data.specs.declared.places.Wanted.{Wanted}
@@ -42,7 +42,7 @@ last-of (p ∷ ps) =
       | inr more ↦ inr (p ∷ more.0, more.1, ap (λ (k : List Shown). p ∷ k) more.2)
     ]
 
-beside-last : (m : AtMachine) (spots : List Spot) (s : Spot) (x : LocalAction) (p : Option Partner) →
+beside-last : (m : Seen) (spots : List Spot) (s : Spot) (x : LocalAction) (p : Option Partner) →
     with_side m (spots ++ s ∷ []) x p ≡ spots ++ with_side m (s ∷ []) x p
 beside-last m [] s x p = refl
 beside-last m (t ∷ []) s x p = refl
@@ -57,42 +57,42 @@ not-same a b not = sym (told-same a b false ((λ on. absurd (off on)), (λ e. ab
     off : false ≡ true → ⊥
     off e = cc
 
-stays-at : (m : AtMachine) (spots : List Spot) (s : Spot) (x : LocalAction) (p : Option Partner) → s.place ≡ x.place →
-    with_side m (spots ++ s ∷ []) x p ≡ spots ++ waiting_with s x p ∷ []
+stays-at : (m : Seen) (spots : List Spot) (s : Spot) (x : LocalAction) (p : Option Partner) → s.place ≡ x.place →
+    with_side m (spots ++ s ∷ []) x p ≡ spots ++ waiting_with m.around s x p ∷ []
 stays-at m spots s x p is =
     beside-last m spots s x p
-    ∙ ap (λ (b : Bool). spots ++ cond b (waiting_with s x p ∷ []) (s ∷ waiting_with (spot_at m x.place (role_of x.action)) x p ∷ [])) (is-same s.place x.place is)
+    ∙ ap (λ (b : Bool). spots ++ cond b (waiting_with m.around s x p ∷ []) (s ∷ waiting_with m.around (spot_at m x.place (role_of x.action)) x p ∷ [])) (is-same s.place x.place is)
 
-comes-behind : (m : AtMachine) (spots : List Spot) (s : Spot) (x : LocalAction) (p : Option Partner) → (s.place ≡ x.place → ⊥) →
-    with_side m (spots ++ s ∷ []) x p ≡ (spots ++ s ∷ []) ++ waiting_with (spot_at m x.place (role_of x.action)) x p ∷ []
+comes-behind : (m : Seen) (spots : List Spot) (s : Spot) (x : LocalAction) (p : Option Partner) → (s.place ≡ x.place → ⊥) →
+    with_side m (spots ++ s ∷ []) x p ≡ (spots ++ s ∷ []) ++ waiting_with m.around (spot_at m x.place (role_of x.action)) x p ∷ []
 comes-behind m spots s x p not =
     beside-last m spots s x p
-    ∙ ap (λ (b : Bool). spots ++ cond b (waiting_with s x p ∷ []) (s ∷ waiting_with (spot_at m x.place (role_of x.action)) x p ∷ [])) (not-same s.place x.place not)
-    ∙ sym (append_assoc spots (s ∷ []) (waiting_with (spot_at m x.place (role_of x.action)) x p ∷ []))
+    ∙ ap (λ (b : Bool). spots ++ cond b (waiting_with m.around s x p ∷ []) (s ∷ waiting_with m.around (spot_at m x.place (role_of x.action)) x p ∷ [])) (not-same s.place x.place not)
+    ∙ sym (append_assoc spots (s ∷ []) (waiting_with m.around (spot_at m x.place (role_of x.action)) x p ∷ []))
 
 map-end : (ps : List Shown) (p : Shown) → map spot_of (ps ++ p ∷ []) ≡ map spot_of ps ++ spot_of p ∷ []
 map-end ps p = map-append spot_of ps (p ∷ [])
 
-new-place : (m : AtMachine) (x : LocalAction) (partner : Option Partner) (old : List Shown) →
+new-place : (m : Seen) (x : LocalAction) (partner : Option Partner) (old : List Shown) →
     ((front : List Shown) (q : Shown) → old ≡ front ++ q ∷ [] → q.place ≡ x.place → ⊥) →
-    with_side m (map spot_of old) x partner ≡ map spot_of old ++ waiting_with (spot_at m x.place (role_of x.action)) x partner ∷ []
+    with_side m (map spot_of old) x partner ≡ map spot_of old ++ waiting_with m.around (spot_at m x.place (role_of x.action)) x partner ∷ []
 new-place m x partner old elsewhere =
     elim (last-of old) [
       | inl none ↦
-          subst (λ (ps : List Shown). with_side m (map spot_of ps) x partner ≡ map spot_of ps ++ waiting_with (spot_at m x.place (role_of x.action)) x partner ∷ [])
+          subst (λ (ps : List Shown). with_side m (map spot_of ps) x partner ≡ map spot_of ps ++ waiting_with m.around (spot_at m x.place (role_of x.action)) x partner ∷ [])
           (sym none) refl
       | inr more ↦
           let spots = map spot_of more.0 in
           let is : map spot_of old ≡ map spot_of more.0 ++ spot_of more.1 ∷ [] = ap (map spot_of) more.2 ∙ map-end more.0 more.1 in
-          subst (λ (ss : List Spot). with_side m ss x partner ≡ ss ++ waiting_with (spot_at m x.place (role_of x.action)) x partner ∷ []) (sym is)
+          subst (λ (ss : List Spot). with_side m ss x partner ≡ ss ++ waiting_with m.around (spot_at m x.place (role_of x.action)) x partner ∷ []) (sym is)
           (comes-behind m (map spot_of more.0) (spot_of more.1) x partner (elsewhere more.0 more.1 more.2))
     ]
 
-pub added-spots : (m : AtMachine) (lanes : List Lane) (x : LocalAction) (partner : Option Partner) (old rest new : List Shown) (p q : Shown) →
-    TakenFor m lanes x old rest p → spot_of q ≡ waiting_with (spot_of p) x partner → new ≡ rest ++ q ∷ [] →
+pub added-spots : (m : Seen) (deep : Deep) (x : LocalAction) (partner : Option Partner) (old rest new : List Shown) (p q : Shown) →
+    TakenFor m deep x old rest p → spot_of q ≡ waiting_with m.around (spot_of p) x partner → new ≡ rest ++ q ∷ [] →
     map spot_of new ≡ with_side m (map spot_of old) x partner
-added-spots m lanes x partner old rest new p q taken waits is =
-    let whole : map spot_of new ≡ map spot_of rest ++ waiting_with (spot_of p) x partner ∷ [] =
+added-spots m deep x partner old rest new p q taken waits is =
+    let whole : map spot_of new ≡ map spot_of rest ++ waiting_with m.around (spot_of p) x partner ∷ [] =
     ap (map spot_of) is ∙ map-end rest q ∙ ap (λ (s : Spot). map spot_of rest ++ s ∷ []) waits in
     elim taken [
       | inl last ↦
@@ -101,28 +101,28 @@ added-spots m lanes x partner old rest new p q taken waits is =
           ∙ ap (λ (ss : List Spot). with_side m ss x partner) (sym (ap (map spot_of) last.0 ∙ map-end rest p))
       | inr made ↦
           whole
-          ∙ ap (λ (s : Spot). map spot_of rest ++ waiting_with s x partner ∷ []) made.2
-          ∙ ap (λ (ps : List Shown). map spot_of ps ++ waiting_with (spot_at m x.place (role_of x.action)) x partner ∷ []) made.0
+          ∙ ap (λ (s : Spot). map spot_of rest ++ waiting_with m.around s x partner ∷ []) made.2
+          ∙ ap (λ (ps : List Shown). map spot_of ps ++ waiting_with m.around (spot_at m x.place (role_of x.action)) x partner ∷ []) made.0
           ∙ sym (new-place m x partner old made.1)
     ]
 
-moved-lane : (lanes : List Lane) (p q : Shown) → q.lane ≡ p.lane → q.place ≡ p.place → LiesInLane lanes p → LiesInLane lanes q
-moved-lane lanes p q lane place h =
-    subst (λ (l : Option ℕ). IfSome l (λ k. IsLaneOf lanes k q.place)) (sym lane)
-    (subst (λ (a : Place). IfSome p.lane (λ k. IsLaneOf lanes k a)) (sym place) h)
+moved-since : (deep : Deep) (p q : Shown) → q.since ≡ p.since → q.place ≡ p.place → StandsSince deep p → StandsSince deep q
+moved-since deep p q since place h =
+    subst (λ (d : ℕ). IsSince deep.live deep.depths q.place d) (sym since)
+    (subst (λ (a : Place). IsSince deep.live deep.depths a p.since) (sym place) h)
 
-pub added-lanes : (m : AtMachine) (lanes : List Lane) (x : LocalAction) (old rest new : List Shown) (p q : Shown) →
-    TakenFor m lanes x old rest p → q.lane ≡ p.lane → q.place ≡ p.place → new ≡ rest ++ q ∷ [] → Every (LiesInLane lanes) old →
-    Every (LiesInLane lanes) new
-added-lanes m lanes x old rest new p q taken lane place is each =
-    subst (Every (LiesInLane lanes)) (sym is)
+pub added-since : (m : Seen) (deep : Deep) (x : LocalAction) (old rest new : List Shown) (p q : Shown) →
+    TakenFor m deep x old rest p → q.since ≡ p.since → q.place ≡ p.place → new ≡ rest ++ q ∷ [] → Every (StandsSince deep) old →
+    Every (StandsSince deep) new
+added-since m deep x old rest new p q taken since place is each =
+    subst (Every (StandsSince deep)) (sym is)
     (elim taken [
       | inl last ↦
-          let parts : Every (LiesInLane lanes) (rest ++ p ∷ []) = subst (Every (LiesInLane lanes)) last.0 each in
-          every-join (LiesInLane lanes) rest (q ∷ []) (every-left (LiesInLane lanes) rest (p ∷ []) parts)
-          (moved-lane lanes p q lane place (every-right (LiesInLane lanes) rest (p ∷ []) parts).0, tt)
+          let parts : Every (StandsSince deep) (rest ++ p ∷ []) = subst (Every (StandsSince deep)) last.0 each in
+          every-join (StandsSince deep) rest (q ∷ []) (every-left (StandsSince deep) rest (p ∷ []) parts)
+          (moved-since deep p q since place (every-right (StandsSince deep) rest (p ∷ []) parts).0, tt)
       | inr made ↦
-          every-join (LiesInLane lanes) rest (q ∷ []) (subst (Every (LiesInLane lanes)) (sym made.0) each) (moved-lane lanes p q lane place made.3, tt)
+          every-join (StandsSince deep) rest (q ∷ []) (subst (Every (StandsSince deep)) (sym made.0) each) (moved-since deep p q since place made.3, tt)
     ])
 
 abbrev place_of : Shown → Place
@@ -147,10 +147,10 @@ kept-left ps qs k a h =
     ∙ ap (λ (ys : List Place). slice_get ys k) (map-append place_of ps qs)
     ∙ at-left (map place_of ps) (map place_of qs) k a (by-map ps k ∙ h)
 
-pub added-kept : (m : AtMachine) (lanes : List Lane) (x : LocalAction) (old rest new : List Shown) (p q : Shown) →
-    TakenFor m lanes x old rest p → q.place ≡ p.place → new ≡ rest ++ q ∷ [] → (k : ℕ) (a : Place) → place_at old k ≡ Some a →
+pub added-kept : (m : Seen) (deep : Deep) (x : LocalAction) (old rest new : List Shown) (p q : Shown) →
+    TakenFor m deep x old rest p → q.place ≡ p.place → new ≡ rest ++ q ∷ [] → (k : ℕ) (a : Place) → place_at old k ≡ Some a →
     place_at new k ≡ Some a
-added-kept m lanes x old rest new p q taken place is k a h =
+added-kept m deep x old rest new p q taken place is k a h =
     elim taken [
       | inl last ↦
           let same : map place_of new ≡ map place_of old =
@@ -168,9 +168,9 @@ length-map : (ps : List Shown) → length (map place_of ps) ≡ length ps
 length-map [] = refl
 length-map (p ∷ ps) = ap suc (length-map ps)
 
-pub added-last : (m : AtMachine) (lanes : List Lane) (x : LocalAction) (old rest new : List Shown) (p q : Shown) →
-    TakenFor m lanes x old rest p → q.place ≡ p.place → new ≡ rest ++ q ∷ [] → place_at new (length new - 1) ≡ Some x.place
-added-last m lanes x old rest new p q taken place is =
+pub added-last : (m : Seen) (deep : Deep) (x : LocalAction) (old rest new : List Shown) (p q : Shown) →
+    TakenFor m deep x old rest p → q.place ≡ p.place → new ≡ rest ++ q ∷ [] → place_at new (length new - 1) ≡ Some x.place
+added-last m deep x old rest new p q taken place is =
     let size : length new ≡ length (rest ++ q ∷ []) = ap (λ (ps : List Shown). length ps) is in
     let parts = length-append rest (q ∷ []) in
     let index : length new - 1 ≡ length (map place_of rest) = let same = length-map rest in omega arith in
@@ -183,7 +183,7 @@ added-last m lanes x old rest new p q taken place is =
 
 -- ---- the actions so far
 
-with-actions-more : (m : AtMachine) (spots : List Spot) (ps : List Partner) (n : ℕ) (xs : List LocalAction) (x : LocalAction) →
+with-actions-more : (m : Seen) (spots : List Spot) (ps : List Partner) (n : ℕ) (xs : List LocalAction) (x : LocalAction) →
     with_sides m spots ps n (xs ++ x ∷ []) ≡ with_side m (with_sides m spots ps n xs) x (slice_get ps (n + length xs))
 with-actions-more m spots ps n [] x =
     let at : n ≡ n + 0 = omega arith in ap (λ (k : ℕ). with_side m spots x (slice_get ps k)) at
@@ -192,6 +192,24 @@ with-actions-more m spots ps n (y ∷ xs) x =
     let at : n + 1 + length xs ≡ n + suc (length xs) = omega arith in
     with-actions-more m next ps (n + 1) xs x
     ∙ ap (λ (k : ℕ). with_side m (with_sides m next ps (n + 1) xs) x (slice_get ps k)) at
+
+places-more : (m : Seen) (spots : List Spot) (ps : List Partner) (n : ℕ) (xs : List LocalAction) (x : LocalAction) →
+    places_of_sides m spots ps n (xs ++ x ∷ [])
+    ≡ places_of_sides m spots ps n xs ++ (length (with_side m (with_sides m spots ps n xs) x (slice_get ps (n + length xs))) - 1) ∷ []
+places-more m spots ps n [] x =
+    let at : n ≡ n + 0 = omega arith in ap (λ (k : ℕ). (length (with_side m spots x (slice_get ps k)) - 1) ∷ []) at
+places-more m spots ps n (y ∷ xs) x =
+    let next : List Spot = with_side m spots y (slice_get ps n) in
+    let at : n + 1 + length xs ≡ n + suc (length xs) = omega arith in
+    ap (λ (ks : List ℕ). (length next - 1) ∷ ks)
+    (places-more m next ps (n + 1) xs x
+    ∙ ap
+    (λ (k : ℕ). places_of_sides m next ps (n + 1) xs ++ (length (with_side m (with_sides m next ps (n + 1) xs) x (slice_get ps k)) - 1) ∷ [])
+    at)
+
+length-spots : (ps : List Shown) → length (map spot_of ps) ≡ length ps
+length-spots [] = refl
+length-spots (p ∷ ps) = ap suc (length-spots ps)
 
 found-kept : (old new : List Shown) → ((k : ℕ) (a : Place) → place_at old k ≡ Some a → place_at new k ≡ Some a) → (found : List ℕ) (xs : List LocalAction) →
     map (place_at old) found ≡ map side_place xs → map (place_at new) found ≡ map side_place xs
@@ -204,108 +222,116 @@ found-kept old new keeps (k ∷ found) (x ∷ xs) is =
     let more = found-kept old new keeps found xs rest in
     ap (λ (a : Option Place). a ∷ map (place_at new) found) one ∙ ap (λ (ys : List (Option Place)). Some x.place ∷ ys) more
 
-pub spots-none : (m : AtMachine) (lanes : List Lane) (ps : List Partner) → SpotsOf m lanes ps [] [] []
-spots-none m lanes ps = record { spots = refl; lanes_told = tt; found_places = refl }
+pub spots-none : (m : Seen) (deep : Deep) (ps : List Partner) → SpotsOf m deep ps [] [] []
+spots-none m deep ps = record { spots = refl; since_told = tt; found_places = refl; found_is = refl }
 
-pub spots-next : (m : AtMachine) (lanes : List Lane) (ps : List Partner) (actions : List LocalAction) (i : ℕ) (x : LocalAction) (partner : Option Partner)
+pub spots-next : (m : Seen) (deep : Deep) (ps : List Partner) (actions : List LocalAction) (i : ℕ) (x : LocalAction) (partner : Option Partner)
     (old new : List Shown) (found upto : List ℕ) → i < length actions → x ≡ get_or actions i x → partner ≡ slice_get ps i →
-    SpotsOf m lanes ps (take i actions) old found → map spot_of new ≡ with_side m (map spot_of old) x partner →
-    (Every (LiesInLane lanes) old → Every (LiesInLane lanes) new) →
+    SpotsOf m deep ps (take i actions) old found → map spot_of new ≡ with_side m (map spot_of old) x partner →
+    (Every (StandsSince deep) old → Every (StandsSince deep) new) →
     ((k : ℕ) (a : Place) → place_at old k ≡ Some a → place_at new k ≡ Some a) → place_at new (length new - 1) ≡ Some x.place →
-    upto ≡ found ++ (length new - 1) ∷ [] → SpotsOf m lanes ps (take (i + 1) actions) new upto
-spots-next m lanes ps actions i x partner old new found upto less here with_partner h spots told keeps last is =
+    upto ≡ found ++ (length new - 1) ∷ [] → SpotsOf m deep ps (take (i + 1) actions) new upto
+spots-next m deep ps actions i x partner old new found upto less here with_partner h spots told keeps last is =
     let next : take (i + 1) actions ≡ take i actions ++ x ∷ [] = one-more actions i x less here in
     let size : 0 + length (take i actions) ≡ i = let long = length-take-le i actions (let within : i ≤ length actions = omega arith in within) in omega arith in
-    subst (λ (xs : List LocalAction). SpotsOf m lanes ps xs new upto) (sym next)
+    subst (λ (xs : List LocalAction). SpotsOf m deep ps xs new upto) (sym next)
     (record {
       spots =
           spots
           ∙ ap (λ (ss : List Spot). with_side m ss x partner) h.spots
           ∙ ap (λ (o : Option Partner). with_side m (with_sides m [] ps 0 (take i actions)) x o) (with_partner ∙ ap (λ (k : ℕ). slice_get ps k) (sym size))
           ∙ sym (with-actions-more m [] ps 0 (take i actions) x);
-      lanes_told = told h.lanes_told;
+      since_told = told h.since_told;
       found_places =
           ap (map (place_at new)) is
           ∙ map-append (place_at new) found ((length new - 1) ∷ [])
           ∙ ap (λ (ys : List (Option Place)). ys ++ place_at new (length new - 1) ∷ []) (found-kept old new keeps found (take i actions) h.found_places)
           ∙ ap (λ (a : Option Place). map side_place (take i actions) ++ a ∷ []) last
           ∙ sym (map-append side_place (take i actions) (x ∷ []));
+      found_is =
+          let sides : map spot_of new ≡ with_side m (with_sides m [] ps 0 (take i actions)) x (slice_get ps (0 + length (take i actions))) =
+          spots
+          ∙ ap (λ (ss : List Spot). with_side m ss x partner) h.spots
+          ∙ ap (λ (o : Option Partner). with_side m (with_sides m [] ps 0 (take i actions)) x o) (with_partner ∙ ap (λ (k : ℕ). slice_get ps k) (sym size)) in
+          let long : length new ≡ length (with_side m (with_sides m [] ps 0 (take i actions)) x (slice_get ps (0 + length (take i actions)))) =
+          sym (length-spots new) ∙ ap (λ (ss : List Spot). length ss) sides in
+          is
+          ∙ ap (λ (ks : List ℕ). ks ++ (length new - 1) ∷ []) h.found_is
+          ∙ ap (λ (n : ℕ). places_of_sides m [] ps 0 (take i actions) ++ (n - 1) ∷ []) long
+          ∙ sym (places-more m [] ps 0 (take i actions) x);
     })
 
 -- ---- those of events that can be taken
 
-pub adds-none : (lanes : List Lane) (ps : List Shown) → AddsSpots lanes ps ps []
-adds-none lanes ps = record { more = []; joined = sym (append-nil ps); shown = refl; lanes_told = tt }
+pub adds-none : (deep : Deep) (ps : List Shown) → AddsSpots deep ps ps []
+adds-none deep ps = record { more = []; joined = sym (append-nil ps); shown = refl; since_told = tt }
 
-pub adds-one : (lanes : List Lane) (old new : List Shown) (p : Shown) (s : Spot) → new ≡ old ++ p ∷ [] → spot_of p ≡ s → LiesInLane lanes p →
-    AddsSpots lanes old new (s ∷ [])
-adds-one lanes old new p s is spot lies =
-    record { more = p ∷ []; joined = is; shown = ap (λ (t : Spot). t ∷ []) spot; lanes_told = (lies, tt) }
+pub adds-one : (deep : Deep) (old new : List Shown) (p : Shown) (s : Spot) → new ≡ old ++ p ∷ [] → spot_of p ≡ s → StandsSince deep p →
+    AddsSpots deep old new (s ∷ [])
+adds-one deep old new p s is spot lies =
+    record { more = p ∷ []; joined = is; shown = ap (λ (t : Spot). t ∷ []) spot; since_told = (lies, tt) }
 
-pub adds-then : (lanes : List Lane) (old between new : List Shown) (ss ts : List Spot) → AddsSpots lanes old between ss → AddsSpots lanes between new ts →
-    AddsSpots lanes old new (ss ++ ts)
-adds-then lanes old between new ss ts one two = record {
+pub adds-then : (deep : Deep) (old between new : List Shown) (ss ts : List Spot) → AddsSpots deep old between ss → AddsSpots deep between new ts →
+    AddsSpots deep old new (ss ++ ts)
+adds-then deep old between new ss ts one two = record {
   more = one.more ++ two.more;
   joined = two.joined ∙ ap (λ (ps : List Shown). ps ++ two.more) one.joined ∙ append_assoc old one.more two.more;
   shown = map-append spot_of one.more two.more ∙ ap (λ (k : List Spot). k ++ map spot_of two.more) one.shown ∙ ap (λ (k : List Spot). ss ++ k) two.shown;
-  lanes_told = every-join (LiesInLane lanes) one.more two.more one.lanes_told two.lanes_told;
+  since_told = every-join (StandsSince deep) one.more two.more one.since_told two.since_told;
 }
 
 -- what is made of a place of an event that can be taken
-pub ready-made : (m : AtMachine) (e : Event) (a : Place) (r : Role) (p : Shown) (ws : List Wanted) →
-    spot_of p ≡ record { place = a; line = line_of m a; role = r; wanted = map want_of ws; is_ready = true } → map want_of ws ≡ on_channel e.channel →
-    spot_of p ≡ ready_spot m e a r
-ready-made m e a r p ws made is =
-    let with_wanted : List (ℕ × Bool) → Spot = λ w. record { place = a; line = line_of m a; role = r; wanted = w; is_ready = true } in
-    made ∙ ap with_wanted is
+pub ready-made : (m : Seen) (e : Event) (a : Place) (r : Role) (p : Shown) (ws : List Wanted) →
+    spot_of p ≡ made_spot m a r (map want_of ws) true → map want_of ws ≡ on_channel e.channel → spot_of p ≡ ready_spot m e a r
+ready-made m e a r p ws made is = made ∙ ap (λ (w : List Want). made_spot m a r w true) is
 
-pub event-one : (m : AtMachine) (lanes : List Lane) (e : Event) (r : Role) (old new : List Shown) → e.second ≡ None → r ≡ first_role e.kind e.value →
-    AddsSpots lanes old new (ready_spot m e e.first r ∷ []) → AddsSpots lanes old new (event_spots m e)
-event-one m lanes e r old new none role one =
-    subst (λ (o : Option Place). AddsSpots lanes old new (ready_spot m e e.first (first_role e.kind e.value) ∷ second_spots m e o)) (sym none)
-    (subst (λ (q : Role). AddsSpots lanes old new (ready_spot m e e.first q ∷ [])) role one)
+pub event-one : (m : Seen) (deep : Deep) (e : Event) (r : Role) (old new : List Shown) → e.second ≡ None → r ≡ first_role e.kind e.value →
+    AddsSpots deep old new (ready_spot m e e.first r ∷ []) → AddsSpots deep old new (event_spots m e)
+event-one m deep e r old new none role one =
+    subst (λ (o : Option Place). AddsSpots deep old new (ready_spot m e e.first (first_role e.kind e.value) ∷ second_spots m e o)) (sym none)
+    (subst (λ (q : Role). AddsSpots deep old new (ready_spot m e e.first q ∷ [])) role one)
 
-pub event-two : (m : AtMachine) (lanes : List Lane) (e : Event) (b : Place) (r q : Role) (old between new : List Shown) → e.second ≡ Some b →
-    r ≡ first_role e.kind e.value → q ≡ second_role e.kind → AddsSpots lanes old between (ready_spot m e e.first r ∷ []) →
-    AddsSpots lanes between new (ready_spot m e b q ∷ []) → AddsSpots lanes old new (event_spots m e)
-event-two m lanes e b r q old between new some role other one two =
-    subst (λ (o : Option Place). AddsSpots lanes old new (ready_spot m e e.first (first_role e.kind e.value) ∷ second_spots m e o)) (sym some)
-    (adds-then lanes old between new (ready_spot m e e.first (first_role e.kind e.value) ∷ []) (ready_spot m e b (second_role e.kind) ∷ [])
-    (subst (λ (w : Role). AddsSpots lanes old between (ready_spot m e e.first w ∷ [])) role one)
-    (subst (λ (w : Role). AddsSpots lanes between new (ready_spot m e b w ∷ [])) other two))
+pub event-two : (m : Seen) (deep : Deep) (e : Event) (b : Place) (r q : Role) (old between new : List Shown) → e.second ≡ Some b →
+    r ≡ first_role e.kind e.value → q ≡ second_role e.kind → AddsSpots deep old between (ready_spot m e e.first r ∷ []) →
+    AddsSpots deep between new (ready_spot m e b q ∷ []) → AddsSpots deep old new (event_spots m e)
+event-two m deep e b r q old between new some role other one two =
+    subst (λ (o : Option Place). AddsSpots deep old new (ready_spot m e e.first (first_role e.kind e.value) ∷ second_spots m e o)) (sym some)
+    (adds-then deep old between new (ready_spot m e e.first (first_role e.kind e.value) ∷ []) (ready_spot m e b (second_role e.kind) ∷ [])
+    (subst (λ (w : Role). AddsSpots deep old between (ready_spot m e e.first w ∷ [])) role one)
+    (subst (λ (w : Role). AddsSpots deep between new (ready_spot m e b w ∷ [])) other two))
 
-pub ready-next : (m : AtMachine) (lanes : List Lane) (es : List Event) (i : ℕ) (e : Event) (old between new : List Shown) → i < length es → e ≡ get_or es i e →
-    AddsSpots lanes old between (ready_spots m (take i es)) → AddsSpots lanes between new (event_spots m e) →
-    AddsSpots lanes old new (ready_spots m (take (i + 1) es))
-ready-next m lanes es i e old between new less here so_far one =
+pub ready-next : (m : Seen) (deep : Deep) (es : List Event) (i : ℕ) (e : Event) (old between new : List Shown) → i < length es → e ≡ get_or es i e →
+    AddsSpots deep old between (ready_spots m (take i es)) → AddsSpots deep between new (event_spots m e) →
+    AddsSpots deep old new (ready_spots m (take (i + 1) es))
+ready-next m deep es i e old between new less here so_far one =
     let next : take (i + 1) es ≡ take i es ++ e ∷ [] = one-more es i e less here in
     let parts : ready_spots m (take i es ++ e ∷ []) ≡ ready_spots m (take i es) ++ event_spots m e =
     flat_map-append (event_spots m) (take i es) (e ∷ []) ∙ ap (λ (k : List Spot). ready_spots m (take i es) ++ k) (append-nil (event_spots m e)) in
-    subst (λ (k : List Event). AddsSpots lanes old new (ready_spots m k)) (sym next)
-    (subst (λ (k : List Spot). AddsSpots lanes old new k) (sym parts) (adds-then lanes old between new (ready_spots m (take i es)) (event_spots m e) so_far one))
+    subst (λ (k : List Event). AddsSpots deep old new (ready_spots m k)) (sym next)
+    (subst (λ (k : List Spot). AddsSpots deep old new k) (sym parts) (adds-then deep old between new (ready_spots m (take i es)) (event_spots m e) so_far one))
 
-pub ready-all : (m : AtMachine) (lanes : List Lane) (es : List Event) (i : ℕ) (old new : List Shown) → length es ≤ i →
-    AddsSpots lanes old new (ready_spots m (take i es)) → AddsSpots lanes old new (ready_spots m es)
-ready-all m lanes es i old new past h = subst (λ (k : List Event). AddsSpots lanes old new (ready_spots m k)) (take-all es i past) h
+pub ready-all : (m : Seen) (deep : Deep) (es : List Event) (i : ℕ) (old new : List Shown) → length es ≤ i →
+    AddsSpots deep old new (ready_spots m (take i es)) → AddsSpots deep old new (ready_spots m es)
+ready-all m deep es i old new past h = subst (λ (k : List Event). AddsSpots deep old new (ready_spots m k)) (take-all es i past) h
 
 -- ---- all of them
 
-pub spots-all : (m : AtMachine) (lanes : List Lane) (ps : List Partner) (actions : List LocalAction) (i : ℕ) (places : List Shown) (found : List ℕ) →
-    length actions ≤ i → SpotsOf m lanes ps (take i actions) places found → SpotsOf m lanes ps actions places found
-spots-all m lanes ps actions i places found past h = subst (λ (xs : List LocalAction). SpotsOf m lanes ps xs places found) (take-all actions i past) h
+pub spots-all : (m : Seen) (deep : Deep) (ps : List Partner) (actions : List LocalAction) (i : ℕ) (places : List Shown) (found : List ℕ) →
+    length actions ≤ i → SpotsOf m deep ps (take i actions) places found → SpotsOf m deep ps actions places found
+spots-all m deep ps actions i places found past h = subst (λ (xs : List LocalAction). SpotsOf m deep ps xs places found) (take-all actions i past) h
 
-pub all-spots : (m : AtMachine) (lanes : List Lane) (ps : List Partner) (actions : List LocalAction) (old new : List Shown) (found : List ℕ) (ss : List Spot) →
-    SpotsOf m lanes ps actions old found → AddsSpots lanes old new ss → map spot_of new ≡ with_sides m [] ps 0 actions ++ ss
-all-spots m lanes ps actions old new found ss h more =
+pub all-spots : (m : Seen) (deep : Deep) (ps : List Partner) (actions : List LocalAction) (old new : List Shown) (found : List ℕ) (ss : List Spot) →
+    SpotsOf m deep ps actions old found → AddsSpots deep old new ss → map spot_of new ≡ with_sides m [] ps 0 actions ++ ss
+all-spots m deep ps actions old new found ss h more =
     ap (map spot_of) more.joined
     ∙ map-append spot_of old more.more
     ∙ ap (λ (k : List Spot). k ++ map spot_of more.more) h.spots
     ∙ ap (λ (k : List Spot). with_sides m [] ps 0 actions ++ k) more.shown
 
-pub all-lanes : (m : AtMachine) (lanes : List Lane) (ps : List Partner) (actions : List LocalAction) (old new : List Shown) (found : List ℕ) (ss : List Spot) →
-    SpotsOf m lanes ps actions old found → AddsSpots lanes old new ss → Every (LiesInLane lanes) new
-all-lanes m lanes ps actions old new found ss h more =
-    subst (Every (LiesInLane lanes)) (sym more.joined) (every-join (LiesInLane lanes) old more.more h.lanes_told more.lanes_told)
+pub all-since : (m : Seen) (deep : Deep) (ps : List Partner) (actions : List LocalAction) (old new : List Shown) (found : List ℕ) (ss : List Spot) →
+    SpotsOf m deep ps actions old found → AddsSpots deep old new ss → Every (StandsSince deep) new
+all-since m deep ps actions old new found ss h more =
+    subst (Every (StandsSince deep)) (sym more.joined) (every-join (StandsSince deep) old more.more h.since_told more.since_told)
 
 -- ---- a ring
 
@@ -354,25 +380,13 @@ ring-shown m S places found actions (i ∷ is) ring told h made =
     ap (map (place_at places)) (sym first.1) ∙ all in
     subst (ShowsRing m S places) (sym (made ∙ first.1)) (h.0, all_first, h.2, h.3)
 
-pub all-found : (m : AtMachine) (lanes : List Lane) (ps : List Partner) (actions : List LocalAction) (old new : List Shown) (found : List ℕ) (ss : List Spot) →
-    SpotsOf m lanes ps actions old found → AddsSpots lanes old new ss → map (place_at new) found ≡ map side_place actions
-all-found m lanes ps actions old new found ss h more =
+pub all-found : (m : Seen) (deep : Deep) (ps : List Partner) (actions : List LocalAction) (old new : List Shown) (found : List ℕ) (ss : List Spot) →
+    SpotsOf m deep ps actions old found → AddsSpots deep old new ss → map (place_at new) found ≡ map side_place actions
+all-found m deep ps actions old new found ss h more =
     found-kept old new
     (λ k a at. subst (λ (qs : List Shown). place_at qs k ≡ Some a) (sym more.joined) (kept-left old more.more k a at)) found actions h.found_places
 
--- ---- what a place is made of
-
--- a place with these parts
-pub spot-made : (m : AtMachine) (a : Place) (r : Role) (ready : Bool) (p : Shown) (ws : List Wanted) → p.place ≡ a → p.line ≡ line_of m a → p.role ≡ r →
-    p.wanted.items ≡ ws → p.is_ready ≡ ready →
-    spot_of p ≡ record { place = a; line = line_of m a; role = r; wanted = map want_of ws; is_ready = ready }
-spot-made m a r ready p ws place line role wanted is =
-    let made : Place → ℕ → Role → List Wanted → Bool → Spot = λ b l q w t. record { place = b; line = l; role = q; wanted = map want_of w; is_ready = t } in
-    ap (λ (b : Place). made b p.line p.role p.wanted.items p.is_ready) place
-    ∙ ap (λ (l : ℕ). made a l p.role p.wanted.items p.is_ready) line
-    ∙ ap (λ (q : Role). made a (line_of m a) q p.wanted.items p.is_ready) role
-    ∙ ap (λ (w : List Wanted). made a (line_of m a) r w p.is_ready) wanted
-    ∙ ap (λ (t : Bool). made a (line_of m a) r ws t) is
+-- ---- the last place
 
 -- of a list with one more the last is nothing where it is empty
 pub none-last : (old new : List Shown) (a : Place) → old ≡ [] → (front : List Shown) (q : Shown) → old ≡ front ++ q ∷ [] → q.place ≡ a → ⊥
@@ -401,14 +415,14 @@ other-last old rest p a is not front q same at =
 
 -- ---- the place of an action
 
-pub taken_last : (m : AtMachine) (lanes : List Lane) (x : LocalAction) (old new : List Shown) (p : Shown) → old ≡ new ++ p ∷ [] → p.place ≡ x.place →
-    TakenFor m lanes x old new p
-taken_last m lanes x old new p is at = inl (is, at)
+pub taken_last : (m : Seen) (deep : Deep) (x : LocalAction) (old new : List Shown) (p : Shown) → old ≡ new ++ p ∷ [] → p.place ≡ x.place →
+    TakenFor m deep x old new p
+taken_last m deep x old new p is at = inl (is, at)
 
-pub taken_first : (m : AtMachine) (lanes : List Lane) (x : LocalAction) (old new : List Shown) (p : Shown) → old ≡ [] → new ≡ old →
-    spot_of p ≡ spot_at m x.place (role_of x.action) → LiesInLane lanes p → TakenFor m lanes x old new p
-taken_first m lanes x old new p none same spot lies = inr (same, none-last old new x.place none, spot, lies)
+pub taken_first : (m : Seen) (deep : Deep) (x : LocalAction) (old new : List Shown) (p : Shown) → old ≡ [] → new ≡ old →
+    spot_of p ≡ spot_at m x.place (role_of x.action) → StandsSince deep p → TakenFor m deep x old new p
+taken_first m deep x old new p none same spot lies = inr (same, none-last old new x.place none, spot, lies)
 
-pub taken_behind : (m : AtMachine) (lanes : List Lane) (x : LocalAction) (old rest new : List Shown) (q p : Shown) → old ≡ rest ++ q ∷ [] →
-    (q.place ≡ x.place → ⊥) → new ≡ rest ++ q ∷ [] → spot_of p ≡ spot_at m x.place (role_of x.action) → LiesInLane lanes p → TakenFor m lanes x old new p
-taken_behind m lanes x old rest new q p is not back spot lies = inr (back ∙ sym is, other-last old rest q x.place is not, spot, lies)
+pub taken_behind : (m : Seen) (deep : Deep) (x : LocalAction) (old rest new : List Shown) (q p : Shown) → old ≡ rest ++ q ∷ [] →
+    (q.place ≡ x.place → ⊥) → new ≡ rest ++ q ∷ [] → spot_of p ≡ spot_at m x.place (role_of x.action) → StandsSince deep p → TakenFor m deep x old new p
+taken_behind m deep x old rest new q p is not back spot lies = inr (back ∙ sym is, other-last old rest q x.place is not, spot, lies)

@@ -1,20 +1,17 @@
--- Lanes by their paths, and the line of a place.
-use Rattle.std.specs.Prelude.{◌≡◌, ℕ, List, Option, None, Some, slice_get}
+-- The lane and the line of a place.
+use Rattle.std.specs.Prelude.{ℕ, List, Option, None, Some}
 use Rattle.address.specs.declared.Entry.{Entry}
 use Rattle.branch_lanes.specs.Lanes.{lane_of}
 use Rattle.runs.specs.Live.{events}
 use Rattle.runs.specs.Moves.{Place}
 use Rattle.event_places.specs.EventPlaces.{line_after}
 use Rattle.machine.specs.AtMachine.{AtMachine}
-use Rattle.picture_data.specs.declared.lane.Lane.{Lane}
+use Rattle.picture_lanes.specs.Lanes.{lane_index}
+use Rattle.picture_lanes.specs.declared.lane.Lane.{Lane}
 
--- lane k has this path
-abbrev pub HasPath : List Lane → ℕ → List ℕ → Type 0
-HasPath lanes k path = (lane : Lane) × (slice_get lanes k ≡ Some lane) × (lane.path.items ≡ path)
-
--- lane k is that of the place
-abbrev pub IsLaneOf : List Lane → ℕ → List Entry → Type 0
-IsLaneOf lanes k place = HasPath lanes k (lane_of place)
+-- the index of the lane of the place, if there is one
+abbrev pub lane_at : List Lane → List Entry → Option ℕ
+lane_at lanes a = lane_index lanes (lane_of a)
 
 -- the line of the command at a place after the live events, 0 where there is none
 abbrev pub line_or_zero : Option ℕ → ℕ

@@ -1,9 +1,10 @@
 -- What is shown of the places that wait, and of those of the events that can be taken.
-use Rattle.std.specs.Prelude.{◌≡◌, ℕ, ◌+◌, List, [], ◌∷◌, ◌++◌, Bool, true, false, cond, Option, None, Some, IfSome}
-use Rattle.std.specs.Prelude.{map, option_map, slice_get}
+use Rattle.std.specs.Prelude.{◌≡◌, ℕ, ◌+◌, List, [], ◌∷◌, ◌++◌, Bool, true, false, cond, Option, None, Some}
+use Rattle.std.specs.Prelude.{◌-◌, length, map, option_map, slice_get}
 use Rattle.std.specs.List.{flat_map}
+use Rattle.std.specs.Option.{option_to_list}
 use Rattle.value.specs.Word.{Word}
-use Rattle.syntax.specs.Lists.{Every}
+use Rattle.runs.specs.Live.{Live}
 use Rattle.runs.specs.Moves.{Place}
 use Rattle.runs.specs.Steps.{State}
 use Rattle.runs.specs.Tests.{same_place}
@@ -11,6 +12,7 @@ use Rattle.runs.specs.declared.event.Event.{Event}
 use Rattle.runs.specs.declared.event.Kind.{Kind}
 use Rattle.runs.specs.declared.event.Kind.TheVariants as kind
 use Rattle.machine.specs.AtMachine.{AtMachine}
+use Rattle.run_depths.specs.Since.{IsSince}
 use Rattle.local_actions.specs.declared.action.LocalAction.{LocalAction}
 use Rattle.local_actions.specs.declared.action.ActionKind.{ActionKind}
 use Rattle.local_actions.specs.declared.action.ActionKind.TheVariants as action
@@ -19,32 +21,56 @@ use Rattle.rings.specs.declared.partner.Partner.TheVariants as partner
 use Rattle.rings.specs.Rings.{EachOnce}
 use Rattle.waiting.specs.Rings.{IsRingIn}
 use Rattle.waiting.specs.declared.waiting.Waiting.{Waiting}
-use Rattle.picture_data.specs.Lines.{IsLaneOf, line_of}
-use Rattle.picture_data.specs.declared.lane.Lane.{Lane}
+use Rattle.picture_data.specs.Lines.{lane_at}
+use Rattle.picture_data.specs.Wanted.{Around, Seen, wanted_lanes}
 use Rattle.picture_data.specs.declared.places.Place.{Place as Shown}
 use Rattle.picture_data.specs.declared.places.Role.{Role}
 use Rattle.picture_data.specs.declared.places.Role.TheVariants as role
 use Rattle.picture_data.specs.declared.places.Wanted.{Wanted}
 
--- a place, but for lanes and depths
+-- a channel on which a place waits, with the lanes for which it does, and whether a partner can still come
+pub record Want : Type 0 where
+  pub channel : ℕ
+  pub lanes : List ℕ
+  pub can_come : Bool
+
+-- a place, but for the depth from which on it may be stood at
 pub record Spot : Type 0 where
+  pub lane : Option ℕ
   pub place : Place
   pub line : ℕ
   pub role : Role
-  -- the channels on which it waits, and whether a partner can still come on each
-  pub wanted : List (ℕ × Bool)
+  -- one for each channel on which it waits
+  pub wanted : List Want
   pub is_ready : Bool
 
-abbrev pub want_of : Wanted → ℕ × Bool
-want_of w = (w.channel, w.can_come)
+abbrev pub want_of : Wanted → Want
+want_of w = record { channel = w.channel; lanes = w.lanes.items; can_come = w.can_come }
 
 abbrev pub spot_of : Shown → Spot
-spot_of p =
-    record { place = p.place; line = p.line; role = p.role; wanted = map want_of p.wanted.items; is_ready = p.is_ready }
+spot_of p = record {
+  lane = p.lane;
+  place = p.place;
+  line = p.line;
+  role = p.role;
+  wanted = map want_of p.wanted.items;
+  is_ready = p.is_ready;
+}
 
--- what stands there, and waits on nothing yet
-abbrev pub spot_at : AtMachine → Place → Role → Spot
-spot_at m a what = record { place = a; line = line_of m a; role = what; wanted = []; is_ready = false }
+-- what stands at a place in its lane and at its line
+abbrev pub made_spot : Seen → Place → Role → List Want → Bool → Spot
+made_spot m a what wanted ready = record {
+  lane = lane_at m.around.lanes a;
+  place = a;
+  line = m.line a;
+  role = what;
+  wanted = wanted;
+  is_ready = ready;
+}
+
+-- the same, which waits on nothing yet
+abbrev pub spot_at : Seen → Place → Role → Spot
+spot_at m a what = made_spot m a what [] false
 
 -- ---- the places that wait
 
@@ -79,31 +105,41 @@ can_come (Some (partner.Behind a)) = true
 can_come (Some partner.Open) = true
 can_come None = true
 
--- the place waits on this channel, too, if there is one
-abbrev pub waiting_on : Spot → Option ℕ → Bool → Spot
-waiting_on s None comes = s
-waiting_on s (Some c) comes = record s { wanted = s.wanted ++ (c, comes) ∷ [] }
+-- the place waits on this channel, too, if there is one, for an action of this role with this partner
+abbrev pub waiting_on : Around → Spot → Role → Option Partner → Option ℕ → Spot
+waiting_on around s r p None = s
+waiting_on around s r p (Some c) = record s {
+  wanted =
+      s.wanted ++ record { channel = c; lanes = wanted_lanes around p s.lane c r; can_come = can_come p } ∷ [];
+}
 
 -- and for what the action waits for, which has this partner
-abbrev pub waiting_with : Spot → LocalAction → Option Partner → Spot
-waiting_with s x p = waiting_on s (channel_of x.action) (can_come p)
+abbrev pub waiting_with : Around → Spot → LocalAction → Option Partner → Spot
+waiting_with around s x p = waiting_on around s (role_of x.action) p (channel_of x.action)
 
 -- the places with one more action, which has this partner: it stands at the last of them, or is a place of its own
 -- behind them
-abbrev pub with_side : AtMachine → List Spot → LocalAction → Option Partner → List Spot
-with_side m [] x p = waiting_with (spot_at m x.place (role_of x.action)) x p ∷ []
+abbrev pub with_side : Seen → List Spot → LocalAction → Option Partner → List Spot
+with_side m [] x p = waiting_with m.around (spot_at m x.place (role_of x.action)) x p ∷ []
 with_side m (s ∷ []) x p =
-    cond (same_place s.place x.place) (waiting_with s x p ∷ [])
-    (s ∷ waiting_with (spot_at m x.place (role_of x.action)) x p ∷ [])
+    cond (same_place s.place x.place) (waiting_with m.around s x p ∷ [])
+    (s ∷ waiting_with m.around (spot_at m x.place (role_of x.action)) x p ∷ [])
 with_side m (s ∷ t ∷ spots) x p = s ∷ with_side m (t ∷ spots) x p
 
 -- with these actions, of which the first has the partner of number n
-abbrev pub with_sides : AtMachine → List Spot → List Partner → ℕ → List LocalAction → List Spot
+abbrev pub with_sides : Seen → List Spot → List Partner → ℕ → List LocalAction → List Spot
 with_sides m spots partners n [] = spots
 with_sides m spots partners n (x ∷ xs) = with_sides m (with_side m spots x (slice_get partners n)) partners (n + 1) xs
 
-abbrev pub waiting_spots : AtMachine → Waiting → List Spot
+abbrev pub waiting_spots : Seen → Waiting → List Spot
 waiting_spots m w = with_sides m [] w.partners.items 0 w.actions
+
+-- for each of these actions the index of its place
+abbrev pub places_of_sides : Seen → List Spot → List Partner → ℕ → List LocalAction → List ℕ
+places_of_sides m spots partners n [] = []
+places_of_sides m spots partners n (x ∷ xs) =
+    (length (with_side m spots x (slice_get partners n)) - 1)
+    ∷ places_of_sides m (with_side m spots x (slice_get partners n)) partners (n + 1) xs
 
 -- ---- the places of the events that can be taken
 
@@ -129,35 +165,43 @@ second_role kind.Test = role.Goes
 second_role kind.Turn = role.Goes
 
 -- on its channel, if it has one
-abbrev pub on_channel : Option ℕ → List (ℕ × Bool)
+abbrev pub on_channel : Option ℕ → List Want
 on_channel None = []
-on_channel (Some c) = (c, true) ∷ []
+on_channel (Some c) = record { channel = c; lanes = []; can_come = true } ∷ []
 
-abbrev pub ready_spot : AtMachine → Event → Place → Role → Spot
-ready_spot m e a what =
-    record { place = a; line = line_of m a; role = what; wanted = on_channel e.channel; is_ready = true }
+abbrev pub ready_spot : Seen → Event → Place → Role → Spot
+ready_spot m e a what = made_spot m a what (on_channel e.channel) true
 
-abbrev pub second_spots : AtMachine → Event → Option Place → List Spot
+abbrev pub second_spots : Seen → Event → Option Place → List Spot
 second_spots m e None = []
 second_spots m e (Some b) = ready_spot m e b (second_role e.kind) ∷ []
 
-abbrev pub event_spots : AtMachine → Event → List Spot
+abbrev pub event_spots : Seen → Event → List Spot
 event_spots m e = ready_spot m e e.first (first_role e.kind e.value) ∷ second_spots m e e.second
 
-abbrev pub ready_spots : AtMachine → List Event → List Spot
+abbrev pub ready_spots : Seen → List Event → List Spot
 ready_spots m es = flat_map (event_spots m) es
 
 -- ---- all of them
 
 -- the places that wait, and behind them those of these events
-abbrev pub AreSpots : AtMachine → Waiting → List Event → List Shown → Type 0
+abbrev pub AreSpots : Seen → Waiting → List Event → List Shown → Type 0
 AreSpots m w ready places = map spot_of places ≡ waiting_spots m w ++ ready_spots m ready
 
--- each lies in the lane that is told, if one is
-abbrev pub LiesInLane : List Lane → Shown → Type 0
-LiesInLane lanes p = IfSome p.lane (λ k. IsLaneOf lanes k p.place)
+-- live events with their depths
+pub record Deep : Type 0 where
+  pub live : Live
+  pub depths : List ℕ
+
+-- each is told with the depth from which on it may be stood at
+abbrev pub StandsSince : Deep → Shown → Type 0
+StandsSince d p = IsSince d.live d.depths p.place p.since
 
 -- ---- a ring
+
+-- the places of the actions of a ring, by the indexes of the places
+abbrev pub ring_of : List ℕ → List ℕ → List ℕ
+ring_of found ring = flat_map (λ (i : ℕ). option_to_list (slice_get found i)) ring
 
 -- the place of this index
 abbrev pub place_at : List Shown → ℕ → Option Place

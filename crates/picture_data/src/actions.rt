@@ -1,12 +1,13 @@
 // The lanes and lines of the two actions of an event.
 ghost use Rattle.std.specs.Prelude.{◌≡◌, IfOk};
 ghost use Rattle.runs.specs.Live.{events};
-ghost use Rattle.picture_data.specs.Lines.{line_of};
+ghost use Rattle.picture_data.specs.Lines.{lane_at, line_of};
 ghost use Rattle.picture_data.specs.Shown.{EachStandsIn, StandsIn};
 
-use crate::table::LaneTable;
 use address::Address;
+use branch_lanes::lane_of;
 use machine::Machine;
+use picture_lanes::LaneTable;
 use runs::Event;
 use std::alloc::{AllocError, Global};
 
@@ -30,13 +31,13 @@ pub(crate) fn actions_of(
     table: &LaneTable,
     event: &Event,
 ) -> Result<Actions, AllocError>
-    ensures { IfOk result (StandsIn machine.now table.now.lanes.items event.now) }
+    ensures { IfOk result (StandsIn machine.now table.now event.now) }
 {
-    let first_lane = table.lane(alloc, &event.first)?;
+    let first_lane = lane_at(alloc, table, &event.first)?;
     let first_line = line_of(machine, &event.first);
     match &event.second {
         Some(second) => {
-            let second_lane = table.lane(alloc, second)?;
+            let second_lane = lane_at(alloc, table, second)?;
             let second_line = line_of(machine, second);
             Ok(Actions {
                 first_lane,
@@ -52,6 +53,18 @@ pub(crate) fn actions_of(
             second_line: 0,
         }),
     }
+}
+
+/// The index of the lane of the place.
+pub(crate) fn lane_at(
+    alloc: Global,
+    table: &LaneTable,
+    place: &Address,
+) -> Result<Option<usize>, AllocError>
+    ensures { IfOk result (λ found. found ≡ lane_at table.now place.now) }
+{
+    let path = lane_of(alloc, place)?;
+    Ok(table.find(path.as_slice()))
 }
 
 /// The line of the command at the place, 0 for a place of the environment.
@@ -71,7 +84,7 @@ pub(crate) fn all_actions(
     table: &LaneTable,
     events: &[Event],
 ) -> Result<Vec<Actions>, AllocError>
-    ensures { IfOk result (λ actions. EachStandsIn machine.now table.now.lanes.items events.now actions.items) }
+    ensures { IfOk result (λ actions. EachStandsIn machine.now table.now events.now actions.items) }
 {
     let mut actions = Vec::with_capacity(alloc, events.len())?;
     for event in events {
@@ -87,7 +100,7 @@ pub(crate) fn live_actions(
     table: &LaneTable,
 ) -> Result<Vec<Actions>, AllocError>
     ensures { IfOk result (λ actions.
-        EachStandsIn machine.now table.now.lanes.items (events machine.now.live) actions.items) }
+        EachStandsIn machine.now table.now (events machine.now.live) actions.items) }
 {
     let live = machine.live_events();
     let mut actions = Vec::with_capacity(alloc, live.len())?;

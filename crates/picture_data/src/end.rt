@@ -6,15 +6,13 @@ ghost use Rattle.runs.specs.Object.{Reaches};
 ghost use Rattle.runs.specs.Ready.{ReadyList};
 ghost use Rattle.runs.specs.Steps.{State};
 ghost use Rattle.machine.specs.AtMachine.{object};
-ghost use Rattle.picture_data.specs.Shown.{ShowsEnd};
+ghost use Rattle.picture_data.specs.Shown.{HasDepths, ShowsEnd};
 
 use crate::actions::{Actions, all_actions};
 use crate::partners::Now;
 use crate::places::{Place, add_ready_places, waiting_places};
-use crate::standing::Standing;
-use crate::table::LaneTable;
-use crate::walk::ChannelUse;
 use machine::Machine;
+use picture_lanes::{ChannelUse, LaneTable};
 use runs::Event;
 use std::alloc::{AllocError, Global};
 use syntax::Items;
@@ -42,26 +40,31 @@ pub(crate) fn end_of(
     machine: &Machine,
     table: &LaneTable,
     uses: &[ChannelUse],
-    standing: &Standing,
+    depths: &[usize],
 ) -> Result<End, AllocError>
-    ensures { IfOk result (ShowsEnd machine.now table.now.lanes.items) }
+    requires { HasDepths machine.now.live depths.now }
+    ensures { IfOk result (ShowsEnd machine.now table.now uses.now depths.now) }
 {
     let ready = ready_events(machine)?;
     let waiting = who_waits(alloc, machine)?;
     let events = ready.as_slice();
     let ready_actions = all_actions(alloc, machine, table, events)?;
+    let actions = waiting.actions.as_slice();
+    let live = machine.live_events();
     let now = Now {
         table,
         uses,
-        actions: waiting.actions.as_slice(),
+        actions,
         ready: events,
+        live,
+        depths,
     };
-    let shown = waiting_places(alloc, machine, &now, &waiting, standing)?;
+    let shown = waiting_places(alloc, machine, &now, &waiting)?;
     let ring_sides = waiting.ring.as_slice();
     let place_of_action = shown.place_of_action.as_slice();
     let ring = ring_of(alloc, ring_sides, place_of_action)?;
     let mut places = shown.places;
-    add_ready_places(alloc, machine, &now, events, standing, &mut places)?;
+    add_ready_places(alloc, machine, &now, events, &mut places)?;
     Ok(End {
         progress: waiting.progress,
         ready,

@@ -3,12 +3,9 @@ ghost use Rattle.std.specs.Prelude.{IfOk};
 ghost use Rattle.picture_data.specs.Shown.{Shows};
 
 use crate::end::{End, end_of};
-use crate::ground::{Feed, Ground, ground_of};
-use crate::lane::{Instance, Lane};
-use crate::standing::Standing;
 use crate::steps::{Steps, steps_of};
-use crate::table::LaneTable;
 use machine::Machine;
+use picture_lanes::{Feed, Ground, Instance, Lane, ground_of};
 use std::alloc::{AllocError, Global};
 use typed::Procedure;
 
@@ -31,22 +28,27 @@ pub fn picture_of(
     machine: &Machine,
     procedures: &[Procedure],
 ) -> Result<Picture, AllocError>
-    ensures { IfOk result (Shows machine.now) }
+    ensures { IfOk result (Shows machine.now procedures.now) }
 {
+    let ground = ground_of(alloc, procedures, machine.checked().system())?;
     let Ground {
         instances,
         table,
         uses,
         feeds,
-    } = ground_of(alloc, procedures, machine.checked().system())?;
-    let mut standing = Standing::new(alloc)?;
-    let steps = steps_of(alloc, machine, &table, &mut standing)?;
-    let end = end_of(alloc, machine, &table, uses.as_slice(), &standing)?;
-    let LaneTable { lanes, .. } = table;
+    } = ground;
+    let steps = steps_of(alloc, machine, &table)?;
+    let end = end_of(
+        alloc,
+        machine,
+        &table,
+        uses.as_slice(),
+        steps.depths.as_slice(),
+    )?;
     Ok(Picture {
-        instances,
-        lanes,
-        feeds,
+        instances: instances.into_vec(),
+        lanes: table.into_lanes().into_vec(),
+        feeds: feeds.into_vec(),
         steps,
         end,
     })

@@ -3,18 +3,18 @@ ghost use Rattle.std.specs.Prelude.{◌≡◌, ◌-◌, ◌∷◌, [], ℕ, leng
 ghost use Rattle.std.specs.Option.{option_copied};
 ghost use Rattle.syntax.specs.Lists.{Every};
 ghost use Rattle.runs.specs.Moves as moves;
-ghost use Rattle.picture_data.specs.Lines as lines;
+ghost use Rattle.picture_data.specs.Shown.{HasDepths};
 ghost use Rattle.picture_data.specs.Spots as spots;
-ghost use Rattle.picture_data.specs.Spots.{LiesInLane, channel_of, event_spots, on_channel, place_at};
+ghost use Rattle.picture_data.specs.Spots.{StandsSince, channel_of, event_spots, made_spot, on_channel, place_at};
 ghost use Rattle.picture_data.specs.Spots.{ready_spot, ready_spots, role_of, spot_at, spot_of, want_of, with_side, waiting_with};
-ghost use Rattle.picture_data.specs.internal.SpotsSoFar.{AddsSpots, SpotsOf, TakenFor};
+ghost use Rattle.picture_data.specs.internal.SpotsSoFar.{AddsSpots, SpotsOf, TakenFor, around_in, deep_in, seen_in};
 
-use crate::actions::line_of;
+use crate::actions::{lane_at, line_of};
 use crate::partners::{Now, wanted_lanes};
-use crate::standing::Standing;
 use address::Address;
 use local_actions::{ActionKind, LocalAction};
 use machine::Machine;
+use run_depths::since_now;
 use runs::{Event, Kind};
 use std::alloc::{AllocError, Global};
 use value::Value;
@@ -74,9 +74,9 @@ pub(crate) fn waiting_places(
     machine: &Machine,
     now: &Now<'_>,
     waiting: &Waiting,
-    standing: &Standing,
 ) -> Result<Standings, AllocError>
-    ensures { IfOk result (λ made. SpotsOf machine.now now.now.table.now.lanes.items waiting.now.partners.items
+    requires { HasDepths now.now.live.now.live now.now.depths.now }
+    ensures { IfOk result (λ made. SpotsOf (seen_in machine.now now.now) (deep_in now.now) waiting.now.partners.items
         waiting.now.actions made.places.items made.place_of_action.items) }
 {
     let partners = waiting.partners.as_slice();
@@ -84,7 +84,7 @@ pub(crate) fn waiting_places(
     let mut place_of_action = Vec::new(alloc);
     for (index, action) in waiting.actions.as_slice().iter().enumerate() {
         let partner = partner_at(partners, index);
-        add_action(alloc, machine, now, action, partner, standing, &mut places)?;
+        add_action(alloc, machine, now, action, partner, &mut places)?;
         place_of_action.push(last_index(places.as_slice()))?;
     }
     Ok(Standings {
@@ -118,18 +118,18 @@ fn add_action(
     now: &Now<'_>,
     action: &LocalAction,
     partner: Option<&Partner>,
-    standing: &Standing,
     places: &mut Vec<Place>,
 ) -> Result<(), AllocError>
+    requires { HasDepths now.now.live.now.live now.now.depths.now }
     ensures spots { OnOk result (map spot_of places.new.items
-        ≡ with_side machine.now (map spot_of places.old.items) action.now (option_copied partner.entry)) }
-    ensures lanes { OnOk result (Every (LiesInLane now.now.table.now.lanes.items) places.old.items →
-        Every (LiesInLane now.now.table.now.lanes.items) places.new.items) }
+        ≡ with_side (seen_in machine.now now.now) (map spot_of places.old.items) action.now (option_copied partner.entry)) }
+    ensures since { OnOk result (Every (StandsSince (deep_in now.now)) places.old.items →
+        Every (StandsSince (deep_in now.now)) places.new.items) }
     ensures kept { OnOk result ((k : ℕ) (a : moves.Place) →
         place_at places.old.items k ≡ Some a → place_at places.new.items k ≡ Some a) }
     ensures last { OnOk result (place_at places.new.items (length places.new.items - 1) ≡ Some action.now.place) }
 {
-    let mut place = place_for(alloc, machine, now, action, standing, places)?;
+    let mut place = place_for(alloc, machine, now, action, places)?;
     add_wanted(alloc, now, action, partner, &mut place)?;
     places.push(place)?;
     Ok(())
@@ -142,21 +142,21 @@ fn place_for(
     machine: &Machine,
     now: &Now<'_>,
     action: &LocalAction,
-    standing: &Standing,
     places: &mut Vec<Place>,
 ) -> Result<Place, AllocError>
-    ensures { IfOk result (λ place. TakenFor machine.now now.now.table.now.lanes.items action.now
+    requires { HasDepths now.now.live.now.live now.now.depths.now }
+    ensures { IfOk result (λ place. TakenFor (seen_in machine.now now.now) (deep_in now.now) action.now
         places.old.items places.new.items place) }
 {
     let Some(last) = places.pop() else {
-        let made = new_place(alloc, machine, now, action, standing)?;
+        let made = new_place(alloc, machine, now, action)?;
         return Ok(made);
     };
     if last.place.equals(&action.place) {
         return Ok(last);
     }
     places.push(last)?;
-    let made = new_place(alloc, machine, now, action, standing)?;
+    let made = new_place(alloc, machine, now, action)?;
     Ok(made)
 }
 
@@ -166,24 +166,15 @@ fn new_place(
     machine: &Machine,
     now: &Now<'_>,
     action: &LocalAction,
-    standing: &Standing,
 ) -> Result<Place, AllocError>
+    requires { HasDepths now.now.live.now.live now.now.depths.now }
     ensures spot { IfOk result (λ made.
-        spot_of made ≡ spot_at machine.now action.now.place (role_of action.now.action)) }
-    ensures lane { IfOk result (LiesInLane now.now.table.now.lanes.items) }
+        spot_of made ≡ spot_at (seen_in machine.now now.now) action.now.place (role_of action.now.action)) }
+    ensures since { IfOk result (StandsSince (deep_in now.now)) }
 {
     let role = action_role(&action.action);
     let wanted = Vec::new(alloc);
-    let made = place_of(
-        alloc,
-        machine,
-        now,
-        &action.place,
-        role,
-        wanted,
-        false,
-        standing,
-    )?;
+    let made = place_of(alloc, machine, now, &action.place, role, wanted, false)?;
     Ok(made)
 }
 
@@ -196,21 +187,15 @@ fn place_of(
     role: Role,
     wanted: Vec<Wanted>,
     is_ready: bool,
-    standing: &Standing,
 ) -> Result<Place, AllocError>
+    requires { HasDepths now.now.live.now.live now.now.depths.now }
     ensures spot { IfOk result (λ made. spot_of made
-        ≡ record {
-          place = place.now;
-          line = lines.line_of machine.now place.now;
-          role = role;
-          wanted = map want_of wanted.items;
-          is_ready = is_ready;
-        }) }
-    ensures lane { IfOk result (LiesInLane now.now.table.now.lanes.items) }
+        ≡ made_spot (seen_in machine.now now.now) place.now role (map want_of wanted.items) is_ready) }
+    ensures since { IfOk result (StandsSince (deep_in now.now)) }
 {
-    let lane = now.table.lane(alloc, place)?;
+    let lane = lane_at(alloc, now.table, place)?;
     let line = line_of(machine, place);
-    let since = standing.since(place);
+    let since = since_now(now.live, now.depths, place);
     let place = place.copy(alloc)?;
     Ok(Place {
         lane,
@@ -232,8 +217,8 @@ fn add_wanted(
     place: &mut Place,
 ) -> Result<(), AllocError>
     ensures spot { OnOk result (spot_of place.new
-        ≡ waiting_with (spot_of place.old) offered.now (option_copied partner.entry)) }
-    ensures lane { OnOk result (place.new.lane ≡ place.old.lane) }
+        ≡ waiting_with (around_in now.now) (spot_of place.old) offered.now (option_copied partner.entry)) }
+    ensures since { OnOk result (place.new.since ≡ place.old.since) }
     ensures place { OnOk result (place.new.place ≡ place.old.place) }
 {
     let Some(channel) = action_channel(&offered.action) else {
@@ -296,14 +281,14 @@ pub(crate) fn add_ready_places(
     machine: &Machine,
     now: &Now<'_>,
     ready: &[Event],
-    standing: &Standing,
     places: &mut Vec<Place>,
 ) -> Result<(), AllocError>
-    ensures { OnOk result (AddsSpots now.now.table.now.lanes.items places.old.items places.new.items
-        (ready_spots machine.now ready.now)) }
+    requires { HasDepths now.now.live.now.live now.now.depths.now }
+    ensures { OnOk result (AddsSpots (deep_in now.now) places.old.items places.new.items
+        (ready_spots (seen_in machine.now now.now) ready.now)) }
 {
     for event in ready {
-        add_event_places(alloc, machine, now, event, standing, places)?;
+        add_event_places(alloc, machine, now, event, places)?;
     }
     Ok(())
 }
@@ -314,11 +299,11 @@ fn add_event_places(
     machine: &Machine,
     now: &Now<'_>,
     event: &Event,
-    standing: &Standing,
     places: &mut Vec<Place>,
 ) -> Result<(), AllocError>
-    ensures { OnOk result (AddsSpots now.now.table.now.lanes.items places.old.items places.new.items
-        (event_spots machine.now event.now)) }
+    requires { HasDepths now.now.live.now.live now.now.depths.now }
+    ensures { OnOk result (AddsSpots (deep_in now.now) places.old.items places.new.items
+        (event_spots (seen_in machine.now now.now) event.now)) }
 {
     add_ready_place(
         alloc,
@@ -327,7 +312,6 @@ fn add_event_places(
         event,
         &event.first,
         first_role(event),
-        standing,
         places,
     )?;
     match &event.second {
@@ -338,7 +322,6 @@ fn add_event_places(
             event,
             second,
             second_role(event.kind),
-            standing,
             places,
         ),
         None => Ok(()),
@@ -353,14 +336,14 @@ fn add_ready_place(
     event: &Event,
     place: &Address,
     role: Role,
-    standing: &Standing,
     places: &mut Vec<Place>,
 ) -> Result<(), AllocError>
-    ensures { OnOk result (AddsSpots now.now.table.now.lanes.items places.old.items places.new.items
-        (ready_spot machine.now event.now place.now role ∷ [])) }
+    requires { HasDepths now.now.live.now.live now.now.depths.now }
+    ensures { OnOk result (AddsSpots (deep_in now.now) places.old.items places.new.items
+        (ready_spot (seen_in machine.now now.now) event.now place.now role ∷ [])) }
 {
     let wanted = ready_wanted(alloc, event.channel)?;
-    let made = place_of(alloc, machine, now, place, role, wanted, true, standing)?;
+    let made = place_of(alloc, machine, now, place, role, wanted, true)?;
     places.push(made)?;
     Ok(())
 }

@@ -1,4 +1,7 @@
 mod OneOrder
+mod OnePage
+mod OnePicture
 mod OneRun
-mod SameLines
 mod SameShown
+mod SinceAgree
+mod Standing

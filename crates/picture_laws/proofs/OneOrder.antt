@@ -1,5 +1,5 @@
 -- Lists that have the same elements in one order, or the same at each index, are one.
-use Rattle.std.proofs.Common.{◌≡◌, inl, inr, ℕ, zero, suc, List, [], ◌∷◌, Some, refl, sym, ◌∙◌, ap, subst}
+use Rattle.std.proofs.Common.{◌≡◌, inl, inr, ℕ, zero, suc, List, [], ◌∷◌, refl, sym, ◌∙◌, ap, subst}
 use Rattle.std.specs.Prelude.{slice_get}
 use Rattle.syntax.specs.Lists.{In}
 use Rattle.runs.specs.InOrder.{InOrder}

@@ -4,7 +4,6 @@ use Rattle.std.specs.Prelude.{slice_get}
 use Rattle.std.proofs.lemmas.Bool.{cases_lt}
 use Rattle.std.proofs.lemmas.Option.{slice_get-get_or, slice_get_past}
 use Rattle.syntax.specs.Lists.{In}
-use Rattle.runs.specs.InOrder.{InOrder}
 use Rattle.runs.specs.Live.{Live, Rising}
 use Rattle.runs.specs.Steps.{State}
 use Rattle.runs.specs.declared.event.Event.{Event}
@@ -118,7 +117,7 @@ one-progress S GoesOn Done a b = absurd (b.0 a.0 a.1)
 one-progress S GoesOn Stuck a b = absurd (b.0 a.0 a.1)
 one-progress S Done GoesOn a b = absurd (a.0 b.0 b.1)
 one-progress S Done Done a b = refl
-one-progress S Done Stuck a b = absurd (true≢false (sym (a.1 b.1.0 b.1.1) ∙ b.1.2))
+one-progress S Done Stuck a b = absurd (true≢false (sym a.1 ∙ b.1))
 one-progress S Stuck GoesOn a b = absurd (a.0 b.0 b.1)
-one-progress S Stuck Done a b = absurd (true≢false (sym (b.1 a.1.0 a.1.1) ∙ a.1.2))
+one-progress S Stuck Done a b = absurd (true≢false (sym b.1 ∙ a.1))
 one-progress S Stuck Stuck a b = refl

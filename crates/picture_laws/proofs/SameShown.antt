@@ -1,13 +1,12 @@
 -- Pictures of equal runs show the same.
-use Rattle.std.proofs.Common.{◌≡◌, inl, inr, ℕ, zero, suc, ◌+◌, ◌||◌, ◌&&◌, Bool, List, [], ◌∷◌, Option, None, Some, refl, sym, ◌∙◌, ap, subst, arith}
-use Rattle.std.specs.Prelude.{IfSome, is_some, slice_get, slice_index}
+use Rattle.std.proofs.Common.{◌≡◌, ℕ, zero, suc, ◌+◌, ◌||◌, ◌&&◌, Bool, List, [], ◌∷◌, ◌++◌, map, Option, None, Some, refl, sym, ◌∙◌, ap, subst, arith}
+use Rattle.std.proofs.Math.Path.{fun_ext}
+use Rattle.std.specs.Prelude.{is_some, slice_get}
 use Rattle.syntax.specs.Lists.{In}
 use Rattle.sharing_check.specs.declared.checked.Checked.{Checked}
-use Rattle.branch_lanes.specs.Lanes.{lane_of}
-use Rattle.runs.specs.Live.{Live, LiveAt, Rising, events}
+use Rattle.runs.specs.Live.{Live, events}
 use Rattle.runs.specs.Moves.{Place}
 use Rattle.runs.specs.Object.{Reaches}
-use Rattle.runs.specs.Ready.{ReadyList}
 use Rattle.runs.specs.Steps.{Run, State, opening}
 use Rattle.runs.specs.declared.event.Event.{Event}
 use Rattle.runs.proofs.public.FromOpening.{one_state, respecting_orders}
@@ -15,12 +14,12 @@ use Rattle.runs.proofs.public.Options.{none-some}
 use Rattle.dependence.specs.Followers.{Follower}
 use Rattle.dependence.proofs.public.ListPlaces.{in-at}
 use Rattle.event_places.specs.EventPlaces.{line_after}
-use Rattle.run_depths.specs.Depths.{StandsAt}
 use Rattle.run_depths.proofs.public.Deepening.{one-place}
 use Rattle.depth_laws.specs.Laws.{AreEqualRuns}
 use Rattle.depth_laws.proofs.public.EqualRaces.{races-agree, same-event}
 use Rattle.depth_laws.proofs.public.EqualRuns.{depths-agree, followers-agree}
-use Rattle.depth_laws.proofs.public.OneState.{lines-agree, ready-agree, ready-lists}
+use Rattle.depth_laws.proofs.public.OneState.{lines-agree, ready-agree}
+use Rattle.typed.specs.declared.tree.Procedure.{Procedure}
 use Rattle.machine.specs.AtMachine.{AtMachine, object}
 use Rattle.local_actions.specs.declared.action.LocalAction.{LocalAction}
 use Rattle.rings.specs.Partners.{partner_in}
@@ -30,19 +29,22 @@ use Rattle.rings.specs.declared.partner.Partner.TheVariants as partner
 use Rattle.waiting.specs.Input.{fed_channel, helped_in, is_starved, takes_input}
 use Rattle.waiting.specs.Progress.{StandsLike, is_in_body, is_outlet}
 use Rattle.waiting.specs.Told.{IsTold}
-use Rattle.waiting.specs.Waits.{Waits}
-use Rattle.waiting.specs.declared.progress.Progress.{Progress}
+use Rattle.waiting.specs.Waits.{OneList, Waits}
 use Rattle.waiting.specs.declared.waiting.Waiting.{Waiting}
-use Rattle.picture_data.specs.Lines.{IsLaneOf, line_of, line_or_zero}
-use Rattle.picture_data.specs.Shown.{EachStandsIn, SecondStandsIn, Shows, StandsIn}
-use Rattle.picture_data.specs.Spots.{AreSpots, ShowsRing}
-use Rattle.picture_data.specs.declared.lane.Lane.{Lane}
+use Rattle.picture_lanes.specs.Ground.{found_in, lanes_of, uses_of, with_feeds}
+use Rattle.picture_lanes.specs.declared.lane.Lane.{Lane}
+use Rattle.picture_lanes.specs.declared.walk.ChannelUse.{ChannelUse}
+use Rattle.picture_data.specs.Lines.{line_of, line_or_zero}
+use Rattle.picture_data.specs.Shown.{EachStandsIn, Shows, StandsIn, seen_of}
+use Rattle.picture_data.specs.Spots.{ShowsRing, Spot, ready_spots, spot_of, waiting_spots, with_sides}
+use Rattle.picture_data.specs.Wanted.{Seen}
 use Rattle.picture_data.specs.declared.picture.Picture.{Picture}
 use Rattle.picture_data.specs.declared.places.Place.{Place as Shown}
 use Rattle.picture_data.specs.declared.actions.Actions.{Actions}
-use Rattle.picture_laws.specs.EqualPictures.{IsAtOnePlace, IsOneEnd, IsOneLane, IsOneRun, ShowTheSame, StandsInBoth}
-use Rattle.picture_laws.proofs.OneRun.{one-ahead, one-depths, one-progress, one-races}
-use Rattle.picture_laws.proofs.SameLines.{SameLines, same-places}
+use Rattle.picture_laws.specs.EqualPictures.{IsOneEnd, IsOneGround, ShowTheSame, StandsInBoth}
+use Rattle.picture_laws.proofs.OneRun.{one-progress}
+use Rattle.picture_laws.proofs.SinceAgree.{event-since, places-since, since-agrees}
+use Rattle.picture_laws.proofs.Standing.{SameLines, one-stand, one-stands}
 
 same-lines : (m n : AtMachine) → m.checked ≡ n.checked → AreEqualRuns m.checked m.live n.live → SameLines m n
 same-lines m n one equal a =
@@ -69,31 +71,6 @@ stands-at m lanes (f ∷ es) (r ∷ ss) zero e s each at told =
     let two : r ≡ s = cc in
     subst (λ (g : Event). StandsIn m lanes g s) one (subst (λ (q : Actions). StandsIn m lanes f q) two each.0)
 stands-at m lanes (f ∷ es) (r ∷ ss) (suc i) e s each at told = stands-at m lanes es ss i e s each.1 at told
-
-one-lane : (lanes others : List Lane) (a : Place) (k l : Option ℕ) → IfSome k (λ i. IsLaneOf lanes i a) → IfSome l (λ i. IsLaneOf others i a) →
-    IsOneLane lanes others k l
-one-lane lanes others a None l here there = tt
-one-lane lanes others a (Some k) None here there = tt
-one-lane lanes others a (Some k) (Some l) here there = (lane_of a, here, there)
-
-second-lane : (m n : AtMachine) (lanes others : List Lane) (o : Option Place) (s r : Actions) → SecondStandsIn m lanes o s → SecondStandsIn n others o r →
-    IsOneLane lanes others s.second_lane r.second_lane
-second-lane m n lanes others None s r here there = subst (λ (k : Option ℕ). IsOneLane lanes others k r.second_lane) (sym here.0) tt
-second-lane m n lanes others (Some b) s r here there = one-lane lanes others b s.second_lane r.second_lane here.0 there.0
-
-second-line : (m n : AtMachine) (lanes others : List Lane) (o : Option Place) (s r : Actions) → SameLines m n → SecondStandsIn m lanes o s →
-    SecondStandsIn n others o r → s.second_line ≡ r.second_line
-second-line m n lanes others None s r same here there = here.1 ∙ sym there.1
-second-line m n lanes others (Some b) s r same here there = here.1 ∙ same b ∙ sym there.1
-
-at-one-place : (m n : AtMachine) (lanes others : List Lane) (e : Event) (s r : Actions) → SameLines m n → StandsIn m lanes e s → StandsIn n others e r →
-    IsAtOnePlace lanes others s r
-at-one-place m n lanes others e s r same here there = record {
-  first_lane = one-lane lanes others e.first s.first_lane r.first_lane here.lane there.lane;
-  second_lane = second-lane m n lanes others e.second s r here.second there.second;
-  first_line = here.line ∙ same e.first ∙ sym there.line;
-  second_line = second-line m n lanes others e.second s r same here.second there.second;
-}
 
 -- ---- the end
 
@@ -124,8 +101,62 @@ no-ring m n S places others ring [] same here there none = refl
 no-ring m n S places others ring (k ∷ other) same here there none =
     absurd (subst (ShowsRing m S places) none here there.0 (subst (λ (h : Helped). IsRing (Waits S) h S.residual there.0) same there.2))
 
-one-end : (m n : AtMachine) (p q : Picture) → m.checked ≡ n.checked → AreEqualRuns m.checked m.live n.live → Shows m p → Shows n q → IsOneEnd m n p q
-one-end m n p q one equal here there =
+-- what both are drawn on
+pub one-ground : (m n : AtMachine) (procedures : List Procedure) (p q : Picture) → m.checked ≡ n.checked → Shows m procedures p → Shows n procedures q →
+    IsOneGround p q
+one-ground m n procedures p q one here there =
+    let lanes : p.lanes.items ≡ q.lanes.items = here.lanes ∙ ap (λ (c : Checked). lanes_of procedures c) one ∙ sym there.lanes in
+    record {
+      instances = here.instances ∙ ap (λ (c : Checked). (found_in procedures c).instances) one ∙ sym there.instances;
+      lanes = lanes;
+      feeds =
+          here.feeds
+          ∙ ap (λ (ls : List Lane). with_feeds ls 0 m.checked.environment []) lanes
+          ∙ ap (λ (c : Checked). with_feeds q.lanes.items 0 c.environment []) one
+          ∙ sym there.feeds;
+    }
+
+-- two answers that say the same, but for which ring there is
+record SameWait (v w : Waiting) : Type 0 where
+  pub actions : v.actions ≡ w.actions
+  pub partners : v.partners.items ≡ w.partners.items
+
+same-wait : OneList → (m n : AtMachine) (S : State) (v w : Waiting) → IsTold m S v → IsTold n S w → SameWait v w
+same-wait lists m n S v w here there =
+    let actions : v.actions ≡ w.actions = lists S v.actions w.actions here.actions there.actions in
+    record {
+      actions = actions;
+      partners = here.partners ∙ ap (λ (xs : List LocalAction). map (partner_in S.residual) xs) actions ∙ sym there.partners;
+    }
+
+-- what there is to see is the same of both
+seen-too : (m n : AtMachine) (procedures : List Procedure) (lanes others : List Lane) (v w : Waiting) (es fs : List Event) → m.checked ≡ n.checked →
+    SameLines m n → lanes ≡ others → v.actions ≡ w.actions → es ≡ fs →
+    seen_of m lanes (uses_of procedures m.checked) v es ≡ seen_of n others (uses_of procedures n.checked) w fs
+seen-too m n procedures lanes others v w es fs one same ground actions ready =
+    let made : (Place → ℕ) → List Lane → List ChannelUse → List LocalAction → List Event → Seen =
+    λ line ls us xs rs. record { line = line; around = record { lanes = ls; uses = us; actions = xs; ready = rs } } in
+    let lines : line_of m ≡ line_of n = fun_ext same in
+    ap (λ (line : Place → ℕ). made line lanes (uses_of procedures m.checked) v.actions es) lines
+    ∙ ap (λ (ls : List Lane). made (line_of n) ls (uses_of procedures m.checked) v.actions es) ground
+    ∙ ap (λ (c : Checked). made (line_of n) others (uses_of procedures c) v.actions es) one
+    ∙ ap (λ (xs : List LocalAction). made (line_of n) others (uses_of procedures n.checked) xs es) actions
+    ∙ ap (λ (rs : List Event). made (line_of n) others (uses_of procedures n.checked) w.actions rs) ready
+
+same-spots : (s t : Seen) (v w : Waiting) (es fs : List Event) → s ≡ t → SameWait v w → es ≡ fs →
+    waiting_spots s v ++ ready_spots s es ≡ waiting_spots t w ++ ready_spots t fs
+same-spots s t v w es fs seen same ready =
+    let made : Seen → List Partner → List LocalAction → List Event → List Spot = λ x ps xs rs. with_sides x [] ps 0 xs ++ ready_spots x rs in
+    ap (λ (x : Seen). made x v.partners.items v.actions es) seen
+    ∙ ap (λ (ps : List Partner). made t ps v.actions es) same.partners
+    ∙ ap (λ (xs : List LocalAction). made t w.partners.items xs es) same.actions
+    ∙ ap (λ (rs : List Event). made t w.partners.items w.actions rs) ready
+
+pub one-end : OneList → (m n : AtMachine) (procedures : List Procedure) (p q : Picture) → m.checked ≡ n.checked → AreEqualRuns m.checked m.live n.live →
+    Shows m procedures p → Shows n procedures q → IsOneEnd p q
+one-end lists m n procedures p q one equal here there =
+    let ground = one-ground m n procedures p q one here there in
+    let same = same-lines m n one equal in
     let list = here.end.ready in
     let list2 = there.end.ready in
     let run2 : Run (opening m.checked) (events n.live) list2.0 = subst (λ (c : Checked). Run (opening c) (events n.live) list2.0) (sym one) list2.1 in
@@ -133,40 +164,49 @@ one-end m n p q one equal here there =
     ready-agree m.checked m.live n.live list.0 list2.0 p.end.ready q.end.ready equal list.1 run2 list.2 list2.2 in
     let goes = here.end.progress in
     let goes2 = there.end.progress in
-    let told = here.end.waits.told in
-    let told2 = there.end.waits.told in
-    let ring = here.end.waits.ring in
-    let ring2 = there.end.waits.ring in
-    let told_here : IsTold n told.0 there.end.waits.waiting =
-    subst (λ (S : State). IsTold n S there.end.waits.waiting) (both-reach m n told.0 told2.0 one equal told.1 told2.1) told2.2 in
     let progress_here : StandsLike goes.0 q.end.progress =
     subst (λ (S : State). StandsLike S q.end.progress) (both-reach m n goes.0 goes2.0 one equal goes.1 goes2.1) goes2.2 in
+    let waits = here.end.waits in
+    let waits2 = there.end.waits in
+    let told = waits.told in
+    let told2 = waits2.told in
+    let told_here : IsTold n told.0 waits2.waiting =
+    subst (λ (S : State). IsTold n S waits2.waiting) (both-reach m n told.0 told2.0 one equal told.1 told2.1) told2.2 in
+    let wait = same-wait lists m n told.0 waits.waiting waits2.waiting told.2 told_here in
+    let s = seen_of m p.lanes.items (uses_of procedures m.checked) waits.waiting p.end.ready in
+    let t = seen_of n q.lanes.items (uses_of procedures n.checked) waits2.waiting q.end.ready in
+    let seen : s ≡ t =
+    seen-too m n procedures p.lanes.items q.lanes.items waits.waiting waits2.waiting p.end.ready q.end.ready one same ground.lanes wait.actions ready in
+    let places : map spot_of p.end.places.items ≡ map spot_of q.end.places.items =
+    waits.places ∙ same-spots s t waits.waiting waits2.waiting p.end.ready q.end.ready seen wait ready ∙ sym waits2.places in
+    let ring = waits.ring in
+    let ring2 = waits2.ring in
     let helped = helped-agree m n ring.0 one equal in
     let ring_here : ShowsRing n ring.0 q.end.places.items q.end.ring.items =
     subst (λ (S : State). ShowsRing n S q.end.places.items q.end.ring.items) (both-reach m n ring.0 ring2.0 one equal ring.1 ring2.1) ring2.2 in
     record {
       ready = ready;
+      ready_actions =
+          one-stands m n p.lanes.items q.lanes.items p.end.ready p.end.ready_actions.items q.end.ready_actions.items ground.lanes same
+          here.end.actions
+          (subst (λ (es : List Event). EachStandsIn n q.lanes.items es q.end.ready_actions.items) (sym ready) there.end.actions);
       progress = one-progress goes.0 p.end.progress q.end.progress goes.2 progress_here;
-      state = told.0;
-      reached = told.1;
-      waiting = here.end.waits.waiting;
-      told = told.2;
-      places = here.end.waits.places;
-      other = there.end.waits.waiting;
-      other_told = told_here;
-      other_places =
-          same-places m n there.end.waits.waiting p.end.ready q.end.places.items (same-lines m n one equal)
-          (subst (λ (es : List Event). AreSpots n there.end.waits.waiting es q.end.places.items) (sym ready) there.end.waits.places);
+      places = places;
+      places_since =
+          places-since (record { live = m.live; depths = p.steps.depths.items }) (record { live = n.live; depths = q.steps.depths.items })
+          p.end.places.items q.end.places.items
+          (since-agrees m.checked m.live n.live p.steps.depths.items q.steps.depths.items equal here.steps.depths there.steps.depths) places
+          waits.since waits2.since;
       ring = no-ring m n ring.0 p.end.places.items q.end.places.items p.end.ring.items q.end.ring.items helped ring.2 ring_here;
       other_ring = no-ring n m ring.0 q.end.places.items p.end.places.items q.end.ring.items p.end.ring.items (sym helped) ring_here ring.2;
     }
 
 -- ---- the steps
 
-follower-too : (m n : AtMachine) (p q : Picture) (i j d b : ℕ) (e f : Event) (row other : List ℕ) → AreEqualRuns m.checked m.live n.live → Shows m p →
-    Shows n q → StandsInBoth m n i j e → StandsInBoth m n (i + d) (j + b) f → slice_get p.steps.ahead i ≡ Some row →
+follower-too : (m n : AtMachine) (procedures : List Procedure) (p q : Picture) (i j d b : ℕ) (e f : Event) (row other : List ℕ) → AreEqualRuns m.checked m.live n.live → Shows m procedures p →
+    Shows n procedures q → StandsInBoth m n i j e → StandsInBoth m n (i + d) (j + b) f → slice_get p.steps.ahead i ≡ Some row →
     slice_get q.steps.ahead j ≡ Some other → In d row → In b other
-follower-too m n p q i j d b e f row other equal here there first second at-i at-j within =
+follower-too m n procedures p q i j d b e f row other equal here there first second at-i at-j within =
     let ahead = here.steps.ahead.each i first.ticket row (e, first.here) at-i in
     let ahead2 = there.steps.ahead.each j first.other other (e, first.there) at-j in
     let one = ahead.each d within in
@@ -182,40 +222,31 @@ follower-too m n p q i j d b e f row other equal here there first second at-i at
     let same : found.0 ≡ b = omega arith in
     subst (λ (k : ℕ). In k other) same found.1
 
-pub show-the-same : (m n : AtMachine) (p q : Picture) → m.checked ≡ n.checked → AreEqualRuns m.checked m.live n.live → Shows m p → Shows n q →
-    ShowTheSame m n p q
-show-the-same m n p q one equal here there = record {
+-- since when the places of an event
+since-too : (m n : AtMachine) (procedures : List Procedure) (p q : Picture) (i j : ℕ) (e : Event) (s r : ℕ × ℕ) → AreEqualRuns m.checked m.live n.live →
+    Shows m procedures p → Shows n procedures q → StandsInBoth m n i j e → slice_get p.steps.since.items i ≡ Some s →
+    slice_get q.steps.since.items j ≡ Some r → s ≡ r
+since-too m n procedures p q i j e s r equal here there both at-i at-j =
+    event-since m.live n.live p.steps.depths.items q.steps.depths.items e s r
+    (since-agrees m.checked m.live n.live p.steps.depths.items q.steps.depths.items equal here.steps.depths there.steps.depths)
+    (here.steps.since.each i both.ticket e s both.here at-i) (there.steps.since.each j both.other e r both.there at-j)
+
+pub show-the-same : OneList → (m n : AtMachine) (procedures : List Procedure) (p q : Picture) → m.checked ≡ n.checked →
+    AreEqualRuns m.checked m.live n.live → Shows m procedures p → Shows n procedures q → ShowTheSame m n p q
+show-the-same lists m n procedures p q one equal here there = record {
+  ground = one-ground m n procedures p q one here there;
   depths = λ i j e both.
       depths-agree m.checked m.live n.live p.steps.depths.items q.steps.depths.items i j both.ticket both.other e equal here.steps.depths
       there.steps.depths both.here both.there;
   followers = λ i j d b e f row other first second at-i at-j within.
-      follower-too m n p q i j d b e f row other equal here there first second at-i at-j within;
+      follower-too m n procedures p q i j d b e f row other equal here there first second at-i at-j within;
   actions = λ i j e s r both at-i at-j.
-      at-one-place m n p.lanes.items q.lanes.items e s r (same-lines m n one equal)
+      one-stand m n p.lanes.items q.lanes.items e s r (one-ground m n procedures p q one here there).lanes (same-lines m n one equal)
       (stands-at m p.lanes.items (events m.live) p.steps.actions.items i e s here.steps.actions (event-at m.live i both.ticket e both.here) at-i)
       (stands-at n q.lanes.items (events n.live) q.steps.actions.items j e r there.steps.actions (event-at n.live j both.other e both.there) at-j);
+  since = λ i j e s r both at-i at-j. since-too m n procedures p q i j e s r equal here there both at-i at-j;
   races = λ race i j e f within first second.
       races-agree m.checked m.live n.live p.steps.races.items q.steps.races.items race i j first.ticket second.ticket first.other second.other e f equal
       here.steps.races there.steps.races within first.here second.here first.there second.there;
-  end = one-end m n p q one equal here there;
+  end = one-end lists m n procedures p q one equal here there;
 }
-
--- ---- one run
-
-pub shows-one-run : (m : AtMachine) (p q : Picture) (low next : ℕ) → Rising low m.live next → Shows m p → Shows m q → IsOneRun p q
-shows-one-run m p q low next rising here there =
-    let list = here.end.ready in
-    let list2 = there.end.ready in
-    let goes = here.end.progress in
-    let goes2 = there.end.progress in
-    let ready_here : ReadyList list.0 q.end.ready =
-    subst (λ (S : State). ReadyList S q.end.ready) (one_state m.checked (events m.live) list2.0 list.0 list2.1 list.1) list2.2 in
-    let progress_here : StandsLike goes.0 q.end.progress =
-    subst (λ (S : State). StandsLike S q.end.progress) (one_state m.checked (events m.live) goes2.0 goes.0 goes2.1 goes.1) goes2.2 in
-    record {
-      depths = one-depths m.live p.steps.depths.items q.steps.depths.items here.steps.depths there.steps.depths;
-      ahead = one-ahead low next m.live p.steps.ahead q.steps.ahead rising here.steps.ahead there.steps.ahead;
-      races = one-races m.live p.steps.races.items q.steps.races.items here.steps.races there.steps.races;
-      ready = ready-lists list.0 p.end.ready q.end.ready list.2 ready_here;
-      progress = one-progress goes.0 p.end.progress q.end.progress goes.2 progress_here;
-    }

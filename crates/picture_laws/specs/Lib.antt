@@ -1,1 +1,2 @@
+pub mod EqualPages
 pub mod EqualPictures

@@ -1,17 +1,32 @@
-//! The laws of pictures: runs that differ only in the order of independent steps show the same, whatever their tickets,
-//! and one order of events shows the same at each index. The functions do nothing, their contracts say it.
+//! The laws of pictures: runs that differ only in the order of independent steps show the same, whatever their tickets;
+//! one order of events shows the same at each index; and so in the canonical order, as saved traces have it, such runs
+//! have one page, byte for byte. The functions do nothing, their contracts say it.
 #![tactic(auto)]
 
+ghost use Rattle.picture_laws.specs.EqualPages.{EqualRunsHaveOnePage};
 ghost use Rattle.picture_laws.specs.EqualPictures.{EqualRunsShowTheSame, OneRunShowsTheSame};
 
+use waiting::waiters_have_one_order;
+
 /// The pictures of two runs that differ only in the order of independent steps show the same of each event, and of the
-/// state that both reach.
+/// state that both reach, but for which ring they tell where there are several.
 pub fn equal_runs_show_the_same()
     ensures { EqualRunsShowTheSame }
-{}
+{
+    waiters_have_one_order();
+}
 
-/// Two pictures of one run have the same depths, followers, races, and events that can be taken, each at the same
-/// index.
+/// Two pictures of one run have the same at each index, with the same exception.
 pub fn one_run_shows_the_same()
     ensures { OneRunShowsTheSame }
-{}
+{
+    waiters_have_one_order();
+}
+
+/// Where the events of two such runs stand in the canonical order, the data and the page have the same bytes, with the
+/// same exception.
+pub fn equal_runs_have_one_page()
+    ensures { EqualRunsHaveOnePage }
+{
+    waiters_have_one_order();
+}

@@ -1,5 +1,5 @@
 -- Lists and members that a JSON text has grown by.
-use Rattle.std.proofs.Common.{◌≡◌, ◌∙◌, ℕ, ◌<◌, ◌≤◌, Option, List, [], ◌∷◌, ◌++◌, length, drop, map, append_assoc, refl, sym, subst, ap, arith}
+use Rattle.std.proofs.Common.{◌≡◌, ◌∙◌, ℕ, ◌<◌, ◌≤◌, Option, List, [], ◌∷◌, ◌++◌, length, drop, map, append_assoc, refl, subst, ap, arith}
 use Rattle.runs.specs.Live.{Live}
 use Rattle.runs.specs.declared.event.Event.{Event}
 use Rattle.system.specs.declared.system.System.{System}

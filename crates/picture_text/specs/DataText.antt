@@ -1,5 +1,5 @@
 -- The data of a picture as one JSON text, value by value.
-use Rattle.std.specs.Prelude.{ℕ, ◌+◌, ◌==◌, ◌&&◌, List, [], ◌∷◌, ◌++◌, Bool, true, false, cond, Option, None, Some, map, codes, slice_get}
+use Rattle.std.specs.Prelude.{ℕ, ◌+◌, ◌==◌, ◌&&◌, List, [], ◌∷◌, ◌++◌, Bool, true, cond, Option, None, Some, map, codes, slice_get}
 use Rattle.std.specs.Fmt.{decimal}
 use Rattle.std.specs.List.{flat_map}
 use Rattle.address.specs.Text.{text_of}
@@ -13,12 +13,11 @@ use Rattle.runs.specs.Events.{acting}
 use Rattle.runs.specs.Live.{Live}
 use Rattle.runs.specs.declared.event.Event.{Event}
 use Rattle.line_text.specs.EventText.{event_text}
+use Rattle.picture_lanes.specs.declared.lane.Feed.{Feed}
+use Rattle.picture_lanes.specs.declared.lane.Instance.{Instance}
+use Rattle.picture_lanes.specs.declared.lane.Lane.{Lane}
+use Rattle.picture_lanes.specs.declared.lane.LaneKind.{LaneKind}
 use Rattle.json_text.specs.Values.{list_text, member_text, object_text, optional_text, string_text}
-use Rattle.picture_data.specs.declared.end.End.{End}
-use Rattle.picture_data.specs.declared.ground.Feed.{Feed}
-use Rattle.picture_data.specs.declared.lane.Instance.{Instance}
-use Rattle.picture_data.specs.declared.lane.Lane.{Lane}
-use Rattle.picture_data.specs.declared.lane.LaneKind.{LaneKind}
 use Rattle.picture_data.specs.declared.picture.Picture.{Picture}
 use Rattle.picture_data.specs.declared.places.Place.{Place}
 use Rattle.picture_data.specs.declared.places.Role.{Role}
@@ -26,6 +25,7 @@ use Rattle.picture_data.specs.declared.places.Wanted.{Wanted}
 use Rattle.run_depths.specs.declared.races.Race.{Race}
 use Rattle.picture_data.specs.declared.actions.Actions.{Actions}
 use Rattle.picture_data.specs.declared.steps.Steps.{Steps}
+use Rattle.waiting.specs.declared.progress.Progress.{Progress}
 
 -- 1 for true, and 0 for false
 abbrev pub flag : Bool → ℕ
@@ -53,8 +53,8 @@ channel_text c = list_text (string_text c.name ∷ decimal (channel_width c.kind
 
 abbrev pub instance_text : Instance → List ℕ
 instance_text i =
-    list_text (string_text i.procedure.items ∷ string_text i.prefix.items ∷ optional_text i.parent ∷ decimal i.call_line
-    ∷ decimal i.line ∷ string_text i.arguments.items ∷ [])
+    list_text (string_text i.procedure ∷ string_text i.prefix ∷ optional_text i.parent ∷ decimal i.call_line
+    ∷ decimal i.line ∷ string_text i.arguments ∷ [])
 
 -- a slash before each number
 abbrev pub path_text : List ℕ → List ℕ
@@ -80,7 +80,7 @@ port_of (LaneKind.Body block) = None
 
 abbrev pub lane_text : Lane → List ℕ
 lane_text l =
-    list_text (string_text (path_text l.path.items) ∷ optional_text (block_of l.kind) ∷ decimal l.line
+    list_text (string_text (path_text l.path) ∷ optional_text (block_of l.kind) ∷ decimal l.line
     ∷ string_text (action_of l.kind) ∷ optional_text (port_of l.kind) ∷ [])
 
 -- a port's lane, and how much it has to give
@@ -181,6 +181,12 @@ abbrev pub rings_text : List ℕ → List ℕ
 rings_text [] = list_text []
 rings_text (i ∷ ring) = list_text (numbers_text (i ∷ ring) ∷ [])
 
+-- how the run stands, in a word
+abbrev pub progress_text : Progress → List ℕ
+progress_text Progress.GoesOn = codes "goes on"
+progress_text Progress.Done = codes "done"
+progress_text Progress.Stuck = codes "stuck"
+
 -- ---- all of it
 
 abbrev pub head_members : List ℕ → List ℕ → List ℕ → List ℕ → List (List ℕ)
@@ -207,6 +213,7 @@ run_members system l p =
     ∷ member_text (codes "ready") (list_text (ready_rows system p.end.ready_actions.items 0 p.end.ready))
     ∷ member_text (codes "places") (list_text (map place_row p.end.places.items))
     ∷ member_text (codes "rings") (rings_text p.end.ring.items)
+    ∷ member_text (codes "progress") (string_text (progress_text p.end.progress))
     ∷ []
 
 -- of the run of these live events, with the source, and the names of the three files

@@ -5,7 +5,7 @@ ghost use Rattle.json_text.specs.Strings.{IsPlain};
 ghost use Rattle.json_text.specs.Values.{with_values};
 ghost use Rattle.picture_text.specs.DataText as model;
 
-use crate::end::{add_places, add_ready, add_ring};
+use crate::end::{add_places, add_progress, add_ready, add_ring};
 use crate::ground::{add_channels, add_feeds, add_instances, add_lanes, add_variables};
 use crate::steps::{add_events, add_races, add_tickets};
 use json_text::{Item, Json};
@@ -99,5 +99,6 @@ fn add_run(
     add_races(json, picture.steps.races.as_slice())?;
     add_ready(json, system, &picture.end, &mut scratch)?;
     add_places(json, &picture.end, &mut scratch)?;
-    add_ring(json, picture.end.ring.as_slice())
+    add_ring(json, picture.end.ring.as_slice())?;
+    add_progress(json, picture.end.progress)
 }

@@ -14,6 +14,7 @@ use runs::Event;
 use std::alloc::AllocError;
 use system::System;
 use text_parts::{Piece, add_pieces};
+use waiting::Progress;
 
 /// Adds the events that can be taken, each with the line of a script that takes it.
 pub(crate) fn add_ready(
@@ -182,4 +183,32 @@ fn add_rings(json: &mut Json, ring: &[usize]) -> Result<(), AllocError>
     json.open_list()?;
     add_indexes(json, ring)?;
     json.close_list()
+}
+
+/// Adds how the run stands.
+#[tactic(auto, using(json_text::proofs::public::Growing::member_added))]
+pub(crate) fn add_progress(json: &mut Json, progress: Progress) -> Result<(), AllocError>
+    ensures { OnOk result (json.new ≡ with_value json.old
+        (member_text (codes "progress") (string_text (model.progress_text progress)))) }
+{
+    json.name("progress")?;
+    add_progress_word(json, progress)
+}
+
+/// Adds the word.
+fn add_progress_word(json: &mut Json, progress: Progress) -> Result<(), AllocError>
+    ensures { OnOk result (json.new ≡ with_value json.old (string_text (model.progress_text progress))) }
+{
+    json.text(progress_text(progress).as_bytes())
+}
+
+/// How a run stands, in a word.
+fn progress_text(progress: Progress) -> &'static str
+    ensures { result.now ≡ model.progress_text progress }
+{
+    match progress {
+        Progress::GoesOn => "goes on",
+        Progress::Done => "done",
+        Progress::Stuck => "stuck",
+    }
 }

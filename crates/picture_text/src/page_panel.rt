@@ -96,9 +96,9 @@ function card() {
         ).join('');
     else if (!ring) o +=
       `<div>` +
-        `<b>No step can be taken.</b> ` + (wait.length?
+        `<b>No step can be taken.</b> ` + (R.progress === 'done'? 'All is done.': wait.length?
         'What is left waits for more from the environment, or for a branch that has ended. There is no ring.':
-        'All is done.') + `</div>`;
+        'The circuit has come to a halt.') + `</div>`;
     if (wait.length) o += `<h2>Waits</h2><table>` + wait.slice(0, 60).map(p =>
       `<tr><td>${esc(who(p[0]))}${lineLink(p[2])}<td>${waitText(p)}`).join('') + '</table>'
   }

@@ -3,7 +3,7 @@ use Rattle.std.specs.Prelude.{◌≡◌, ℕ, List, [], ◌++◌, Bool, Option, 
 use Rattle.std.specs.Fmt.{decimal}
 use Rattle.value.specs.Word.{Word}
 use Rattle.system.specs.declared.system.System.{System}
-use Rattle.runs.specs.Live.{LastWriter, NoWriter}
+use Rattle.runs.specs.Live.{LastWriter, Live, NoWriter}
 use Rattle.runs.specs.Does.{Answers}
 use Rattle.runs.specs.declared.command.Command.{Command}
 use Rattle.runs.specs.declared.command.Refusal.{Refusal}
@@ -36,13 +36,13 @@ abbrev pub IsValue : AtMachine → ℕ → Option Word → Type 0
 IsValue m x v = Answers (object m) (Command.Value x) (value_reply v) (object m)
 
 -- this step wrote variable x last, or none did
-abbrev pub IsWriter : AtMachine → ℕ → Option ℕ → Type 0
-IsWriter m x writer = MatchOption writer (NoWriter m.live x) (λ t. LastWriter m.live x t)
+abbrev pub IsWriter : Live → ℕ → Option ℕ → Type 0
+IsWriter live x writer = MatchOption writer (NoWriter live x) (λ t. LastWriter live x t)
 
 -- the first line of the text: of the variable x of this name
 abbrev pub IsValueLine : AtMachine → List ℕ → ℕ → List ℕ → Type 0
 IsValueLine m name x line =
-    (v : Option Word) × (writer : Option ℕ) × IsValue m x v × IsWriter m x writer × (line ≡ value_line name v writer)
+    (v : Option Word) × (writer : Option ℕ) × IsValue m x v × IsWriter m.live x writer × (line ≡ value_line name v writer)
 
 -- the text of the past of a variable
 abbrev pub IsValueText : AtMachine → List ℕ → ℕ → Past → List ℕ → Type 0
@@ -57,7 +57,7 @@ step_text m t past = codes "step " ++ decimal t ++ ending ++ past_text m.checked
 -- ---- why there is nothing to tell
 
 abbrev pub unwritten_text : List ℕ → List ℕ
-unwritten_text name = codes "no step of the trace wrote `" ++ name ++ codes "`, so it is 0" ++ ending
+unwritten_text name = codes "no step of the trace wrote `" ++ name ++ codes "`, so it is 0\n"
 
 abbrev pub missing_text : List ℕ → ℕ → List ℕ
 missing_text subject count =

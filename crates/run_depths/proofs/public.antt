@@ -1,1 +1,2 @@
 pub mod Deepening
+pub mod Placing

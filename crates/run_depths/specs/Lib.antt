@@ -1,3 +1,4 @@
 pub mod Depths
 pub mod Races
+pub mod Since
 pub mod internal

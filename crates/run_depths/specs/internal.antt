@@ -1,1 +1,2 @@
+pub mod PlacesHeld
 pub mod RacesSoFar

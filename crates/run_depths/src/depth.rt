@@ -13,7 +13,8 @@ use std::alloc::{AllocError, Global};
 ///
 /// It is an error if there is no memory.
 pub fn depths_of(alloc: Global, live: &Live) -> Result<Vec<usize>, AllocError>
-    ensures { IfOk result (λ depths. AreDepths live.now.live depths.items) }
+    ensures depths { IfOk result (λ depths. AreDepths live.now.live depths.items) }
+    ensures small { IfOk result (λ depths. AreBelow depths.items) }
 {
     live.is_sound();
     let mut depths = Vec::with_capacity(alloc, live.len())?;
@@ -42,7 +43,7 @@ fn depth_of(live: &Live, depths: &[usize], ticket: u64) -> usize
 }
 
 /// The larger of two numbers.
-fn larger(one: usize, other: usize) -> usize
+pub(crate) fn larger(one: usize, other: usize) -> usize
     ensures { result ≡ max one other }
 {
     if one < other { other } else { one }

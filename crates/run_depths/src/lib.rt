@@ -5,7 +5,9 @@
 mod ahead;
 mod depth;
 mod races;
+mod since;
 
 pub use ahead::all_ahead;
 pub use depth::depths_of;
 pub use races::{Race, races_of};
+pub use since::{all_since, since_now};

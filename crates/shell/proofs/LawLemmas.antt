@@ -10,7 +10,8 @@ use Rattle.shell_desk.specs.AtBench.{AtBench}
 use Rattle.shell_desk.specs.Laws.{EachDeedIsCommands, of_session}
 use Rattle.shell_desk.specs.declared.deed.Deed.{Deed}
 use Rattle.shell.specs.Laws.{IsOrLoaded, LinesAreCommands}
-use Rattle.shell.specs.Lines.{Holding, LineLeaves, LinesLeave}
+use Rattle.shell.specs.Files.{Files}
+use Rattle.shell.specs.Lines.{LineLeaves, LinesLeave}
 use Rattle.shell.specs.declared.answer.Outcome.{Outcome}
 
 -- the desk d' is what commands leave of d, or of a new one on an execution that was loaded
@@ -31,29 +32,31 @@ comes-then source stimulus d m d' (start, how, (cs, rs, before)) (from, inl same
 comes-then source stimulus d m d' first (from, inr loaded, rest) = (from, inr loaded, rest)
 
 -- what one line leaves
-comes-line : (holds : Holding) (source stimulus : List ℕ) (b m : AtBench) (line : List ℕ) (outcome : Outcome) → EachDeedIsCommands
-    → LineLeaves holds source stimulus b line outcome m → Comes source stimulus b.desk m.desk
-comes-line holds source stimulus b m line Outcome.Done each (deed, done, asks, does) =
+comes-line : (files : Files) (source stimulus : List ℕ) (b m : AtBench) (line : List ℕ) (outcome : Outcome) → EachDeedIsCommands
+    → LineLeaves files source stimulus b line outcome m → Comes source stimulus b.desk m.desk
+comes-line files source stimulus b m line Outcome.Done each (deed, done, asks, does) =
     let left = each b m deed done does in (b.desk, inl refl, (of_session b.session left.0, left.1, left.2))
-comes-line holds source stimulus b m line Outcome.Unread each h =
+comes-line files source stimulus b m line Outcome.Unread each h =
     comes-still source stimulus b.desk m.desk (ap (λ (x : AtBench). x.desk) h)
-comes-line holds source stimulus b m line Outcome.Saved each h =
+comes-line files source stimulus b m line Outcome.Saved each h =
     comes-still source stimulus b.desk m.desk (ap (λ (x : AtBench). x.desk) h.0)
-comes-line holds source stimulus b m line Outcome.Loaded each (name, text, is, held, (machine, of, turns)) =
+comes-line files source stimulus b m line Outcome.Scripted each h =
+    comes-still source stimulus b.desk m.desk (ap (λ (x : AtBench). x.desk) h.0)
+comes-line files source stimulus b m line Outcome.Loaded each (name, text, is, held, (machine, of, turns)) =
     (new_desk machine, inr (machine, (of.0, of.1, (text, of.2)), refl), (turns.0.0, turns.0.1, turns.0.3))
-comes-line holds source stimulus b m line Outcome.NotLoaded each h =
+comes-line files source stimulus b m line Outcome.NotLoaded each h =
     comes-still source stimulus b.desk m.desk (ap (λ (x : AtBench). x.desk) h.0)
-comes-line holds source stimulus b m line Outcome.Over each h =
+comes-line files source stimulus b m line Outcome.Over each h =
     comes-still source stimulus b.desk m.desk (ap (λ (x : AtBench). x.desk) h.0)
 
 -- what all lines leave
-comes-all : (holds : Holding) → EachDeedIsCommands → (source stimulus : List ℕ) (b b' : AtBench) (lines : List (List ℕ))
-    → LinesLeave holds source stimulus b lines b' → Comes source stimulus b.desk b'.desk
-comes-all holds each source stimulus b b' [] h = comes-still source stimulus b.desk b'.desk (ap (λ (x : AtBench). x.desk) h)
-comes-all holds each source stimulus b b' (line ∷ lines) (outcome, m, leaves, last, rest) =
-    comes-then source stimulus b.desk m.desk b'.desk (comes-line holds source stimulus b m line outcome each leaves)
-    (comes-all holds each source stimulus m b' lines rest)
+comes-all : (files : Files) → EachDeedIsCommands → (source stimulus : List ℕ) (b b' : AtBench) (lines : List (List ℕ))
+    → LinesLeave files source stimulus b lines b' → Comes source stimulus b.desk b'.desk
+comes-all files each source stimulus b b' [] h = comes-still source stimulus b.desk b'.desk (ap (λ (x : AtBench). x.desk) h)
+comes-all files each source stimulus b b' (line ∷ lines) (outcome, m, leaves, last, rest) =
+    comes-then source stimulus b.desk m.desk b'.desk (comes-line files source stimulus b m line outcome each leaves)
+    (comes-all files each source stimulus m b' lines rest)
 
 -- the law
-pub lines-are : (holds : Holding) → EachDeedIsCommands → LinesAreCommands holds
-lines-are holds each source stimulus b b' lines h = comes-all holds each source stimulus b b' lines h
+pub lines-are : (files : Files) → EachDeedIsCommands → LinesAreCommands files
+lines-are files each source stimulus b b' lines h = comes-all files each source stimulus b b' lines h

@@ -1,8 +1,11 @@
 -- What lines leave, part by part.
-use Rattle.std.proofs.Common.{◌≡◌, ◌≢◌, ◌⊎◌, inl, inr, ℕ, List, [], ◌∷◌, Bool, true, false, Option, Some, refl, sym, ap, ◌∙◌, subst}
+use Rattle.std.proofs.Common.{◌≡◌, ◌≢◌, ◌⊎◌, inl, inr, ℕ, List, [], ◌∷◌, Bool, true, false, Option, Some, None, length, refl, sym, ap, ◌∙◌, subst}
 use Rattle.std.proofs.lemmas.Bool.{false≢true}
 use Rattle.std.specs.Option.{IfSome}
+use Rattle.decimal.specs.Reading.{IsNoNumber, Reads}
+use Rattle.decimal.proofs.public.DigitLemmas.{no-number-empty}
 use Rattle.system.specs.declared.system.System.{System}
+use Rattle.locked_execution.specs.declared.command.Command.{Command}
 use Rattle.line_text.specs.Fields.{CutAtSpace}
 use Rattle.machine.specs.AtMachine.{AtMachine}
 use Rattle.debug_session.specs.Lines.{Says, AsksNothing, MayBeStep}
@@ -12,7 +15,7 @@ use Rattle.debug_session.specs.declared.fault.Fault.{Fault}
 use Rattle.runs.specs.Live.{events}
 use Rattle.trace_file.specs.TraceText.{IsTrace}
 use Rattle.shell_desk.specs.AtBench.{AtBench}
-use Rattle.shell_desk.specs.Does.{Does, NamesSession, TurnsTo}
+use Rattle.shell_desk.specs.Does.{AsksIfAny, Does, NamesSession, TurnsTo, numbered_as}
 use Rattle.shell_desk.specs.Tidied.{tidied}
 use Rattle.shell_desk.specs.Words.{spelling, AsksDeed}
 use Rattle.shell_desk.specs.internal.Spelled.{AsksNoDeed, SpellsNothing}
@@ -22,86 +25,125 @@ use Rattle.shell_desk.specs.declared.word.Word.{Word}
 use Rattle.shell_desk.specs.declared.word.Word.TheVariants.{R, N, Run, Next, Undo, Back, Why, Waiting, Outline, Vars, List as ListWord, Show, Save, SaveOver, Load, Script, ScriptOver, Help, Quit}
 use Rattle.shell.specs.Asking.{GoesOnWith, IsWordWith, LineAsks, ShellAsks, TextAsks, deed_of}
 use Rattle.shell.specs.Beginning.{BeginsAt}
-use Rattle.shell.specs.Lines.{AnsweredAsScript, AnsweredAsTyped, Holding, Leaves, LineLeaves, SaidAsScript, line_count}
-use Rattle.shell.specs.internal.Parts.{AsksNoDeedAtAll, Begun, LoadsTrace, Quits, RestsWith, SavesTrace, WordMeans, WordsAsk, is_want}
+use Rattle.shell.specs.Files.{Files}
+use Rattle.shell.specs.Lines.{AnsweredAsNumber, AnsweredAsScript, AnsweredAsStep, AnsweredAsTidied, AnsweredAsTyped, IsNewOrOver, Leaves, LineLeaves, SaidAsScript, line_count}
+use Rattle.shell.specs.internal.Parts.{AsksNoDeedAtAll, Begun, IsNewUnless, LoadsTrace, Quits, RestsWith, SavesTrace, TakesNumber, WordMeans, WordsAsk, WritesFile, is_want}
 use Rattle.shell.specs.declared.answer.Outcome.{Outcome}
 use Rattle.shell.proofs.OwnLemmas.{if-some, if-some-by}
 
 -- what asks or is worded in one way does so in another
-pub leaves-by : (A A' : Deed → Type 0) (B B' : Word → List ℕ → Type 0) (holds : Holding) (source stimulus : List ℕ) (b b' : AtBench)
+pub leaves-by : (A A' : Deed → Type 0) (B B' : Word → List ℕ → Type 0) (files : Files) (source stimulus : List ℕ) (b b' : AtBench)
     (outcome : Outcome) → ((deed : Deed) → A deed → A' deed) → ((w : Word) (rest : List ℕ) → B w rest → B' w rest)
-    → Leaves A B holds source stimulus b outcome b' → Leaves A' B' holds source stimulus b outcome b'
-leaves-by A A' B B' holds source stimulus b b' Outcome.Done f g h = (h.0, h.1, f h.0 h.2, h.3)
-leaves-by A A' B B' holds source stimulus b b' Outcome.Unread f g h = h
-leaves-by A A' B B' holds source stimulus b b' Outcome.Saved f g (e, (rest, inl is, saved)) = (e, (rest, inl (g Save rest is), saved))
-leaves-by A A' B B' holds source stimulus b b' Outcome.Saved f g (e, (rest, inr is, saved)) =
+    → Leaves A B files source stimulus b outcome b' → Leaves A' B' files source stimulus b outcome b'
+leaves-by A A' B B' files source stimulus b b' Outcome.Done f g h = (h.0, h.1, f h.0 h.2, h.3)
+leaves-by A A' B B' files source stimulus b b' Outcome.Unread f g h = h
+leaves-by A A' B B' files source stimulus b b' Outcome.Saved f g (e, (rest, inl (is, new), saved)) =
+    (e, (rest, inl (g Save rest is, new), saved))
+leaves-by A A' B B' files source stimulus b b' Outcome.Saved f g (e, (rest, inr is, saved)) =
     (e, (rest, inr (g SaveOver rest is), saved))
-leaves-by A A' B B' holds source stimulus b b' Outcome.Loaded f g (name, text, is, held, of) =
+leaves-by A A' B B' files source stimulus b b' Outcome.Scripted f g (e, (rest, inl (is, new), written)) =
+    (e, (rest, inl (g Script rest is, new), written))
+leaves-by A A' B B' files source stimulus b b' Outcome.Scripted f g (e, (rest, inr is, written)) =
+    (e, (rest, inr (g ScriptOver rest is), written))
+leaves-by A A' B B' files source stimulus b b' Outcome.Loaded f g (name, text, is, held, of) =
     (name, text, g Load (32 ∷ name) is, held, of)
-leaves-by A A' B B' holds source stimulus b b' Outcome.NotLoaded f g (e, (rest, is)) = (e, (rest, g Load rest is))
-leaves-by A A' B B' holds source stimulus b b' Outcome.Over f g (e, is) = (e, g Quit [] is)
+leaves-by A A' B B' files source stimulus b b' Outcome.NotLoaded f g (e, (rest, is)) = (e, (rest, g Load rest is))
+leaves-by A A' B B' files source stimulus b b' Outcome.Over f g (e, is) = (e, g Quit [] is)
 
 -- the deed that was asked is done
-pub done-leaves : (A : Deed → Type 0) (B : Word → List ℕ → Type 0) (holds : Holding) (source stimulus : List ℕ) (b b' : AtBench)
+pub done-leaves : (A : Deed → Type 0) (B : Word → List ℕ → Type 0) (files : Files) (source stimulus : List ℕ) (b b' : AtBench)
     (outcome : Outcome) (deed : Deed) → outcome ≡ Outcome.Done → A deed → ((done : Done) × Does b deed done b')
-    → Leaves A B holds source stimulus b outcome b'
-done-leaves A B holds source stimulus b b' outcome deed e asks h =
-    subst (λ (o : Outcome). Leaves A B holds source stimulus b o b') (sym e) (deed, h.0, asks, h.1)
+    → Leaves A B files source stimulus b outcome b'
+done-leaves A B files source stimulus b b' outcome deed e asks h =
+    subst (λ (o : Outcome). Leaves A B files source stimulus b o b') (sym e) (deed, h.0, asks, h.1)
 
 -- nothing was asked
-pub rest-leaves : (A : Deed → Type 0) (B : Word → List ℕ → Type 0) (holds : Holding) (source stimulus : List ℕ) (b : AtBench)
-    (outcome : Outcome) → outcome ≡ Outcome.Done → A Deed.Rest → Leaves A B holds source stimulus b outcome b
-rest-leaves A B holds source stimulus b outcome e asks =
-    subst (λ (o : Outcome). Leaves A B holds source stimulus b o b) (sym e) (Deed.Rest, Done.Rested, asks, (refl, refl))
+pub rest-leaves : (A : Deed → Type 0) (B : Word → List ℕ → Type 0) (files : Files) (source stimulus : List ℕ) (b : AtBench)
+    (outcome : Outcome) → outcome ≡ Outcome.Done → A Deed.Rest → Leaves A B files source stimulus b outcome b
+rest-leaves A B files source stimulus b outcome e asks =
+    subst (λ (o : Outcome). Leaves A B files source stimulus b o b) (sym e) (Deed.Rest, Done.Rested, asks, (refl, refl))
 
 -- there was no memory to read it
-pub unread-leaves : (A : Deed → Type 0) (B : Word → List ℕ → Type 0) (holds : Holding) (source stimulus : List ℕ) (b : AtBench)
-    (outcome : Outcome) → outcome ≡ Outcome.Unread → Leaves A B holds source stimulus b outcome b
-unread-leaves A B holds source stimulus b outcome e =
-    subst (λ (o : Outcome). Leaves A B holds source stimulus b o b) (sym e) refl
+pub unread-leaves : (A : Deed → Type 0) (B : Word → List ℕ → Type 0) (files : Files) (source stimulus : List ℕ) (b : AtBench)
+    (outcome : Outcome) → outcome ≡ Outcome.Unread → Leaves A B files source stimulus b outcome b
+unread-leaves A B files source stimulus b outcome e =
+    subst (λ (o : Outcome). Leaves A B files source stimulus b o b) (sym e) refl
 
 -- the trace was saved, or was not
-pub saves-leave : (A : Deed → Type 0) (B : Word → List ℕ → Type 0) (holds : Holding) (source stimulus : List ℕ) (b : AtBench)
-    (rest : List ℕ) (outcome : Outcome) → A Deed.Rest → B Save rest ⊎ B SaveOver rest → SavesTrace holds b rest outcome
-    → Leaves A B holds source stimulus b outcome b
-saves-leave A B holds source stimulus b rest outcome asks is (inl e) = rest-leaves A B holds source stimulus b outcome e asks
-saves-leave A B holds source stimulus b rest outcome asks is (inr h) =
-    subst (λ (o : Outcome). Leaves A B holds source stimulus b o b) (sym h.0) (refl, (rest, is, h.1))
+pub saves-leave : (A : Deed → Type 0) (B : Word → List ℕ → Type 0) (files : Files) (source stimulus : List ℕ) (b : AtBench)
+    (rest : List ℕ) (over : Bool) (outcome : Outcome) → A Deed.Rest
+    → (IsNewUnless files over rest → IsNewOrOver files (B Save rest) (B SaveOver rest) rest)
+    → SavesTrace files b rest over outcome → Leaves A B files source stimulus b outcome b
+saves-leave A B files source stimulus b rest over outcome asks is (inl e) =
+    rest-leaves A B files source stimulus b outcome e asks
+saves-leave A B files source stimulus b rest over outcome asks is (inr (e, saved, new)) =
+    subst (λ (o : Outcome). Leaves A B files source stimulus b o b) (sym e) (refl, (rest, is new, saved))
+
+-- the lines so far were written, or were not
+pub scripts-leave : (A : Deed → Type 0) (B : Word → List ℕ → Type 0) (files : Files) (source stimulus : List ℕ) (b : AtBench)
+    (bytes rest : List ℕ) (over : Bool) (outcome : Outcome) → A Deed.Rest
+    → (IsNewUnless files over rest → IsNewOrOver files (B Script rest) (B ScriptOver rest) rest)
+    → WritesFile files bytes rest over Outcome.Scripted outcome → Leaves A B files source stimulus b outcome b
+scripts-leave A B files source stimulus b bytes rest over outcome asks is (inl e) =
+    rest-leaves A B files source stimulus b outcome e asks
+scripts-leave A B files source stimulus b bytes rest over outcome asks is (inr (e, (name, named, held), new)) =
+    subst (λ (o : Outcome). Leaves A B files source stimulus b o b) (sym e)
+    (refl, (rest, is new, (name, bytes, named, held)))
+
+-- a file was written, or was not
+abbrev pub WroteFile : Files → List ℕ → List ℕ → Bool → Outcome → Outcome → Type 0
+WroteFile files name bytes over done outcome =
+    (outcome ≡ Outcome.Done)
+    ⊎ ((outcome ≡ done) × files.holds name bytes × (over ≡ false → files.free name))
 
 -- the trace of the machine at the bench was written to the file of this name, or was not
-pub saves-trace : (holds : Holding) (b : AtBench) (m : AtMachine) (rest name text bytes : List ℕ) (outcome : Outcome)
+pub saves-trace : (files : Files) (b : AtBench) (m : AtMachine) (rest name text bytes : List ℕ) (over : Bool) (outcome : Outcome)
     → m ≡ b.desk.machine → rest ≡ 32 ∷ name → IsTrace (events m.live) text → bytes ≡ text
-    → (outcome ≡ Outcome.Done) ⊎ ((outcome ≡ Outcome.Saved) × holds name bytes) → SavesTrace holds b rest outcome
-saves-trace holds b m rest name text bytes outcome same named is alike (inl e) = inl e
-saves-trace holds b m rest name text bytes outcome same named is alike (inr h) =
+    → WroteFile files name bytes over Outcome.Saved outcome → SavesTrace files b rest over outcome
+saves-trace files b m rest name text bytes over outcome same named is alike (inl e) = inl e
+saves-trace files b m rest name text bytes over outcome same named is alike (inr (e, held, new)) =
     inr (
-      h.0,
+      e,
       (
         name,
         bytes,
         named,
         subst (λ (t : List ℕ). IsTrace (events b.desk.machine.live) t) (sym alike)
             (subst (λ (x : AtMachine). IsTrace (events x.live) text) same is),
-        h.1,
+        held,
       ),
+      λ f. (name, named, new f),
+    )
+
+-- the lines so far were written to the file of this name, or were not
+pub writes-file : (files : Files) (rest name bytes lines : List ℕ) (over : Bool) (done outcome : Outcome)
+    → rest ≡ 32 ∷ name → bytes ≡ lines → WroteFile files name bytes over done outcome
+    → WritesFile files lines rest over done outcome
+writes-file files rest name bytes lines over done outcome named alike (inl e) = inl e
+writes-file files rest name bytes lines over done outcome named alike (inr (e, held, new)) =
+    inr (
+      e,
+      (name, named, subst (λ (t : List ℕ). files.holds name t) alike held),
+      λ f. (name, named, new f),
     )
 
 -- none was loaded
-pub not-loaded-leaves : (A : Deed → Type 0) (B : Word → List ℕ → Type 0) (holds : Holding) (source stimulus : List ℕ) (b : AtBench)
-    (rest : List ℕ) (outcome : Outcome) → outcome ≡ Outcome.NotLoaded → B Load rest → Leaves A B holds source stimulus b outcome b
-not-loaded-leaves A B holds source stimulus b rest outcome e is =
-    subst (λ (o : Outcome). Leaves A B holds source stimulus b o b) (sym e) (refl, (rest, is))
+pub not-loaded-leaves : (A : Deed → Type 0) (B : Word → List ℕ → Type 0) (files : Files) (source stimulus : List ℕ) (b : AtBench)
+    (rest : List ℕ) (outcome : Outcome) → outcome ≡ Outcome.NotLoaded → B Load rest → Leaves A B files source stimulus b outcome b
+not-loaded-leaves A B files source stimulus b rest outcome e is =
+    subst (λ (o : Outcome). Leaves A B files source stimulus b o b) (sym e) (refl, (rest, is))
 
 -- what the file of this name had was loaded, or was not
-pub loads-leave : (A : Deed → Type 0) (B : Word → List ℕ → Type 0) (holds : Holding) (source stimulus : List ℕ) (b b' : AtBench)
-    (name text : List ℕ) (outcome : Outcome) → B Load (32 ∷ name) → holds name text
-    → LoadsTrace source stimulus text b outcome b' → Leaves A B holds source stimulus b outcome b'
-loads-leave A B holds source stimulus b b' name text Outcome.Done is held h = absurd h
-loads-leave A B holds source stimulus b b' name text Outcome.Unread is held h = absurd h
-loads-leave A B holds source stimulus b b' name text Outcome.Saved is held h = absurd h
-loads-leave A B holds source stimulus b b' name text Outcome.Loaded is held h = (name, text, is, held, h)
-loads-leave A B holds source stimulus b b' name text Outcome.NotLoaded is held h = (h, ((32 ∷ name), is))
-loads-leave A B holds source stimulus b b' name text Outcome.Over is held h = absurd h
+pub loads-leave : (A : Deed → Type 0) (B : Word → List ℕ → Type 0) (files : Files) (source stimulus : List ℕ) (b b' : AtBench)
+    (name text : List ℕ) (outcome : Outcome) → B Load (32 ∷ name) → files.holds name text
+    → LoadsTrace source stimulus text b outcome b' → Leaves A B files source stimulus b outcome b'
+loads-leave A B files source stimulus b b' name text Outcome.Done is held h = absurd h
+loads-leave A B files source stimulus b b' name text Outcome.Unread is held h = absurd h
+loads-leave A B files source stimulus b b' name text Outcome.Saved is held h = absurd h
+loads-leave A B files source stimulus b b' name text Outcome.Scripted is held h = absurd h
+loads-leave A B files source stimulus b b' name text Outcome.Loaded is held h = (name, text, is, held, h)
+loads-leave A B files source stimulus b b' name text Outcome.NotLoaded is held h = (h, ((32 ∷ name), is))
+loads-leave A B files source stimulus b b' name text Outcome.Over is held h = absurd h
 
 -- a machine stands in place
 pub loaded-trace : (source stimulus text : List ℕ) (b b' : AtBench) (m : AtMachine) (outcome : Outcome) → outcome ≡ Outcome.Loaded
@@ -116,13 +158,13 @@ not-loaded-trace source stimulus text b outcome e =
     subst (λ (o : Outcome). LoadsTrace source stimulus text b o b) (sym e) refl
 
 -- it was the last line, or a word that does not fit
-pub quit-leaves : (A : Deed → Type 0) (B : Word → List ℕ → Type 0) (holds : Holding) (source stimulus : List ℕ) (b : AtBench)
+pub quit-leaves : (A : Deed → Type 0) (B : Word → List ℕ → Type 0) (files : Files) (source stimulus : List ℕ) (b : AtBench)
     (rest : List ℕ) (outcome : Outcome) → Quits rest outcome → (rest ≢ [] → A Deed.Rest) → B Quit rest
-    → Leaves A B holds source stimulus b outcome b
-quit-leaves A B holds source stimulus b rest outcome (inl h) asks is =
-    subst (λ (o : Outcome). Leaves A B holds source stimulus b o b) (sym h.1) (refl, subst (λ (t : List ℕ). B Quit t) h.0 is)
-quit-leaves A B holds source stimulus b rest outcome (inr h) asks is =
-    rest-leaves A B holds source stimulus b outcome h.1 (asks h.0)
+    → Leaves A B files source stimulus b outcome b
+quit-leaves A B files source stimulus b rest outcome (inl h) asks is =
+    subst (λ (o : Outcome). Leaves A B files source stimulus b o b) (sym h.1) (refl, subst (λ (t : List ℕ). B Quit t) h.0 is)
+quit-leaves A B files source stimulus b rest outcome (inr h) asks is =
+    rest-leaves A B files source stimulus b outcome h.1 (asks h.0)
 
 -- the session goes on behind each other word
 pub goes-on-with : (word : Word) (rest : List ℕ) → word ≢ Load → word ≢ Quit → GoesOnWith word rest
@@ -147,48 +189,63 @@ goes-on-with Help rest load quit = tt
 goes-on-with Quit rest load quit = absurd (quit refl)
 
 -- a word by which a trace is loaded, or is not
-pub other-load : (holds : Holding) (source stimulus : List ℕ) (b b' : AtBench) (word : Word) (rest : List ℕ) (outcome : Outcome)
-    → word ≡ Load → Leaves AsksNoDeedAtAll (Begun Load rest) holds source stimulus b outcome b'
-    → Leaves (RestsWith word rest) (Begun word rest) holds source stimulus b outcome b'
-other-load holds source stimulus b b' word rest outcome e h =
-    leaves-by AsksNoDeedAtAll (RestsWith word rest) (Begun Load rest) (Begun word rest) holds source stimulus b b' outcome
+pub other-load : (files : Files) (source stimulus : List ℕ) (b b' : AtBench) (word : Word) (rest : List ℕ) (outcome : Outcome)
+    → word ≡ Load → Leaves AsksNoDeedAtAll (Begun Load rest) files source stimulus b outcome b'
+    → Leaves (RestsWith word rest) (Begun word rest) files source stimulus b outcome b'
+other-load files source stimulus b b' word rest outcome e h =
+    leaves-by AsksNoDeedAtAll (RestsWith word rest) (Begun Load rest) (Begun word rest) files source stimulus b b' outcome
     (λ deed none. absurd none) (λ w r begun. (begun.0 ∙ sym e, begun.1)) h
 
 -- the word by which a session ends, or is told how it is written
-pub other-quit : (holds : Holding) (source stimulus : List ℕ) (b : AtBench) (word : Word) (rest : List ℕ) (outcome : Outcome)
-    → word ≡ Quit → Quits rest outcome → Leaves (RestsWith word rest) (Begun word rest) holds source stimulus b outcome b
-other-quit holds source stimulus b word rest outcome e quits =
-    quit-leaves (RestsWith word rest) (Begun word rest) holds source stimulus b rest outcome quits
+pub other-quit : (files : Files) (source stimulus : List ℕ) (b : AtBench) (word : Word) (rest : List ℕ) (outcome : Outcome)
+    → word ≡ Quit → Quits rest outcome → Leaves (RestsWith word rest) (Begun word rest) files source stimulus b outcome b
+other-quit files source stimulus b word rest outcome e quits =
+    quit-leaves (RestsWith word rest) (Begun word rest) files source stimulus b rest outcome quits
     (λ filled. (subst (λ (w : Word). GoesOnWith w rest) (sym e) filled, refl)) (sym e, refl)
 
 -- the words by which the trace is saved
-pub other-save : (holds : Holding) (source stimulus : List ℕ) (b : AtBench) (word : Word) (rest : List ℕ) (outcome : Outcome)
-    → word ≡ Save → SavesTrace holds b rest outcome
-    → Leaves (RestsWith word rest) (Begun word rest) holds source stimulus b outcome b
-other-save holds source stimulus b word rest outcome e h =
-    saves-leave (RestsWith word rest) (Begun word rest) holds source stimulus b rest outcome
-    (subst (λ (w : Word). GoesOnWith w rest) (sym e) tt, refl) (inl (sym e, refl)) h
+pub other-save : (files : Files) (source stimulus : List ℕ) (b : AtBench) (word : Word) (rest : List ℕ) (outcome : Outcome)
+    → word ≡ Save → SavesTrace files b rest false outcome
+    → Leaves (RestsWith word rest) (Begun word rest) files source stimulus b outcome b
+other-save files source stimulus b word rest outcome e h =
+    saves-leave (RestsWith word rest) (Begun word rest) files source stimulus b rest false outcome
+    (subst (λ (w : Word). GoesOnWith w rest) (sym e) tt, refl) (λ new. inl ((sym e, refl), new refl)) h
 
-pub other-save-over : (holds : Holding) (source stimulus : List ℕ) (b : AtBench) (word : Word) (rest : List ℕ) (outcome : Outcome)
-    → word ≡ SaveOver → SavesTrace holds b rest outcome
-    → Leaves (RestsWith word rest) (Begun word rest) holds source stimulus b outcome b
-other-save-over holds source stimulus b word rest outcome e h =
-    saves-leave (RestsWith word rest) (Begun word rest) holds source stimulus b rest outcome
-    (subst (λ (w : Word). GoesOnWith w rest) (sym e) tt, refl) (inr (sym e, refl)) h
+pub other-save-over : (files : Files) (source stimulus : List ℕ) (b : AtBench) (word : Word) (rest : List ℕ) (outcome : Outcome)
+    → word ≡ SaveOver → SavesTrace files b rest true outcome
+    → Leaves (RestsWith word rest) (Begun word rest) files source stimulus b outcome b
+other-save-over files source stimulus b word rest outcome e h =
+    saves-leave (RestsWith word rest) (Begun word rest) files source stimulus b rest true outcome
+    (subst (λ (w : Word). GoesOnWith w rest) (sym e) tt, refl) (λ new. inr (sym e, refl)) h
+
+-- the words by which the lines so far are
+pub other-script : (files : Files) (source stimulus : List ℕ) (b : AtBench) (word : Word) (bytes rest : List ℕ) (outcome : Outcome)
+    → word ≡ Script → WritesFile files bytes rest false Outcome.Scripted outcome
+    → Leaves (RestsWith word rest) (Begun word rest) files source stimulus b outcome b
+other-script files source stimulus b word bytes rest outcome e h =
+    scripts-leave (RestsWith word rest) (Begun word rest) files source stimulus b bytes rest false outcome
+    (subst (λ (w : Word). GoesOnWith w rest) (sym e) tt, refl) (λ new. inl ((sym e, refl), new refl)) h
+
+pub other-script-over : (files : Files) (source stimulus : List ℕ) (b : AtBench) (word : Word) (bytes rest : List ℕ) (outcome : Outcome)
+    → word ≡ ScriptOver → WritesFile files bytes rest true Outcome.Scripted outcome
+    → Leaves (RestsWith word rest) (Begun word rest) files source stimulus b outcome b
+other-script-over files source stimulus b word bytes rest outcome e h =
+    scripts-leave (RestsWith word rest) (Begun word rest) files source stimulus b bytes rest true outcome
+    (subst (λ (w : Word). GoesOnWith w rest) (sym e) tt, refl) (λ new. inr (sym e, refl)) h
 
 -- a word that is answered in words alone
-pub other-told : (holds : Holding) (source stimulus : List ℕ) (b : AtBench) (word : Word) (rest : List ℕ) (outcome : Outcome)
+pub other-told : (files : Files) (source stimulus : List ℕ) (b : AtBench) (word : Word) (rest : List ℕ) (outcome : Outcome)
     → GoesOnWith word rest → outcome ≡ Outcome.Done
-    → Leaves (RestsWith word rest) (Begun word rest) holds source stimulus b outcome b
-other-told holds source stimulus b word rest outcome goes e =
-    rest-leaves (RestsWith word rest) (Begun word rest) holds source stimulus b outcome e (goes, refl)
+    → Leaves (RestsWith word rest) (Begun word rest) files source stimulus b outcome b
+other-told files source stimulus b word rest outcome goes e =
+    rest-leaves (RestsWith word rest) (Begun word rest) files source stimulus b outcome e (goes, refl)
 
 -- a word that asks nothing of the desk
-pub word-other : (holds : Holding) (source stimulus : List ℕ) (b b' : AtBench) (word : Word) (rest : List ℕ) (outcome : Outcome)
-    → AsksNoDeed word rest → Leaves (RestsWith word rest) (Begun word rest) holds source stimulus b outcome b'
-    → Leaves (WordMeans word rest) (Begun word rest) holds source stimulus b outcome b'
-word-other holds source stimulus b b' word rest outcome none h =
-    leaves-by (RestsWith word rest) (WordMeans word rest) (Begun word rest) (Begun word rest) holds source stimulus b b' outcome
+pub word-other : (files : Files) (source stimulus : List ℕ) (b b' : AtBench) (word : Word) (rest : List ℕ) (outcome : Outcome)
+    → AsksNoDeed word rest → Leaves (RestsWith word rest) (Begun word rest) files source stimulus b outcome b'
+    → Leaves (WordMeans word rest) (Begun word rest) files source stimulus b outcome b'
+word-other files source stimulus b b' word rest outcome none h =
+    leaves-by (RestsWith word rest) (WordMeans word rest) (Begun word rest) (Begun word rest) files source stimulus b b' outcome
     (λ deed rests. inr (none, rests)) (λ w r begun. begun) h
 
 -- what words ask names no session
@@ -286,12 +343,37 @@ own-lines items source b b' line said answer checked e one says h =
     if-some-by (λ v. SaidAsScript source b said (items v) b') (λ v. AnsweredAsScript source b line (items v) b') answer
     (λ v own. own-line source b b' line (items v) said one (subst (λ (s : System). Says s line said) e says) own) h
 
+-- an empty text is no number
+empty-no-number : (text : List ℕ) → text ≡ [] → IsNoNumber text
+empty-no-number text e = no-number-empty text (ap length e)
+
+-- what a text says is answered as a tidied text is
+tidied-said : (source : List ℕ) (b b' : AtBench) (text own : List ℕ) (said : Line) → Says b.desk.machine.checked text said
+    → AnsweredAsScript source b text own b' → AnsweredAsTidied source b text own b'
+tidied-said source b b' text own said (inl asks) h = (h, λ nothing. absurd (nothing said asks))
+tidied-said source b b' text own said (inr empty) h = (h, λ nothing. inl (empty-no-number text empty.0))
+
+-- the same of what is answered, if something is
+pub tidied-says : {V : Type 0} (items : V → List ℕ) (source : List ℕ) (b b' : AtBench) (text : List ℕ) (said : Line)
+    (answer : Option V) (checked : System) → checked ≡ b.desk.machine.checked → Says checked text said
+    → IfSome answer (λ v. AnsweredAsScript source b text (items v) b')
+    → IfSome answer (λ v. AnsweredAsTidied source b text (items v) b')
+tidied-says items source b b' text said answer checked e says h =
+    if-some-by (λ v. AnsweredAsScript source b text (items v) b') (λ v. AnsweredAsTidied source b text (items v) b') answer
+    (λ v own. tidied-said source b b' text (items v) said (subst (λ (s : System). Says s text said) e says) own) h
+
 -- what a line of a script is answered is what it is answered as typed
 pub typed-said : (source : List ℕ) (b b' : AtBench) (line own : List ℕ) (said : Line) → Says b.desk.machine.checked line said
     → AnsweredAsScript source b line own b' → AnsweredAsTyped source b line own b'
 typed-said source b b' line own said (inl asks) h = (h, (λ nothing. absurd (nothing said asks)))
 typed-said source b b' line own said (inr empty) h =
-    (h, (λ nothing. subst (λ (t : List ℕ). AnsweredAsScript source b t own b') (empty.0 ∙ sym (ap tidied empty.0)) h))
+    let none : tidied line ≡ [] = ap tidied empty.0 in (
+      h,
+      (λ nothing. (
+        subst (λ (t : List ℕ). AnsweredAsScript source b t own b') (empty.0 ∙ sym none) h,
+        λ asks. inl (empty-no-number (tidied line) none),
+      )),
+    )
 
 -- the same of what is answered, if something is
 pub typed-says : {V : Type 0} (items : V → List ℕ) (source : List ℕ) (b b' : AtBench) (line : List ℕ) (said : Line) (answer : Option V)
@@ -301,36 +383,96 @@ typed-says items source b b' line said answer checked e says h =
     if-some-by (λ v. AnsweredAsScript source b line (items v) b') (λ v. AnsweredAsTyped source b line (items v) b') answer
     (λ v own. typed-said source b b' line (items v) said (subst (λ (s : System). Says s line said) e says) own) h
 
+-- a number is answered as a tidied text is, where that is no line of a script
+pub tidied-number : {V : Type 0} (items : V → List ℕ) (source : List ℕ) (b b' : AtBench) (text : List ℕ) (answer : Option V)
+    → AsksNothing b.desk.machine.checked text → text ≢ []
+    → IfSome answer (λ v. AnsweredAsNumber source b text (items v) b')
+    → IfSome answer (λ v. AnsweredAsTidied source b text (items v) b')
+tidied-number items source b b' text answer nothing filled h =
+    if-some-by (λ v. AnsweredAsNumber source b text (items v) b') (λ v. AnsweredAsTidied source b text (items v) b') answer
+    (λ v own. (unsaid-own source b b' text (items v) nothing filled, (λ none. own))) h
+
 -- what a line is answered once it is tidied is what it is answered as typed, where it is none of a script
 pub typed-loose : {V : Type 0} (items : V → List ℕ) (source : List ℕ) (b b' : AtBench) (line : List ℕ) (answer : Option V)
     → AsksNothing b.desk.machine.checked line → line ≢ []
-    → IfSome answer (λ v. AnsweredAsScript source b (tidied line) (items v) b')
+    → IfSome answer (λ v. AnsweredAsTidied source b (tidied line) (items v) b')
     → IfSome answer (λ v. AnsweredAsTyped source b line (items v) b')
 typed-loose items source b b' line answer nothing filled h =
-    if-some-by (λ v. AnsweredAsScript source b (tidied line) (items v) b') (λ v. AnsweredAsTyped source b line (items v) b') answer
+    if-some-by (λ v. AnsweredAsTidied source b (tidied line) (items v) b') (λ v. AnsweredAsTyped source b line (items v) b') answer
     (λ v own. (unsaid-own source b b' line (items v) nothing filled, (λ none. own))) h
 
 -- what a text is answered that is a tidied line is what the tidied line is answered
 pub owns-as : {V : Type 0} (items : V → List ℕ) (source : List ℕ) (b b' : AtBench) (text line : List ℕ) (answer : Option V)
-    → text ≡ tidied line → IfSome answer (λ v. AnsweredAsScript source b text (items v) b')
-    → IfSome answer (λ v. AnsweredAsScript source b (tidied line) (items v) b')
+    → text ≡ tidied line → IfSome answer (λ v. AnsweredAsTidied source b text (items v) b')
+    → IfSome answer (λ v. AnsweredAsTidied source b (tidied line) (items v) b')
 owns-as items source b b' text line answer e h =
-    subst (λ (t : List ℕ). IfSome answer (λ v. AnsweredAsScript source b t (items v) b')) e h
+    subst (λ (t : List ℕ). IfSome answer (λ v. AnsweredAsTidied source b t (items v) b')) e h
+
+-- a number takes a step, or there was no memory to read it
+pub number-leaves : (files : Files) (source stimulus text : List ℕ) (b b' : AtBench) (n : ℕ) (outcome : Outcome)
+    → Reads text n → TakesNumber n b outcome b'
+    → Leaves (ShellAsks text) (IsWordWith text) files source stimulus b outcome b'
+number-leaves files source stimulus text b b' n outcome reads (inl (e, does)) =
+    done-leaves (ShellAsks text) (IsWordWith text) files source stimulus b b' outcome (Deed.Take n) e
+    (inl (n, reads, refl)) does
+number-leaves files source stimulus text b b' n outcome reads (inr (e, same)) =
+    subst (λ (o : Outcome). Leaves (ShellAsks text) (IsWordWith text) files source stimulus b o b') (sym e) same
+
+-- the command that has the number was asked
+pub takes-asked : (b b' : AtBench) (n : ℕ) (c : Command) (outcome : Outcome) → outcome ≡ Outcome.Done
+    → Some c ≡ numbered_as b.numbered n → ((done : Done) × Does b (Deed.Ask c) done b') → TakesNumber n b outcome b'
+takes-asked b b' n c outcome e at (done, does) =
+    inl (e, (done, subst (λ (o : Option Command). AsksIfAny b o done b') at does))
+
+-- no command has it
+pub takes-none : (b : AtBench) (n : ℕ) (outcome : Outcome) → outcome ≡ Outcome.Done → None ≡ numbered_as b.numbered n
+    → TakesNumber n b outcome b
+takes-none b n outcome e at =
+    inl (e, (Done.Unknown, subst (λ (o : Option Command). AsksIfAny b o Done.Unknown b) at (refl, refl)))
+
+-- its own answer is that of the command which has the number
+pub step-owns : {V : Type 0} (items : V → List ℕ) (source : List ℕ) (b b' : AtBench) (n : ℕ) (c : Command) (answer : Option V)
+    → Some c ≡ numbered_as b.numbered n → IfSome answer (λ v. SaidAsScript source b (Line.Asked c) (items v) b')
+    → IfSome answer (λ v. AnsweredAsStep source b n (items v) b')
+step-owns items source b b' n c answer at h =
+    if-some-by (λ v. SaidAsScript source b (Line.Asked c) (items v) b') (λ v. AnsweredAsStep source b n (items v) b') answer
+    (λ v own other is.
+    let same : c ≡ other = cc in
+    subst (λ (x : Command). SaidAsScript source b (Line.Asked x) (items v) b') same own) h
+
+-- where none has it nothing is owed
+pub none-owns : {V : Type 0} (items : V → List ℕ) (source : List ℕ) (b b' : AtBench) (n : ℕ) (answer : Option V)
+    → None ≡ numbered_as b.numbered n → IfSome answer (λ v. AnsweredAsStep source b n (items v) b')
+none-owns items source b b' n answer at =
+    if-some (λ v. AnsweredAsStep source b n (items v) b') answer (λ v other is. absurd (cc))
+
+-- what is owed to the number is owed to the text
+pub number-owns : {V : Type 0} (items : V → List ℕ) (source : List ℕ) (b b' : AtBench) (text : List ℕ) (n : ℕ) (answer : Option V)
+    → Reads text n → IfSome answer (λ v. AnsweredAsStep source b n (items v) b')
+    → IfSome answer (λ v. AnsweredAsNumber source b text (items v) b')
+number-owns items source b b' text n answer reads h =
+    if-some-by (λ v. AnsweredAsStep source b n (items v) b') (λ v. AnsweredAsNumber source b text (items v) b') answer
+    (λ v own. inr (n, reads, own)) h
+
+pub words-owns : {V : Type 0} (items : V → List ℕ) (source : List ℕ) (b b' : AtBench) (text : List ℕ) (answer : Option V)
+    → IsNoNumber text → IfSome answer (λ v. AnsweredAsNumber source b text (items v) b')
+words-owns items source b b' text answer none =
+    if-some (λ v. AnsweredAsNumber source b text (items v) b') answer (λ v. inl none)
 
 -- a line that is none of a script as it stands leaves what it leaves once it is tidied
-pub loose-line : (holds : Holding) (source stimulus line text : List ℕ) (b b' : AtBench) (outcome : Outcome) → text ≡ tidied line
+pub loose-line : (files : Files) (source stimulus line text : List ℕ) (b b' : AtBench) (outcome : Outcome) → text ≡ tidied line
     → AsksNothing b.desk.machine.checked line
-    → Leaves (TextAsks b.desk.machine.checked text) (IsWordWith text) holds source stimulus b outcome b'
-    → LineLeaves holds source stimulus b line outcome b'
-loose-line holds source stimulus line text b b' outcome e nothing h =
+    → Leaves (TextAsks b.desk.machine.checked text) (IsWordWith text) files source stimulus b outcome b'
+    → LineLeaves files source stimulus b line outcome b'
+loose-line files source stimulus line text b b' outcome e nothing h =
     leaves-by (TextAsks b.desk.machine.checked (tidied line)) (LineAsks b.desk.machine.checked line) (IsWordWith (tidied line))
-    (IsWordWith (tidied line)) holds source stimulus b b' outcome (λ deed asks. inr (nothing, asks)) (λ w rest is. is)
-    (subst (λ (t : List ℕ). Leaves (TextAsks b.desk.machine.checked t) (IsWordWith t) holds source stimulus b outcome b') e h)
+    (IsWordWith (tidied line)) files source stimulus b b' outcome (λ deed asks. inr (nothing, asks)) (λ w rest is. is)
+    (subst (λ (t : List ℕ). Leaves (TextAsks b.desk.machine.checked t) (IsWordWith t) files source stimulus b outcome b') e h)
 
 -- a text that is none of a script leaves what it leaves in a shell
-pub shell-text : (holds : Holding) (source stimulus text : List ℕ) (b b' : AtBench) (outcome : Outcome) → AsksNothing b.desk.machine.checked text
-    → Leaves (ShellAsks text) (IsWordWith text) holds source stimulus b outcome b'
-    → Leaves (TextAsks b.desk.machine.checked text) (IsWordWith text) holds source stimulus b outcome b'
-shell-text holds source stimulus text b b' outcome nothing h =
-    leaves-by (ShellAsks text) (TextAsks b.desk.machine.checked text) (IsWordWith text) (IsWordWith text) holds source stimulus
+pub shell-text : (files : Files) (source stimulus text : List ℕ) (b b' : AtBench) (outcome : Outcome) → AsksNothing b.desk.machine.checked text
+    → Leaves (ShellAsks text) (IsWordWith text) files source stimulus b outcome b'
+    → Leaves (TextAsks b.desk.machine.checked text) (IsWordWith text) files source stimulus b outcome b'
+shell-text files source stimulus text b b' outcome nothing h =
+    leaves-by (ShellAsks text) (TextAsks b.desk.machine.checked text) (IsWordWith text) (IsWordWith text) files source stimulus
     b b' outcome (λ deed asks. inr (nothing, asks)) (λ w rest is. is) h

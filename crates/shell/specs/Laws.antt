@@ -7,7 +7,8 @@ use Rattle.locked_execution.specs.declared.command.Command.{Command}
 use Rattle.locked_execution.specs.declared.command.Reply.{Reply}
 use Rattle.shell_desk.specs.AtBench.{AtBench}
 use Rattle.shell.specs.Beginning.{IsOfTrace}
-use Rattle.shell.specs.Lines.{Holding, LinesLeave}
+use Rattle.shell.specs.Files.{Files}
+use Rattle.shell.specs.Lines.{LinesLeave}
 
 -- the desk is one, or a new one on an execution that a trace gives
 abbrev pub IsOrLoaded : List ℕ → List ℕ → AtDesk → AtDesk → Type 0
@@ -16,8 +17,8 @@ IsOrLoaded source stimulus before d =
 
 -- whatever lines come, the desk is then what a list of commands of sessions leaves of the one before, or of a new one
 -- on an execution that was loaded
-abbrev pub LinesAreCommands : Holding → Type 0
-LinesAreCommands holds =
-    (source stimulus : List ℕ) (b b' : AtBench) (lines : List (List ℕ)) → LinesLeave holds source stimulus b lines b'
+abbrev pub LinesAreCommands : Files → Type 0
+LinesAreCommands files =
+    (source stimulus : List ℕ) (b b' : AtBench) (lines : List (List ℕ)) → LinesLeave files source stimulus b lines b'
     → (d : AtDesk) × IsOrLoaded source stimulus b.desk d
     × ((commands : List (ℕ × Command)) × (replies : List Reply) × Answered d commands replies b'.desk)

@@ -1,26 +1,25 @@
 -- What the lines of a session leave.
 use Rattle.std.specs.Prelude.{ℕ, ◌≡◌, ◌⊎◌, ◌+◌, ◌==◌, if◌then◌else◌, List, [], ◌∷◌, Some}
+use Rattle.decimal.specs.Reading.{IsNoNumber, Reads}
 use Rattle.runs.specs.Live.{events}
 use Rattle.machine.specs.AtMachine.{AtMachine}
 use Rattle.trace_file.specs.TraceText.{IsTrace}
+use Rattle.locked_execution.specs.declared.command.Command.{Command}
 use Rattle.debug_session.specs.AtLine.{AtLine}
 use Rattle.debug_session.specs.Lines.{AsksNothing, Says}
 use Rattle.debug_session.specs.Transcript.{SaidAnswered}
 use Rattle.debug_session.specs.declared.line.Line.{Line}
 use Rattle.shell_desk.specs.AtBench.{AtBench}
-use Rattle.shell_desk.specs.Does.{Does, TurnsTo}
+use Rattle.shell_desk.specs.Does.{Does, TurnsTo, numbered_as}
 use Rattle.shell_desk.specs.Tidied.{tidied}
 use Rattle.shell_desk.specs.declared.deed.Deed.{Deed}
 use Rattle.shell_desk.specs.declared.deed.Done.{Done}
 use Rattle.shell_desk.specs.declared.word.Word.{Word}
-use Rattle.shell_desk.specs.declared.word.Word.TheVariants.{Load, Quit, Save, SaveOver}
+use Rattle.shell_desk.specs.declared.word.Word.TheVariants.{Load, Quit, Save, SaveOver, Script, ScriptOver}
 use Rattle.shell.specs.Asking.{LineAsks, IsWordWith}
 use Rattle.shell.specs.Beginning.{BeginsAt}
+use Rattle.shell.specs.Files.{Files}
 use Rattle.shell.specs.declared.answer.Outcome.{Outcome}
-
--- of a name and bytes: whether a file of this name may have had them, at some moment of a session
-abbrev pub Holding : Type 1
-Holding = List ℕ → List ℕ → Type 0
 
 -- how many lines have an end in the text
 abbrev pub ended_count : List ℕ → ℕ
@@ -32,29 +31,47 @@ abbrev pub line_count : List ℕ → ℕ
 line_count text = ended_count text + 1
 
 -- the trace of the live events is in the file whose name stands behind a space
-abbrev pub IsSaved : Holding → AtBench → List ℕ → Type 0
-IsSaved holds b rest =
-    (name : List ℕ) × (text : List ℕ) × (rest ≡ 32 ∷ name) × IsTrace (events b.desk.machine.live) text × holds name text
+abbrev pub IsSaved : Files → AtBench → List ℕ → Type 0
+IsSaved files b rest =
+    (name : List ℕ) × (text : List ℕ) × (rest ≡ 32 ∷ name) × IsTrace (events b.desk.machine.live) text
+    × files.holds name text
+
+-- some bytes are in the file whose name stands behind a space
+abbrev pub IsWritten : Files → List ℕ → Type 0
+IsWritten files rest = (name : List ℕ) × (text : List ℕ) × (rest ≡ 32 ∷ name) × files.holds name text
+
+-- nothing had the name that stands behind a space
+abbrev pub IsNew : Files → List ℕ → Type 0
+IsNew files rest = (name : List ℕ) × (rest ≡ 32 ∷ name) × files.free name
+
+-- it is the first word, and nothing had the name; or it is the other, which writes over a file
+abbrev pub IsNewOrOver : Files → Type 0 → Type 0 → List ℕ → Type 0
+IsNewOrOver files New Over rest = (New × IsNew files rest) ⊎ Over
 
 -- a line that asks such a deed, or is such a word with such a rest, becomes this and leaves b': what it asks is done;
--- or nothing is, for want of memory; or it is a line `save` or `save!`, and the trace is in the file; or it is a line
--- `load`, and the execution that the file tells of stands in place, or none does; or it is the line `quit`
-abbrev pub Leaves : (Deed → Type 0) → (Word → List ℕ → Type 0) → Holding → List ℕ → List ℕ → AtBench → Outcome
+-- or nothing is, for want of memory; or it is a line `save` or `save!`, and the trace is in the file, or `script` or
+-- `script!`, and some lines are; or it is a line `load`, and the execution that the file tells of stands in place, or
+-- none does; or it is the line `quit`
+abbrev pub Leaves : (Deed → Type 0) → (Word → List ℕ → Type 0) → Files → List ℕ → List ℕ → AtBench → Outcome
     → AtBench → Type 0
-Leaves Asks Is holds source stimulus b Outcome.Done b' = (deed : Deed) × (done : Done) × Asks deed × Does b deed done b'
-Leaves Asks Is holds source stimulus b Outcome.Unread b' = b' ≡ b
-Leaves Asks Is holds source stimulus b Outcome.Saved b' =
-    (b' ≡ b) × ((rest : List ℕ) × (Is Save rest ⊎ Is SaveOver rest) × IsSaved holds b rest)
-Leaves Asks Is holds source stimulus b Outcome.Loaded b' =
-    (name : List ℕ) × (text : List ℕ) × Is Load (32 ∷ name) × holds name text
+Leaves Asks Is files source stimulus b Outcome.Done b' = (deed : Deed) × (done : Done) × Asks deed × Does b deed done b'
+Leaves Asks Is files source stimulus b Outcome.Unread b' = b' ≡ b
+Leaves Asks Is files source stimulus b Outcome.Saved b' =
+    (b' ≡ b)
+    × ((rest : List ℕ) × IsNewOrOver files (Is Save rest) (Is SaveOver rest) rest × IsSaved files b rest)
+Leaves Asks Is files source stimulus b Outcome.Scripted b' =
+    (b' ≡ b)
+    × ((rest : List ℕ) × IsNewOrOver files (Is Script rest) (Is ScriptOver rest) rest × IsWritten files rest)
+Leaves Asks Is files source stimulus b Outcome.Loaded b' =
+    (name : List ℕ) × (text : List ℕ) × Is Load (32 ∷ name) × files.holds name text
     × ((m : AtMachine) × BeginsAt source stimulus (Some text) m × TurnsTo b (line_count source) m b')
-Leaves Asks Is holds source stimulus b Outcome.NotLoaded b' = (b' ≡ b) × ((rest : List ℕ) × Is Load rest)
-Leaves Asks Is holds source stimulus b Outcome.Over b' = (b' ≡ b) × Is Quit []
+Leaves Asks Is files source stimulus b Outcome.NotLoaded b' = (b' ≡ b) × ((rest : List ℕ) × Is Load rest)
+Leaves Asks Is files source stimulus b Outcome.Over b' = (b' ≡ b) × Is Quit []
 
 -- the line becomes this, and leaves b'
-abbrev pub LineLeaves : Holding → List ℕ → List ℕ → AtBench → List ℕ → Outcome → AtBench → Type 0
-LineLeaves holds source stimulus b line outcome b' =
-    Leaves (LineAsks b.desk.machine.checked line) (IsWordWith (tidied line)) holds source stimulus b outcome b'
+abbrev pub LineLeaves : Files → List ℕ → List ℕ → AtBench → List ℕ → Outcome → AtBench → Type 0
+LineLeaves files source stimulus b line outcome b' =
+    Leaves (LineAsks b.desk.machine.checked line) (IsWordWith (tidied line)) files source stimulus b outcome b'
 
 -- the bench, with the source that a view shows, as a script has come to it
 abbrev pub at_line : List ℕ → AtBench → AtLine
@@ -70,19 +87,35 @@ abbrev pub AnsweredAsScript : List ℕ → AtBench → List ℕ → List ℕ →
 AnsweredAsScript source b line own b' =
     (said : Line) → Says b.desk.machine.checked line said → SaidAsScript source b said own b'
 
--- a line has its own answer: that of the line of a script that it is, or that it is once it is tidied
+-- the step that has the number is answered as its line of a script is
+abbrev pub AnsweredAsStep : List ℕ → AtBench → ℕ → List ℕ → AtBench → Type 0
+AnsweredAsStep source b n own b' =
+    (c : Command) → numbered_as b.numbered n ≡ Some c → SaidAsScript source b (Line.Asked c) own b'
+
+-- so is a text, where it is a number
+abbrev pub AnsweredAsNumber : List ℕ → AtBench → List ℕ → List ℕ → AtBench → Type 0
+AnsweredAsNumber source b text own b' =
+    IsNoNumber text ⊎ ((n : ℕ) × Reads text n × AnsweredAsStep source b n own b')
+
+-- a text that is tidied has its own answer: that of the line of a script that it is, or of the step that has its number
+abbrev pub AnsweredAsTidied : List ℕ → AtBench → List ℕ → List ℕ → AtBench → Type 0
+AnsweredAsTidied source b text own b' =
+    AnsweredAsScript source b text own b'
+    × (AsksNothing b.desk.machine.checked text → AnsweredAsNumber source b text own b')
+
+-- a line has its own answer: that of the line of a script that it is, or that of what it is once it is tidied
 abbrev pub AnsweredAsTyped : List ℕ → AtBench → List ℕ → List ℕ → AtBench → Type 0
 AnsweredAsTyped source b line own b' =
     AnsweredAsScript source b line own b'
-    × (AsksNothing b.desk.machine.checked line → AnsweredAsScript source b (tidied line) own b')
+    × (AsksNothing b.desk.machine.checked line → AnsweredAsTidied source b (tidied line) own b')
 
 -- no line comes behind one that ended the session
 abbrev pub IsLastIfOver : Outcome → List (List ℕ) → Type 0
 IsLastIfOver outcome lines = outcome ≡ Outcome.Over → lines ≡ []
 
 -- the lines leave b', one after another
-abbrev pub LinesLeave : Holding → List ℕ → List ℕ → AtBench → List (List ℕ) → AtBench → Type 0
-LinesLeave holds source stimulus b [] b' = b' ≡ b
-LinesLeave holds source stimulus b (line ∷ lines) b' =
-    (outcome : Outcome) × (m : AtBench) × LineLeaves holds source stimulus b line outcome m × IsLastIfOver outcome lines
-    × LinesLeave holds source stimulus m lines b'
+abbrev pub LinesLeave : Files → List ℕ → List ℕ → AtBench → List (List ℕ) → AtBench → Type 0
+LinesLeave files source stimulus b [] b' = b' ≡ b
+LinesLeave files source stimulus b (line ∷ lines) b' =
+    (outcome : Outcome) × (m : AtBench) × LineLeaves files source stimulus b line outcome m × IsLastIfOver outcome lines
+    × LinesLeave files source stimulus m lines b'

@@ -12,7 +12,8 @@ use Rattle.shell_desk.specs.Tidied.{tidied}
 use Rattle.shell_desk.specs.declared.word.Word.TheVariants.{Quit}
 use Rattle.shell.specs.Asking.{IsWordWith}
 use Rattle.shell.specs.Beginning.{BeginsAt, RefusesToBegin}
-use Rattle.shell.specs.Lines.{AnsweredAsTyped, Holding, IsLastIfOver, LineLeaves, LinesLeave}
+use Rattle.shell.specs.Files.{Files}
+use Rattle.shell.specs.Lines.{AnsweredAsTyped, IsLastIfOver, LineLeaves, LinesLeave}
 use Rattle.shell.specs.declared.answer.Outcome.{Outcome}
 
 -- before a line stands a prompt, or nothing
@@ -33,20 +34,20 @@ Shown source b line shown b' =
     × (AnsweredAsTyped source b line own b' ⊎ TellsLack own) × (shown ≡ prompt ++ (own ++ words))
 
 -- the lines leave b', one after another, and so much is shown for them
-abbrev pub LinesShown : Holding → List ℕ → List ℕ → AtBench → List (List ℕ) → List ℕ → AtBench → Type 0
-LinesShown holds source stimulus b [] output b' = (output ≡ []) × (b' ≡ b)
-LinesShown holds source stimulus b (line ∷ lines) output b' =
+abbrev pub LinesShown : Files → List ℕ → List ℕ → AtBench → List (List ℕ) → List ℕ → AtBench → Type 0
+LinesShown files source stimulus b [] output b' = (output ≡ []) × (b' ≡ b)
+LinesShown files source stimulus b (line ∷ lines) output b' =
     (outcome : Outcome) × (m : AtBench) × (shown : List ℕ) × (rest : List ℕ)
-    × LineLeaves holds source stimulus b line outcome m × IsLastIfOver outcome lines × Shown source b line shown m
-    × LinesShown holds source stimulus m lines rest b' × (output ≡ shown ++ rest)
+    × LineLeaves files source stimulus b line outcome m × IsLastIfOver outcome lines × Shown source b line shown m
+    × LinesShown files source stimulus m lines rest b' × (output ≡ shown ++ rest)
 
 -- all lines that were taken were done and shown: all that the reader had, the last of them without an end; or all up to
 -- the first that is `quit` once it is tidied
-abbrev pub Finished : Holding → List ℕ → List ℕ → AtBench → Option (List ℕ) → Option (List ℕ) → List ℕ → AtBench
+abbrev pub Finished : Files → List ℕ → List ℕ → AtBench → Option (List ℕ) → Option (List ℕ) → List ℕ → AtBench
     → Type 0
-Finished holds source stimulus b read left output b' =
+Finished files source stimulus b read left output b' =
     (taken : List ℕ) × (lines : List (List ℕ)) × (last : List ℕ)
-    × Consumes read left taken × LinesShown holds source stimulus b (lines ++ last ∷ []) output b'
+    × Consumes read left taken × LinesShown files source stimulus b (lines ++ last ∷ []) output b'
     × ((AreLines taken lines last × IfSome read (λ _. IsAtEnd left))
     ⊎ (AreLines taken (lines ++ last ∷ []) [] × IsWordWith (tidied last) Quit []))
 
@@ -56,27 +57,27 @@ IsStop fault = (fault ≡ Memory) ⊎ (fault ≡ ReadFailed) ⊎ (fault ≡ Writ
 
 -- the session stopped early for this reason: the lines that were taken were done; the last, which may be a part of one,
 -- was done or not
-abbrev pub Stopped : Holding → List ℕ → List ℕ → AtBench → Option (List ℕ) → Option (List ℕ) → Fault → AtBench → Type 0
-Stopped holds source stimulus b read left fault b' =
+abbrev pub Stopped : Files → List ℕ → List ℕ → AtBench → Option (List ℕ) → Option (List ℕ) → Fault → AtBench → Type 0
+Stopped files source stimulus b read left fault b' =
     IsStop fault
     × ((taken : List ℕ) × (lines : List (List ℕ)) × (last : List ℕ)
     × Consumes read left taken × AreLines taken lines last
-    × (LinesLeave holds source stimulus b lines b' ⊎ LinesLeave holds source stimulus b (lines ++ last ∷ []) b'))
+    × (LinesLeave files source stimulus b lines b' ⊎ LinesLeave files source stimulus b (lines ++ last ∷ []) b'))
 
 -- a session that began at b ends so, with b'; it shows a greeting first
-abbrev pub EndsAt : Holding → List ℕ → List ℕ → AtBench → Option (List ℕ) → Option (List ℕ) → Option (List ℕ)
+abbrev pub EndsAt : Files → List ℕ → List ℕ → AtBench → Option (List ℕ) → Option (List ℕ) → Option (List ℕ)
     → Option (List ℕ) → Result (Unit {0}) Fault → AtBench → Type 0
-EndsAt holds source stimulus b read left wrote contents result b' =
+EndsAt files source stimulus b read left wrote contents result b' =
     MatchResult result
     (λ _. (greeting : List ℕ) × (output : List ℕ) × Appends wrote contents (greeting ++ output)
-    × Finished holds source stimulus b read left output b')
-    (λ fault. Stopped holds source stimulus b read left fault b')
+    × Finished files source stimulus b read left output b')
+    (λ fault. Stopped files source stimulus b read left fault b')
 
 -- a session ended so: it was refused before anything was read or written; or it began, and what holds of an execution
 -- at every moment holds of the one that the lines leave
-abbrev pub SessionEnds : Holding → List ℕ → List ℕ → Option (List ℕ) → Type 0 → Option (List ℕ) → Option (List ℕ)
+abbrev pub SessionEnds : Files → List ℕ → List ℕ → Option (List ℕ) → Type 0 → Option (List ℕ) → Option (List ℕ)
     → Option (List ℕ) → Option (List ℕ) → Result (Unit {0}) Fault → Type 0
-SessionEnds holds source stimulus trace untouched read left wrote contents result =
+SessionEnds files source stimulus trace untouched read left wrote contents result =
     ((fault : Fault) × (result ≡ Err fault) × RefusesToBegin source stimulus trace fault × untouched)
     ⊎ ((m : AtMachine) × BeginsAt source stimulus trace m × ((b : AtBench)
-    × EndsAt holds source stimulus (new_bench m) read left wrote contents result b × Headline (execution b.desk)))
+    × EndsAt files source stimulus (new_bench m) read left wrote contents result b × Headline (execution b.desk)))

@@ -13,6 +13,8 @@ pub enum Outcome {
     Unread,
     /// the trace of the live steps is in a file
     Saved,
+    /// the lines so far are in a file
+    Scripted,
     /// another execution stands in place of the one before
     Loaded,
     /// none could be loaded, and nothing was done

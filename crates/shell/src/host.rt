@@ -1,7 +1,8 @@
 //! What a session reaches beside its lines: files that it saves to and loads from, a clock, and who waits for a long
 //! line.
 
-ghost use Rattle.std.specs.Prelude.{ℕ, List, IfOk, OnOk, ⊤};
+ghost use Rattle.std.specs.Prelude.{◌≡◌, IfOk, OnOk, false, ⊤};
+ghost use Rattle.shell.specs.Files.{Files};
 
 use std::alloc::Global;
 use std::fs::{File, Permissions};
@@ -36,18 +37,19 @@ pub enum FileFault {
 
 /// What reads and writes whole files by their names, and tells a person how far a long line is.
 pub trait Host {
-    /// Whether a file of this name may have these bytes, at some moment of a session.
-    ghost holds: { Self → List ℕ → List ℕ → Type 0 };
+    /// What is known of files, at some moment of a session.
+    ghost files: { Self → Files };
 
     /// The bytes of the file.
     fn read(&self, alloc: Global, name: &str) -> Result<Vec<u8>, FileFault>
-        ensures { IfOk result (λ bytes. holds self.now name.now bytes.items) };
+        ensures { IfOk result (λ bytes. (files self.now).holds name.now bytes.items) };
 
     /// Writes the bytes as the file, `over` one that is there or only as a new one: then nothing that has the name is
     /// replaced, a link neither. Over a link the file is written to which it leads, and the link stays. It is written
     /// beside and then named, so that a file is there whole or as it was.
     fn write(&self, alloc: Global, name: &str, bytes: &[u8], over: bool) -> Result<(), FileFault>
-        ensures { OnOk result (holds self.now name.now bytes.now) };
+        ensures written { OnOk result ((files self.now).holds name.now bytes.now) }
+        ensures free { over ≡ false → OnOk result ((files self.now).free name.now) };
 
     /// The time since some beginning; `None` where nobody waits, or there is no clock.
     fn clock(&self) -> Option<Duration>;
@@ -75,7 +77,7 @@ impl<'a, R> Local<'a, R> {
 
 impl<R: fs::Files + AllocGlobal + Clock + Eprint> Host for Local<'_, R> {
     // No contract says what the system's files hold.
-    ghost holds = { λ _ _ _. ⊤ };
+    ghost files = { λ _. record { holds = λ _ _. ⊤; free = λ _. ⊤ } };
 
     fn read(&self, _alloc: Global, name: &str) -> Result<Vec<u8>, FileFault> {
         may_read(self.rt, name)?;

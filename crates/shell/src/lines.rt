@@ -2,7 +2,8 @@
 ghost use Rattle.std.specs.Prelude.{◌≡◌};
 ghost use Rattle.std.specs.Option.{option_copied};
 ghost use Rattle.std.specs.Io.Buffered.{reader_remaining};
-ghost use Rattle.devices.specs.Counting.{device};
+ghost use Rattle.devices.specs.Counting.{device, failures};
+ghost use Rattle.debug_session.specs.Counting.{after_reading, after_writing};
 ghost use Rattle.shell.specs.Taken.{EndsAt, IsPrompt, SessionEnds};
 ghost use Rattle.shell.specs.internal.Next.{Ended, GoesOn, NextEnds, TakenEnds};
 
@@ -29,10 +30,12 @@ pub fn run<R: Read, O: Write, H: Host>(
     texts: Texts<'_>,
     is_terminal: bool,
 ) -> Result<(), Fault>
-    ensures { SessionEnds (H.holds host.now) texts.entry.source.now texts.entry.stimulus.now
+    ensures ends { SessionEnds (H.files host.now) texts.entry.source.now texts.entry.stimulus.now
         (option_copied texts.entry.trace) ((reader.new ≡ reader.old) × (out.new ≡ out.old))
         (reader_remaining R.remaining (device reader.old)) (reader_remaining R.remaining (device reader.new))
         (O.contents (device out.old)) (O.contents (device out.new)) result }
+    ensures read_failures { failures reader.new ≡ after_reading result (failures reader.old) }
+    ensures write_failures { failures out.new ≡ after_writing result (failures out.old) }
 {
     match begin(alloc, &texts) {
         Ok(mut session) => {
@@ -54,9 +57,11 @@ fn run_on<R: Read, O: Write, H: Host>(
     texts: &Texts<'_>,
     is_terminal: bool,
 ) -> Result<(), Fault>
-    ensures { EndsAt (H.holds host.now) texts.now.source.now texts.now.stimulus.now session.old.bench
+    ensures ends { EndsAt (H.files host.now) texts.now.source.now texts.now.stimulus.now session.old.bench
         (reader_remaining R.remaining (device reader.old)) (reader_remaining R.remaining (device reader.new))
         (O.contents (device out.old)) (O.contents (device out.new)) result session.new.bench }
+    ensures read_failures { failures reader.new ≡ after_reading result (failures reader.old) }
+    ensures write_failures { failures out.new ≡ after_writing result (failures out.old) }
 {
     let setting = match setting_of(alloc, *texts) {
         Ok(setting) => setting,
@@ -78,9 +83,12 @@ impl Session {
         host: &H,
         is_terminal: bool,
     ) -> Result<(), Fault>
-        ensures { Ended (H.holds host.now) setting.now.texts.source.now setting.now.texts.stimulus.now self.old.bench
+        ensures ends { Ended (H.files host.now) setting.now.texts.source.now setting.now.texts.stimulus.now
+            self.old.bench
             (reader_remaining R.remaining (device reader.old)) (reader_remaining R.remaining (device reader.new))
             (O.contents (device out.old)) (O.contents (device out.new)) result self.new.bench }
+        ensures read_failures { failures reader.new ≡ after_reading result (failures reader.old) }
+        ensures write_failures { failures out.new ≡ after_writing result (failures out.old) }
     {
         let mut line = Vec::new(setting.alloc);
         for taken in 0..u64::MAX {
@@ -104,9 +112,12 @@ impl Session {
         is_terminal: bool,
         line: &mut Vec<u8>,
     ) -> Result<bool, Fault>
-        ensures { NextEnds (H.holds host.now) setting.now.texts.source.now setting.now.texts.stimulus.now self.old.bench
+        ensures ends { NextEnds (H.files host.now) setting.now.texts.source.now setting.now.texts.stimulus.now
+            self.old.bench
             (reader_remaining R.remaining (device reader.old)) (reader_remaining R.remaining (device reader.new))
             (O.contents (device out.old)) (O.contents (device out.new)) result self.new.bench }
+        ensures read_failures { failures reader.new ≡ after_reading result (failures reader.old) }
+        ensures write_failures { failures out.new ≡ after_writing result (failures out.old) }
     {
         match write_some(out, prompt(is_terminal)) {
             Ok(()) => {}
@@ -139,9 +150,10 @@ impl Session {
         is_complete: bool,
         ends_prompt: bool,
     ) -> Result<bool, Fault>
-        ensures { TakenEnds (H.holds host.now) setting.now.texts.source.now setting.now.texts.stimulus.now
+        ensures ends { TakenEnds (H.files host.now) setting.now.texts.source.now setting.now.texts.stimulus.now
             self.old.bench line.now is_complete (O.contents (device out.old)) (O.contents (device out.new)) result
             self.new.bench }
+        ensures write_failures { failures out.new ≡ after_writing result (failures out.old) }
     {
         let Answer {
             outcome,

@@ -26,7 +26,7 @@ use trace_file::load_text;
 impl Session {
     /// Takes the steps of the trace in the file that `rest` names, in place of those that were taken.
     pub(crate) fn load<H: Host>(&mut self, setting: &Setting<'_>, host: &H, rest: &[u8]) -> Answer
-        ensures { Leaves AsksNoDeedAtAll (Begun words.Load rest.now) (H.holds host.now)
+        ensures { Leaves AsksNoDeedAtAll (Begun words.Load rest.now) (H.files host.now)
             setting.now.texts.source.now setting.now.texts.stimulus.now
             self.old.bench result.outcome self.new.bench }
     {

@@ -1,4 +1,6 @@
 // What a session keeps in mind of its commands: the lines of a script that does the same, and the answers of one line.
+ghost use Rattle.std.specs.Prelude.{◌≡◌, IfSome};
+
 use debug_session::write_answer;
 use locked_execution::{Choice, Command, Desk, Machine, Reply};
 use plain_words::Text;
@@ -20,7 +22,7 @@ pub(crate) enum Shows {
 #[derive(Drop)]
 pub struct Notes {
     alloc: Global,
-    script: Vec<u8>,
+    pub(crate) script: Vec<u8>,
     /// Whether there was memory for all lines of the script.
     is_whole: bool,
     /// The session whose lines come in the script.
@@ -107,7 +109,9 @@ impl Notes {
     }
 
     /// The lines so far, `None` where there was no memory for some.
-    pub(crate) fn script(&self) -> Option<&[u8]> {
+    pub(crate) fn script(&self) -> Option<&[u8]>
+        ensures { IfSome result (λ lines. lines.now ≡ self.now.script.items) }
+    {
         if self.is_whole {
             Some(self.script.as_slice())
         } else {

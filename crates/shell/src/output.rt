@@ -1,7 +1,8 @@
 // What is written for people.
 ghost use Rattle.std.specs.Prelude.{◌≡◌, List, ℕ, ◌++◌, MatchOption, MatchResult};
 ghost use Rattle.std.specs.Io.KnownBytes.{Appends};
-ghost use Rattle.devices.specs.Counting.{device};
+ghost use Rattle.devices.specs.Counting.{device, failures};
+ghost use Rattle.debug_session.specs.Counting.{after_writing};
 ghost use Rattle.debug_session.specs.declared.fault.Fault.TheVariants.{WriteFailed};
 ghost use Rattle.shell.specs.Taken.{TellsLack};
 ghost use Rattle.shell.specs.internal.Next.{Answers};
@@ -13,9 +14,10 @@ use std::io::Write;
 
 /// Writes an answer: that of a script first, and words behind it.
 pub(crate) fn write_answer<W: Write>(out: &mut Counted<W>, answer: Answer) -> Result<(), Fault>
-    ensures { MatchResult result
+    ensures bytes { MatchResult result
         (λ _. Answers answer.own (λ text. text.items) (W.contents (device out.old)) (W.contents (device out.new)))
         (λ fault. fault ≡ WriteFailed) }
+    ensures failures { failures out.new ≡ after_writing result (failures out.old) }
 {
     let Answer {
         outcome,
@@ -34,10 +36,11 @@ fn write_own<W: Write>(
     own: &Option<Vec<u8>>,
     outcome: Outcome,
 ) -> Result<(), Fault>
-    ensures { MatchResult result
+    ensures bytes { MatchResult result
         (λ _. (told : List ℕ) × Appends (W.contents (device out.old)) (W.contents (device out.new)) told
         × MatchOption own.now (TellsLack told) (λ text. told ≡ text.items))
         (λ fault. fault ≡ WriteFailed) }
+    ensures failures { failures out.new ≡ after_writing result (failures out.old) }
 {
     match own {
         Some(bytes) => write_some(out, bytes.as_slice()),
@@ -57,9 +60,10 @@ fn lost(outcome: Outcome) -> &'static [u8]
 
 /// Writes words, or that there was no memory for them.
 pub(crate) fn write_text<W: Write>(out: &mut Counted<W>, text: Text) -> Result<(), Fault>
-    ensures { MatchResult result
+    ensures bytes { MatchResult result
         (λ _. (words : List ℕ) × Appends (W.contents (device out.old)) (W.contents (device out.new)) words)
         (λ fault. fault ≡ WriteFailed) }
+    ensures failures { failures out.new ≡ after_writing result (failures out.old) }
 {
     match text.into_bytes() {
         Ok(bytes) => write_some(out, bytes.as_slice()),
@@ -72,9 +76,10 @@ pub(crate) fn write_text<W: Write>(out: &mut Counted<W>, text: Text) -> Result<(
 
 /// Writes the bytes, where there are some.
 pub(crate) fn write_some<W: Write>(out: &mut Counted<W>, bytes: &[u8]) -> Result<(), Fault>
-    ensures { MatchResult result
+    ensures bytes { MatchResult result
         (λ _. Appends (W.contents (device out.old)) (W.contents (device out.new)) bytes.now)
         (λ fault. fault ≡ WriteFailed) }
+    ensures failures { failures out.new ≡ after_writing result (failures out.old) }
 {
     if bytes.is_empty() {
         return Ok(());

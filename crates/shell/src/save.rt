@@ -1,6 +1,6 @@
 // Files that are written: the trace, and the lines so far.
-ghost use Rattle.std.specs.Prelude.{◌≡◌, ◌⊎◌, ◌∷◌, IfSome};
-ghost use Rattle.shell.specs.internal.Parts.{SavesTrace};
+ghost use Rattle.std.specs.Prelude.{◌≡◌, ◌⊎◌, ◌∷◌, IfSome, false};
+ghost use Rattle.shell.specs.internal.Parts.{SavesTrace, WritesFile};
 ghost use Rattle.shell.specs.declared.answer.Outcome.TheVariants as outcomes;
 
 use crate::answer::{said, spoken};
@@ -21,14 +21,22 @@ impl Session {
         rest: &[u8],
         over: bool,
     ) -> Answer
-        ensures { SavesTrace (H.holds host.now) self.now.bench rest.now result.outcome }
+        ensures { SavesTrace (H.files host.now) self.now.bench rest.now over result.outcome }
     {
         let Some(name) = name_in(rest) else {
             let word = if over { Word::SaveOver } else { Word::Save };
             return self.answer_question(setting, word, rest);
         };
         match write_trace(setting.alloc, self.bench.desk().machine()) {
-            Ok(trace) => save_trace(setting.alloc, host, name, trace.as_slice(), over),
+            Ok(trace) => write_file(
+                setting.alloc,
+                host,
+                name,
+                trace.as_slice(),
+                over,
+                Outcome::Saved,
+                "save",
+            ),
             Err(_) => {
                 let words = said(
                     setting.alloc,
@@ -47,20 +55,31 @@ impl Session {
         rest: &[u8],
         over: bool,
     ) -> Answer
-        ensures { result.outcome ≡ outcomes.Done }
+        ensures { WritesFile (H.files host.now) self.now.notes.script.items rest.now over outcomes.Scripted
+            result.outcome }
     {
         let Some(name) = name_in(rest) else {
             let word = if over { Word::ScriptOver } else { Word::Script };
             return self.answer_question(setting, word, rest);
         };
-        let words = match self.notes.script() {
-            Some(bytes) => write_file(setting.alloc, host, name, bytes, over, "script"),
-            None => said(
+        match self.notes.script() {
+            Some(bytes) => write_file(
                 setting.alloc,
-                b"  there was no memory for some of the lines, and no file was written\n",
+                host,
+                name,
+                bytes,
+                over,
+                Outcome::Scripted,
+                "script",
             ),
-        };
-        spoken(setting.alloc, Outcome::Done, words)
+            None => {
+                let words = said(
+                    setting.alloc,
+                    b"  there was no memory for some of the lines, and no file was written\n",
+                );
+                spoken(setting.alloc, Outcome::Done, words)
+            }
+        }
     }
 }
 
@@ -77,33 +96,23 @@ pub(crate) fn name_in(rest: &[u8]) -> Option<&str>
     }
 }
 
-/// Writes a trace, and tells whether it is there now.
-fn save_trace<H: Host>(alloc: Global, host: &H, name: &str, trace: &[u8], over: bool) -> Answer
-    ensures { (result.outcome ≡ outcomes.Done)
-        ⊎ ((result.outcome ≡ outcomes.Saved) × H.holds host.now name.now trace.now) }
-{
-    match host.write(alloc, name, trace, over) {
-        Ok(()) => spoken(
-            alloc,
-            Outcome::Saved,
-            told_written(alloc, name, trace.len() as u64),
-        ),
-        Err(fault) => spoken(alloc, Outcome::Done, told_fault(alloc, name, fault, "save")),
-    }
-}
-
-/// Writes a file, and tells whether it is there now.
+/// Writes a file, and tells whether it is there now: then this became of the line.
 fn write_file<H: Host>(
     alloc: Global,
     host: &H,
     name: &str,
     bytes: &[u8],
     over: bool,
+    done: Outcome,
     word: &str,
-) -> Text {
+) -> Answer
+    ensures { (result.outcome ≡ outcomes.Done)
+        ⊎ ((result.outcome ≡ done) × (H.files host.now).holds name.now bytes.now
+        × (over ≡ false → (H.files host.now).free name.now)) }
+{
     match host.write(alloc, name, bytes, over) {
-        Ok(()) => told_written(alloc, name, bytes.len() as u64),
-        Err(fault) => told_fault(alloc, name, fault, word),
+        Ok(()) => spoken(alloc, done, told_written(alloc, name, bytes.len() as u64)),
+        Err(fault) => spoken(alloc, Outcome::Done, told_fault(alloc, name, fault, word)),
     }
 }
 

@@ -39,7 +39,7 @@ impl Session {
     }
 
     /// Answers a command.
-    fn answer_command(&mut self, setting: &Setting<'_>, command: &Command) -> Answer
+    pub(crate) fn answer_command(&mut self, setting: &Setting<'_>, command: &Command) -> Answer
         ensures outcome { result.outcome ≡ outcomes.Done }
         ensures done { (done : DoneAt) × Does self.old.bench (deed_of (lines.Asked command.now)) done self.new.bench }
         ensures own { IfSome result.own (λ text.

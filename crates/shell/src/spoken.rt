@@ -5,8 +5,8 @@ ghost use Rattle.shell_desk.specs.Does.{Does, NamesSession};
 ghost use Rattle.shell_desk.specs.declared.deed.Done.{Done as DoneAt};
 ghost use Rattle.shell_desk.specs.Tidied.{tidied};
 ghost use Rattle.shell.specs.Asking.{IsWordWith, ShellAsks, TextAsks};
-ghost use Rattle.shell.specs.Lines.{AnsweredAsScript, AnsweredAsTyped, LineLeaves, Leaves};
-ghost use Rattle.shell.specs.internal.Parts.{WordsAsk, WordMeans, Begun, Quits, RestsWith, is_want};
+ghost use Rattle.shell.specs.Lines.{AnsweredAsNumber, AnsweredAsStep, AnsweredAsTidied, AnsweredAsTyped, LineLeaves, Leaves};
+ghost use Rattle.shell.specs.internal.Parts.{Begun, Quits, RestsWith, TakesNumber, WordMeans, WordsAsk, is_want};
 ghost use Rattle.shell.specs.declared.answer.Outcome.TheVariants as outcomes;
 
 use crate::answer::{spoken, unread};
@@ -24,7 +24,7 @@ use shell_desk::{Deed, Done, Word, read_deed, tidied};
 impl Session {
     /// Answers a line, without byte 10: as a line of a script where it is one, else as one of a shell.
     pub fn answer_line<H: Host>(&mut self, setting: &Setting<'_>, host: &H, line: &[u8]) -> Answer
-        ensures leaves { LineLeaves (H.holds host.now) setting.now.texts.source.now setting.now.texts.stimulus.now
+        ensures leaves { LineLeaves (H.files host.now) setting.now.texts.source.now setting.now.texts.stimulus.now
             self.old.bench line.now result.outcome self.new.bench }
         ensures own { IfSome result.own (λ text.
             AnsweredAsTyped setting.now.texts.source.now self.old.bench line.now text.items self.new.bench) }
@@ -45,10 +45,10 @@ impl Session {
     /// Answers a line that is none of a script as it stands: what is meant without blanks and with small letters.
     fn answer_loose<H: Host>(&mut self, setting: &Setting<'_>, host: &H, line: &[u8]) -> Answer
         requires { AsksNothing self.old.bench.desk.machine.checked line.now }
-        ensures leaves { LineLeaves (H.holds host.now) setting.now.texts.source.now setting.now.texts.stimulus.now
+        ensures leaves { LineLeaves (H.files host.now) setting.now.texts.source.now setting.now.texts.stimulus.now
             self.old.bench line.now result.outcome self.new.bench }
         ensures own { IfSome result.own (λ text.
-            AnsweredAsScript setting.now.texts.source.now self.old.bench (tidied line.now) text.items self.new.bench) }
+            AnsweredAsTidied setting.now.texts.source.now self.old.bench (tidied line.now) text.items self.new.bench) }
     {
         match tidied(setting.alloc, line) {
             Ok(text) => self.answer_tidied(setting, host, text.as_slice()),
@@ -59,10 +59,10 @@ impl Session {
     /// Answers a line that was tidied.
     fn answer_tidied<H: Host>(&mut self, setting: &Setting<'_>, host: &H, text: &[u8]) -> Answer
         ensures leaves { Leaves (TextAsks self.old.bench.desk.machine.checked text.now) (IsWordWith text.now)
-            (H.holds host.now) setting.now.texts.source.now setting.now.texts.stimulus.now
+            (H.files host.now) setting.now.texts.source.now setting.now.texts.stimulus.now
             self.old.bench result.outcome self.new.bench }
         ensures own { IfSome result.own (λ own.
-            AnsweredAsScript setting.now.texts.source.now self.old.bench text.now own.items self.new.bench) }
+            AnsweredAsTidied setting.now.texts.source.now self.old.bench text.now own.items self.new.bench) }
     {
         line_laws();
         let checked = self.bench.desk().machine().checked();
@@ -79,19 +79,42 @@ impl Session {
 
     /// Answers a line that is none of a script: a bare number, or a word with what stands behind it.
     fn answer_shell<H: Host>(&mut self, setting: &Setting<'_>, host: &H, text: &[u8]) -> Answer
-        ensures { Leaves (ShellAsks text.now) (IsWordWith text.now) (H.holds host.now)
+        ensures leaves { Leaves (ShellAsks text.now) (IsWordWith text.now) (H.files host.now)
             setting.now.texts.source.now setting.now.texts.stimulus.now
             self.old.bench result.outcome self.new.bench }
+        ensures own { IfSome result.own (λ own.
+            AnsweredAsNumber setting.now.texts.source.now self.old.bench text.now own.items self.new.bench) }
     {
         match read_number(text) {
-            Some(number) => self.answer_deed(setting, host, &Deed::Take(number)),
+            Some(number) => self.answer_number(setting, number),
             None => self.answer_words(setting, host, text),
         }
     }
 
+    /// Takes the step that has this number, and answers as its line of a script is answered, and in words behind it.
+    fn answer_number(&mut self, setting: &Setting<'_>, number: u64) -> Answer
+        ensures done { TakesNumber number self.old.bench result.outcome self.new.bench }
+        ensures own { IfSome result.own (λ own.
+            AnsweredAsStep setting.now.texts.source.now self.old.bench number own.items self.new.bench) }
+    {
+        match self.bench.numbered(setting.alloc, number) {
+            Ok(Some(command)) => self.answer_command(setting, &command),
+            Ok(None) => self.answer_no_step(setting, number),
+            Err(_) => unread(setting.alloc),
+        }
+    }
+
+    /// Tells that no step has the number.
+    fn answer_no_step(&self, setting: &Setting<'_>, number: u64) -> Answer
+        ensures { result.outcome ≡ outcomes.Done }
+    {
+        let words = unknown_text(&self.scene(setting), &Deed::Take(number));
+        spoken(setting.alloc, Outcome::Done, words)
+    }
+
     /// Answers a line that begins with a word, if that is one.
     fn answer_words<H: Host>(&mut self, setting: &Setting<'_>, host: &H, text: &[u8]) -> Answer
-        ensures { Leaves (WordsAsk text.now) (IsWordWith text.now) (H.holds host.now)
+        ensures { Leaves (WordsAsk text.now) (IsWordWith text.now) (H.files host.now)
             setting.now.texts.source.now setting.now.texts.stimulus.now
             self.old.bench result.outcome self.new.bench }
     {
@@ -110,7 +133,7 @@ impl Session {
         word: Word,
         rest: &[u8],
     ) -> Answer
-        ensures { Leaves (WordMeans word rest.now) (Begun word rest.now) (H.holds host.now)
+        ensures { Leaves (WordMeans word rest.now) (Begun word rest.now) (H.files host.now)
             setting.now.texts.source.now setting.now.texts.stimulus.now
             self.old.bench result.outcome self.new.bench }
     {
@@ -128,7 +151,7 @@ impl Session {
         word: Word,
         rest: &[u8],
     ) -> Answer
-        ensures { Leaves (RestsWith word rest.now) (Begun word rest.now) (H.holds host.now)
+        ensures { Leaves (RestsWith word rest.now) (Begun word rest.now) (H.files host.now)
             setting.now.texts.source.now setting.now.texts.stimulus.now
             self.old.bench result.outcome self.new.bench }
     {

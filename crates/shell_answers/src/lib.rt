@@ -7,6 +7,7 @@ mod help;
 mod mistakes;
 mod names;
 mod numbers;
+mod past_steps;
 mod ports;
 mod program_words;
 mod questions_asked;

@@ -13,7 +13,9 @@ use std::str;
 pub fn mistake_text(scene: &Scene<'_>, line: &[u8]) -> Text {
     let mut text = Text::new(scene.alloc);
     let (word, rest) = cut_at_space(line);
-    if usage_of(word).is_none() {
+    if is_number(word) && !rest.is_empty() {
+        add_number_alone(&mut text, word);
+    } else if usage_of(word).is_none() {
         add_unknown_word(&mut text, scene.alloc, word, rest);
     } else if word == b"step".as_slice() && read_ticket(rest).is_some() {
         add_step_by_number(&mut text, rest);
@@ -38,7 +40,24 @@ fn is_one_field(rest: &[u8]) -> bool {
     }
 }
 
-/// Adds that a number is typed alone.
+/// Whether these are digits, and some.
+fn is_number(word: &[u8]) -> bool {
+    for byte in word {
+        if !byte.is_ascii_digit() {
+            return false;
+        }
+    }
+    !word.is_empty()
+}
+
+/// Adds that nothing stands behind the number of a step.
+fn add_number_alone(text: &mut Text, number: &[u8]) {
+    text.add(b"  the number of a step in `ready` is typed alone, as `");
+    add_given(text, number);
+    text.add(b"`\n");
+}
+
+/// Adds that a place is wanted, and that a number is typed alone.
 fn add_step_by_number(text: &mut Text, rest: &[u8]) {
     text.add(
         b"  `step` takes a place, as `step /0.0/0`; the number of a step in `ready` is typed alone, as `",

@@ -40,7 +40,7 @@ fn add_not_ready(text: &mut Text, scene: &Scene<'_>, place: &Address) {
 fn taken_at(scene: &Scene<'_>, place: &Address) -> Option<u64> {
     for index in 0..scene.machine().live_events().len() as u64 {
         if let Some((ticket, event)) = scene.machine().live_at(index) {
-            if &event.first == place {
+            if event.acting_place() == place {
                 return Some(ticket);
             }
         }

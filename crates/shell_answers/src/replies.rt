@@ -13,7 +13,7 @@ pub fn reply_text(scene: &Scene<'_>, command: &Command, reply: &Reply) -> Text {
     let mut text = Text::new(scene.alloc);
     match reply {
         Reply::Stepped(_, event) => add_done(&mut text, scene, b"  ", event),
-        Reply::Undone(_, event) => add_done(&mut text, scene, b"  no more: ", event),
+        Reply::Undone(_, event) => add_done(&mut text, scene, b"  taken back: ", event),
         Reply::Ready(events) => add_numbered(&mut text, scene, events.as_slice()),
         Reply::Rolled(count) => add_rolled(&mut text, scene, *count),
         Reply::Blamed(ticket) => add_line(&mut text, scene, *ticket),

@@ -1,10 +1,10 @@
-// One step in words, and what led to it.
+// One step in words, and which steps hang together with it.
 ghost use Rattle.runs.specs.Live.{IsLive};
 
 use crate::Scene;
+use crate::past_steps::add_read_line;
 use crate::steps::{add_numbers, add_step, steps_word};
 use dependence::Live;
-use past::Past;
 use plain_words::{Text, consequences_of};
 
 /// Adds the live step of this ticket: what it does, on what it depends, and what depends on it.
@@ -21,6 +21,7 @@ pub(crate) fn add_shown(text: &mut Text, scene: &Scene<'_>, ticket: u64) {
     text.add(b"  ");
     add_step(text, scene, ticket);
     text.add(b"\n");
+    add_read_line(text, scene, ticket);
     add_leads(text, live, index as u64);
     add_dependents(text, scene, ticket);
 }
@@ -78,28 +79,5 @@ fn depend_word(count: usize) -> &'static [u8] {
         b" depends on it\n"
     } else {
         b" depend on it\n"
-    }
-}
-
-/// Adds a line for each of the steps that led to one, and how many are left out.
-pub(crate) fn add_past(text: &mut Text, scene: &Scene<'_>, past: &Past, subject: &[u8]) {
-    for told in past.events.as_slice() {
-        text.add(b"  ");
-        add_step(text, scene, told.ticket);
-        let follows = told.follows.as_slice();
-        if !follows.is_empty() {
-            text.add(b", after");
-            text.add(steps_word(follows.len() as u64));
-            text.add(b" ");
-            add_numbers(text, follows);
-        }
-        text.add(b"\n");
-    }
-    if past.left_out > 0 {
-        let count = past.left_out as u64;
-        text.add_counted(b"  ", count, steps_word(count));
-        text.add(b" without a value left out: `why ");
-        text.add(subject);
-        text.add(b" all`\n");
     }
 }

@@ -120,7 +120,8 @@ fn add_rows(text: &mut Text, shown: &[u8], first: u64, last: u64) {
     for (index, row) in shown.split(|byte| *byte == b'\n').enumerate() {
         let number = (index as u64).saturating_add(1);
         if first <= number && number <= last && !row.is_empty() {
-            add_plain(text, row);
+            // A source from Windows has one before each end of a line.
+            add_plain(text, row.strip_suffix(b"\r").unwrap_or(row));
             text.add(b"\n");
         }
     }

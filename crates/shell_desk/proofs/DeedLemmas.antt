@@ -1,7 +1,7 @@
 -- What is done at a desk, command by command.
-use Rattle.std.proofs.Common.{◌≡◌, inl, inr, ℕ, zero, suc, ◌+◌, ◌-◌, ◌<◌, ◌≤◌, arith, Bool, true, false, List, [], ◌∷◌, Option, Some, None, refl, sym, ap, ◌∙◌, subst}
+use Rattle.std.proofs.Common.{◌≡◌, inl, inr, ℕ, zero, suc, ◌+◌, ◌-◌, ◌<◌, ◌≤◌, arith, Bool, true, false, List, [], ◌∷◌, Option, Some, None, Result, Ok, Err, refl, sym, ap, ◌∙◌, subst}
 use Rattle.std.specs.Bool.{MatchBool}
-use Rattle.std.specs.Prelude.{option_map, slice_get, length}
+use Rattle.std.specs.Prelude.{option_map, slice_get, length, IfOk}
 use Rattle.runs.specs.Live.{Live}
 use Rattle.runs.specs.declared.event.Event.{Event}
 use Rattle.system_places.specs.SystemBranches.{branch_count}
@@ -30,11 +30,11 @@ pub true-false : true ≡ false → ⊥
 true-false h = cc
 
 -- a fact by a test
-by-false : (P : Type 0) {Q : Type 0} → (t : Bool) → t ≡ false → Q → MatchBool t P Q
+pub by-false : (P : Type 0) {Q : Type 0} → (t : Bool) → t ≡ false → Q → MatchBool t P Q
 by-false P true e q = absurd (true-false e)
 by-false P false e q = q
 
-by-true : {P : Type 0} (Q : Type 0) → (t : Bool) → t ≡ true → P → MatchBool t P Q
+pub by-true : {P : Type 0} (Q : Type 0) → (t : Bool) → t ≡ true → P → MatchBool t P Q
 by-true Q true e p = p
 by-true Q false e p = absurd (true-false (sym e))
 
@@ -166,10 +166,16 @@ back-enough count i b past =
     subst (λ (left : ℕ). GoesBack b left None b) (sym none) (refl, refl)
 
 -- numbers count from 1
-numbered-from : {X : Type 0} (xs : List X) (n : ℕ) → (n ≡ 0 → ⊥) → numbered_as xs n ≡ slice_get xs (n - 1)
+pub numbered-from : {X : Type 0} (xs : List X) (n : ℕ) → (n ≡ 0 → ⊥) → numbered_as xs n ≡ slice_get xs (n - 1)
 numbered-from xs zero some = absurd (some refl)
 numbered-from xs (suc i) some =
     let same : suc i - 1 ≡ i = omega arith in ap (λ (k : ℕ). slice_get xs k) (sym same)
+
+-- what is copied has the number
+pub numbered-copied : {E : Type 0} (xs : List Command) (n : ℕ) (c : Command) (r : Result (Option Command) E) → (n ≡ 0 → ⊥)
+    → slice_get xs (n - 1) ≡ Some c → IfOk r (λ made. made ≡ Some c) → IfOk r (λ found. found ≡ numbered_as xs n)
+numbered-copied xs n c (Ok made) some at h = h ∙ sym (numbered-from xs n some ∙ at)
+numbered-copied xs n c (Err fault) some at h = tt
 
 -- the command that has a number is asked
 pub take-asked : (b b' : AtBench) (n : ℕ) (c : Command) (r : Reply) → (n ≡ 0 → ⊥) → slice_get b.numbered (n - 1) ≡ Some c

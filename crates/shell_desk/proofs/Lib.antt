@@ -1,4 +1,7 @@
 mod AgainLemmas
+mod AwakeLemmas
 mod DeedLemmas
+mod RestLemmas
+mod SleepLemmas
 mod TidyLemmas
 mod WordLemmas

@@ -1,10 +1,10 @@
 // One command, and what it changes beside the desk.
-ghost use Rattle.std.specs.Prelude.{◌≡◌, MatchOption, OnOk, Some, None, map, slice_get};
+ghost use Rattle.std.specs.Prelude.{◌≡◌, IfOk, MatchOption, OnOk, Some, None, map, slice_get};
 ghost use Rattle.shell_desk.specs.Does.{Asked, AsksIfAny, Numbers, branch_behind, numbered_as, step_of, stopped_behind};
 
 use crate::{Bench, Done, Watch};
-use locked_execution::{Command, Event, Reply};
-use std::alloc::AllocError;
+use locked_execution::{Choice, Command, Event, Reply};
+use std::alloc::{AllocError, Global};
 use system::System;
 use system_places::branch_at;
 
@@ -23,6 +23,19 @@ impl Bench {
         reply
     }
 
+    /// The command that takes the step with this number, if there is one. It is an error if there is no memory.
+    pub fn numbered(&self, alloc: Global, step: u64) -> Result<Option<Command>, AllocError>
+        ensures { IfOk result (λ found. found ≡ numbered_as self.now.numbered step) }
+    {
+        if step == 0 {
+            return Ok(None);
+        }
+        match command_at(self.numbered.as_slice(), step - 1) {
+            Some(command) => some_copied(alloc, command),
+            None => Ok(None),
+        }
+    }
+
     /// Takes the step that has this number, if there is one.
     pub(crate) fn take<W: Watch>(&mut self, step: u64, watch: &mut W) -> Done
         ensures { AsksIfAny self.old (numbered_as self.old.numbered step) result self.new }
@@ -39,6 +52,39 @@ impl Bench {
         self.branch = branch_behind(self.desk.machine().checked().system(), &reply, self.branch);
         self.stopped = stopped_behind(&reply, self.stopped);
         Done::Told(reply)
+    }
+}
+
+/// An equal command in memory of its own.
+fn some_copied(alloc: Global, command: &Command) -> Result<Option<Command>, AllocError>
+    ensures { IfOk result (λ made. made ≡ Some command.now) }
+{
+    Ok(Some(copied(alloc, command)?))
+}
+
+/// The same.
+fn copied(alloc: Global, command: &Command) -> Result<Command, AllocError>
+    ensures { IfOk result (λ made. made ≡ command.now) }
+{
+    match command {
+        Command::Step(choice) => {
+            let place = choice.place.copy(alloc)?;
+            Ok(Command::Step(Choice {
+                place,
+                arm: choice.arm,
+            }))
+        }
+        Command::Undo(ticket) => Ok(Command::Undo(*ticket)),
+        Command::Roll(ticket) => Ok(Command::Roll(*ticket)),
+        Command::RollValue(variable) => Ok(Command::RollValue(*variable)),
+        Command::Blame(variable) => Ok(Command::Blame(*variable)),
+        Command::Ready => Ok(Command::Ready),
+        Command::Consequences(ticket) => Ok(Command::Consequences(*ticket)),
+        Command::Live => Ok(Command::Live),
+        Command::Value(variable) => Ok(Command::Value(*variable)),
+        Command::Branch(branch) => Ok(Command::Branch(*branch)),
+        Command::Break(line) => Ok(Command::Break(*line)),
+        Command::Clear(line) => Ok(Command::Clear(*line)),
     }
 }
 

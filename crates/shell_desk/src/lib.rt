@@ -9,6 +9,7 @@ mod deed;
 mod laws;
 mod loaded;
 mod run;
+mod sleepers;
 mod tidy;
 mod word;
 

@@ -1,14 +1,24 @@
 // Runs in which the branches step in turn.
-ghost use Rattle.std.specs.Prelude.{◌≡◌};
+ghost use Rattle.std.specs.Prelude.{◌≡◌, ◌≤◌, IfOk};
 ghost use Rattle.system_places.specs.SystemBranches.{branch_count as count_of};
+ghost use Rattle.sharing_check.specs.Rule.{SharesWell};
+ghost use Rattle.idle_branches.specs.Idle.{AreEnds};
+ghost use Rattle.locked_execution.specs.declared.command.Command.{Command as CommandAt};
 ghost use Rattle.shell_desk.specs.AtBench.{AtBench};
-ghost use Rattle.shell_desk.specs.Does.{OneTurn, Runs, RunsFrom, RunsPast, end_of, ended_at, ends_run, first_of};
+ghost use Rattle.shell_desk.specs.Does.{Asked, OneTurn, Runs, RunsFrom, RunsPast, end_of, ended_at, ends_run, first_of};
 ghost use Rattle.shell_desk.specs.Does.{held_at, held_of, is_busy, next_of};
+ghost use Rattle.shell_desk.specs.internal.Sleeping.{AsksBetween, Resting, SleepsBehind};
 
+use crate::sleepers::Sleepers;
 use crate::{Bench, End, Watch};
+use idle_branches::{Ends, stays_idle};
 use locked_execution::{Command, Reply};
 use machine::Breaks;
+use std::alloc::AllocError;
 use system_places::branch_count;
+
+/// For so few steps the ends of the branches are not looked at.
+const FEW_STEPS: u64 = 4;
 
 impl Bench {
     /// Takes so many steps at most, each the first that the branches have in turn. Where the last run ended at a
@@ -64,8 +74,29 @@ impl Bench {
         self.run(limit - 1, watch)
     }
 
-    /// Takes so many steps at most, each the first that the branches have in turn.
+    /// Takes so many steps at most, each the first that the branches have in turn. Where they are more than a few, those
+    /// are passed over that can have none.
     fn run<W: Watch>(&mut self, limit: u64, watch: &mut W) -> End
+        ensures { Runs self.old limit result self.new }
+    {
+        if limit <= FEW_STEPS {
+            return self.run_all(limit, watch);
+        }
+        match self.ends() {
+            Ok(ends) => self.run_awake(limit, &ends, watch),
+            Err(_) => self.run_all(limit, watch),
+        }
+    }
+
+    /// The ends of the system's branches. It is an error if there is no memory.
+    fn ends(&self) -> Result<Ends, AllocError>
+        ensures { IfOk result (λ ends. AreEnds self.now.desk.machine.checked ends) }
+    {
+        Ends::of(*self.numbered.allocator(), self.desk.machine().checked())
+    }
+
+    /// The same, where each branch is asked in turn.
+    fn run_all<W: Watch>(&mut self, limit: u64, watch: &mut W) -> End
         ensures { Runs self.old limit result self.new }
     {
         for taken in 0..limit {
@@ -75,6 +106,90 @@ impl Bench {
             }
         }
         End::Enough
+    }
+
+    /// The same, where a branch that has no step sleeps until one of another may bring it one.
+    fn run_awake<W: Watch>(&mut self, limit: u64, ends: &Ends, watch: &mut W) -> End
+        requires { AreEnds self.old.desk.machine.checked ends.now }
+        ensures { Runs self.old limit result self.new }
+    {
+        let mut sleepers = Sleepers::none(*self.numbered.allocator(), self.branch_count());
+        for taken in 0..limit {
+            let reply = self.awake_turn(ends, &mut sleepers, watch);
+            if ends_run(&reply) {
+                return end_of(&reply);
+            }
+        }
+        End::Enough
+    }
+
+    /// Asks the branches that are awake in turn for a step, up to the first that is not idle.
+    fn awake_turn<W: Watch>(&mut self, ends: &Ends, sleepers: &mut Sleepers, watch: &mut W) -> Reply
+        requires { Resting ends.now self.old sleepers.old.asleep.items }
+        ensures turn { OneTurn self.old result self.new }
+        ensures resting { Resting ends.now self.new sleepers.new.asleep.items }
+    {
+        stays_idle();
+        self.is_sound();
+        self.shares_well();
+        let count = self.branch_count();
+        let start = self.first(count);
+        if let Some(reply) = self.ask_awake(ends, sleepers, start, count, watch) {
+            return reply;
+        }
+        if let Some(reply) = self.ask_awake(ends, sleepers, 0, start, watch) {
+            return reply;
+        }
+        Reply::Idle
+    }
+
+    /// The system keeps the rule on sharing: nothing is done, the contract says it.
+    fn shares_well(&self)
+        ensures { SharesWell self.now.desk.machine.checked }
+    {
+        self.desk.is_sound();
+    }
+
+    /// Asks the branches from one up to another that are awake for a step, up to the first that is not idle.
+    fn ask_awake<W: Watch>(
+        &mut self,
+        ends: &Ends,
+        sleepers: &mut Sleepers,
+        from: u32,
+        to: u32,
+        watch: &mut W,
+    ) -> Option<Reply>
+        requires { from ≤ to }
+        ensures { AsksBetween ends.now from to self.old sleepers.old.asleep.items
+            result self.new sleepers.new.asleep.items }
+    {
+        let mut branch = from;
+        while let Some(next) = sleepers.first_awake(branch, to) {
+            let reply = self.ask_noted(ends, sleepers, next, watch);
+            if is_busy(&reply) {
+                return Some(reply);
+            }
+            branch = next + 1;
+        }
+        None
+    }
+
+    /// Asks the branch for a step, and keeps in mind who sleeps behind it.
+    fn ask_noted<W: Watch>(
+        &mut self,
+        ends: &Ends,
+        sleepers: &mut Sleepers,
+        branch: u32,
+        watch: &mut W,
+    ) -> Reply
+        ensures asked { Asked self.old (CommandAt.Branch branch) result self.new }
+        ensures sleep { SleepsBehind ends.now self.new.desk.machine.checked branch result
+            sleepers.old.asleep.items sleepers.new.asleep.items }
+    {
+        let reply = self.ask(&Command::Branch(branch), watch);
+        let system = self.desk.machine().checked().system();
+        sleepers.note(system, ends, branch, &reply);
+        reply
     }
 
     /// Asks the branches in turn for a step, up to the first that is not idle.
@@ -102,7 +217,8 @@ impl Bench {
 
     /// The branch whose turn it is, of so many.
     fn first(&self, count: u32) -> u32
-        ensures { result ≡ first_of count self.now.branch }
+        ensures first { result ≡ first_of count self.now.branch }
+        ensures range { result ≤ count }
     {
         first_of(count, self.branch)
     }
@@ -120,7 +236,8 @@ fn held_at(stopped: Option<u64>, breaks: &Breaks) -> Option<u64>
 
 /// The branch whose turn it is where this was stepped last.
 fn first_of(count: u32, last: Option<u32>) -> u32
-    ensures { result ≡ first_of count last }
+    ensures first { result ≡ first_of count last }
+    ensures range { result ≤ count }
 {
     match last {
         Some(branch) => next_of(count, branch),
@@ -130,7 +247,8 @@ fn first_of(count: u32, last: Option<u32>) -> u32
 
 /// The branch behind this one, and behind the last the first.
 fn next_of(count: u32, branch: u32) -> u32
-    ensures { result ≡ next_of count branch }
+    ensures next { result ≡ next_of count branch }
+    ensures range { result ≤ count }
 {
     if branch < count && count - branch > 1 {
         branch + 1

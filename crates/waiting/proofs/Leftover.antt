@@ -1,6 +1,5 @@
 -- The actions that are left over are those that wait.
-use Rattle.std.proofs.Common.{◌≡◌, ◌⊎◌, ◌↔◌, inl, inr, List, [], ◌∷◌, Bool, true, false, ◌&&◌, ◌||◌, cond, Option, Some, None, refl, sym, ◌∙◌, ap, subst}
-use Rattle.std.proofs.lemmas.Bool.{and_parts}
+use Rattle.std.proofs.Common.{◌≡◌, ◌⊎◌, ◌↔◌, inl, inr, List, [], ◌∷◌, Bool, true, false, ◌||◌, cond, Option, Some, None, refl, sym, ◌∙◌, ap, subst}
 use Rattle.syntax.specs.Lists.{In, Every}
 use Rattle.runs.specs.InOrder.{InOrder}
 use Rattle.runs.specs.Events.{places, places_of}
@@ -14,9 +13,9 @@ use Rattle.local_actions.specs.Actions.{OffersExactly, NotBehind, Precedes}
 use Rattle.local_actions.specs.declared.action.LocalAction.{LocalAction}
 use Rattle.local_actions.proofs.public.PlacedActions.{place-true, place-itself}
 use Rattle.waiting.specs.Waits.{ArmsRise, ListsWaiting, Waits}
-use Rattle.waiting.specs.Progress.{is_idle, NoneAllowed, StandsLike}
+use Rattle.waiting.specs.Progress.{body_is_over, NoneAllowed, StandsLike}
 use Rattle.waiting.proofs.InOneOrder.{all-rise, arms-once}
-use Rattle.waiting.specs.internal.Among.{is_second, has_place, has_any, left_over, all_idle, at_rest, progress_of}
+use Rattle.waiting.specs.internal.Among.{is_second, has_place, has_any, left_over, at_rest, progress_of}
 
 or-parts : (a b : Bool) → (a || b) ≡ true → (a ≡ true) ⊎ (b ≡ true)
 or-parts true b h = inl refl
@@ -137,26 +136,10 @@ lists-waiting S xs es offers order strict ready =
     }
 
 -- ---- how a state stands
-each-idle : (xs : List LocalAction) (x : LocalAction) → all_idle xs ≡ true → In x xs → is_idle x ≡ true
-each-idle [] x h i = absurd i
-each-idle (y ∷ xs) x h (inl is) = ap (λ (z : LocalAction). is_idle z) is ∙ (and_parts (is_idle y) (all_idle xs) h).0
-each-idle (y ∷ xs) x h (inr i) = each-idle xs x (and_parts (is_idle y) (all_idle xs) h).1 i
+rests : (S : State) (b : Bool) → body_is_over S.residual ≡ b → NoneAllowed S → StandsLike S (at_rest b)
+rests S true h none = (none, h)
+rests S false h none = (none, h)
 
-and-false : (a b : Bool) → (a && b) ≡ false → (a ≡ false) ⊎ (b ≡ false)
-and-false true b h = inr h
-and-false false b h = inl refl
-
-some-other : (xs : List LocalAction) → all_idle xs ≡ false → (x : LocalAction) × In x xs × (is_idle x ≡ false)
-some-other [] h = cc
-some-other (y ∷ xs) h = elim (and-false (is_idle y) (all_idle xs) h) [
-  | inl here ↦ (y, inl refl, here)
-  | inr later ↦ let rest = some-other xs later in (rest.0, inr rest.1, rest.2)
-]
-
-rests : (S : State) (xs : List LocalAction) (b : Bool) → all_idle xs ≡ b → OffersExactly S xs → NoneAllowed S → StandsLike S (at_rest b)
-rests S xs true h offers none = (none, λ x o. each-idle xs x h ((offers.exactly x).1 o))
-rests S xs false h offers none = let found = some-other xs h in (none, (found.0, (offers.exactly found.0).0 found.1, found.2))
-
-pub stands-like : (S : State) (xs : List LocalAction) (es : List Event) → OffersExactly S xs → ReadyList S es → StandsLike S (progress_of xs es)
-stands-like S xs [] offers ready = rests S xs (all_idle xs) refl offers (λ e a. (ready.exactly e).1 a)
-stands-like S xs (e ∷ es) offers ready = (e, (ready.exactly e).0 (inl refl))
+pub stands-like : (S : State) (es : List Event) → ReadyList S es → StandsLike S (progress_of (body_is_over S.residual) es)
+stands-like S [] ready = rests S (body_is_over S.residual) refl (λ e a. (ready.exactly e).1 a)
+stands-like S (e ∷ es) ready = (e, (ready.exactly e).0 (inl refl))

@@ -1,3 +1,4 @@
+mod BodyOver
 mod Leftover
 mod InOneOrder
 mod RingOfState

@@ -15,7 +15,7 @@ use Rattle.local_actions.specs.declared.action.ActionKind.TheVariants as action
 use Rattle.rings.specs.Partners.{partner_in}
 use Rattle.rings.specs.declared.partner.Partner.{Partner}
 use Rattle.rings.specs.declared.partner.Partner.TheVariants as partner
-use Rattle.waiting.specs.Progress.{is_in_body, is_outlet}
+use Rattle.waiting.specs.Progress.{is_idle, is_in_body, is_outlet}
 use Rattle.waiting.specs.declared.progress.Progress.{Progress}
 use Rattle.waiting.specs.declared.progress.Progress.TheVariants.{GoesOn, Done, Stuck}
 use Rattle.waiting.specs.declared.waiting.Waiting.{Waiting}
@@ -95,11 +95,12 @@ abbrev pub is_set : Option Bool → Bool
 is_set (Some b) = b
 is_set None = false
 
--- none of these actions, of which the first has the mark of number n, stands in the body and is deadlocked
+-- none of these actions, of which the first has the mark of number n, stands in the body or is held by it, and is
+-- deadlocked
 abbrev pub none_deadlocked : List Bool → ℕ → List LocalAction → Bool
 none_deadlocked marks n [] = true
 none_deadlocked marks n (x ∷ xs) =
-    not (is_in_body x.place && is_set (slice_get marks n)) && none_deadlocked marks (n + 1) xs
+    not (not (is_idle x) && is_set (slice_get marks n)) && none_deadlocked marks (n + 1) xs
 
 -- Nothing can go on, and nothing in the body is deadlocked, so that each that waits there waits for the environment in
 -- the end, by whichever of its arms, and one action does so itself. (What the environment has left over, and nobody

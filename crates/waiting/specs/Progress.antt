@@ -1,8 +1,9 @@
--- Whether a run goes on, is done or is stuck. (Own. At an output port the environment takes what comes for ever, and at
--- an input port it keeps what nobody takes: neither keeps a run from being done. A handshake that the body has begun, and
--- never ends, does.)
-use Rattle.std.specs.Prelude.{◌≡◌, ◌==◌, ◌||◌, Bool, true, false, not, [], ◌∷◌, None}
+-- Whether a run goes on, is done or is stuck. (Own. A run is done where nothing of the body is left. At an output port
+-- the environment takes what comes for ever, and at an input port it keeps what nobody takes: neither keeps a run from
+-- being done. A body that has come to `halt`, which never ends, does.)
+use Rattle.std.specs.Prelude.{◌≡◌, ◌==◌, ◌||◌, zero, suc, Bool, true, false, not, [], ◌∷◌, None}
 use Rattle.address.specs.declared.Entry.TheVariants.{Ordered, Branch}
+use Rattle.system.specs.Residual.{Residual, done, beside}
 use Rattle.runs.specs.Moves.{Place}
 use Rattle.runs.specs.Steps.{State, Allowed}
 use Rattle.runs.specs.declared.event.Event.{Event}
@@ -29,9 +30,16 @@ is_in_body [] = false
 is_in_body (Ordered n ∷ rest) = false
 is_in_body (Branch n ∷ rest) = n == 0
 
--- whether an action keeps no run from being done: the environment offers it, and the body does not hold it
+-- whether the environment offers an action, and the body does not hold it
 abbrev pub is_idle : LocalAction → Bool
 is_idle x = not (is_in_body x.place || is_held x.action)
+
+-- whether nothing of the body is left, which is branch 0 of the whole: then another branch comes first, or none is left
+abbrev pub body_is_over : Residual → Bool
+body_is_over done = true
+body_is_over (beside zero child rest) = false
+body_is_over (beside (suc k) child rest) = true
+body_is_over _ = false
 
 -- no event is allowed
 abbrev pub NoneAllowed : State → Type 0
@@ -40,5 +48,5 @@ NoneAllowed S = (e : Event) → Allowed S e → ⊥
 -- how a state stands, a line for each
 abbrev pub StandsLike : State → Progress → Type 0
 StandsLike S GoesOn = (e : Event) × Allowed S e
-StandsLike S Done = NoneAllowed S × ((x : LocalAction) → Offered S x → is_idle x ≡ true)
-StandsLike S Stuck = NoneAllowed S × ((x : LocalAction) × Offered S x × (is_idle x ≡ false))
+StandsLike S Done = NoneAllowed S × (body_is_over S.residual ≡ true)
+StandsLike S Stuck = NoneAllowed S × (body_is_over S.residual ≡ false)

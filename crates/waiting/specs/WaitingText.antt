@@ -83,7 +83,7 @@ deed_text system action.Turns = codes " turns"
 -- the stimulus of a channel is used up, or nobody else uses what an action on a line or of the environment waits on
 abbrev pub used_up_text : System → Option ℕ → Option ℕ → List ℕ
 used_up_text system (Some line) (Some c) = on_channel system (codes ", the stimulus of ") c ++ codes " is used up"
-used_up_text system _ _ = codes ", nobody else uses it any more"
+used_up_text system _ _ = codes ", no other branch uses it any more"
 
 -- why no partner can come any more
 abbrev pub gone_text : System → Option ℕ → ActionKind → List ℕ

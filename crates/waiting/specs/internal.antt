@@ -1,3 +1,4 @@
 pub mod Among
+pub mod Body
 pub mod Held
 pub mod Helps

@@ -4,7 +4,7 @@ ghost use Rattle.std.specs.Option.{option_copied};
 ghost use Rattle.waiting.specs.Input as model;
 ghost use Rattle.waiting.specs.internal.Helps.{helps};
 
-use crate::progress::{Progress, is_in_body, is_outlet};
+use crate::progress::{Progress, is_idle, is_in_body, is_outlet};
 use crate::text::partner_at;
 use crate::waiting::Waiting;
 use local_actions::{ActionKind, LocalAction};
@@ -81,12 +81,12 @@ fn all_settled(actions: &[LocalAction], partners: &[Partner]) -> bool
     true
 }
 
-/// Whether none of the actions, which have these marks, stands in the body and is deadlocked.
+/// Whether none of the actions, which have these marks, stands in the body or is held by it, and is deadlocked.
 fn none_deadlocked(actions: &[LocalAction], marks: &[bool]) -> bool
     ensures { result ≡ model.none_deadlocked marks.now 0 actions.now }
 {
     for (index, action) in actions.iter().enumerate() {
-        if is_in_body(&action.place) && is_set(marks, index) {
+        if !is_idle(action) && is_set(marks, index) {
             return false;
         }
     }

@@ -1,10 +1,15 @@
 // Whether a run goes on, is done or is stuck.
-ghost use Rattle.std.specs.Prelude.{◌≡◌};
-ghost use Rattle.waiting.specs.Progress.{is_held, is_idle, is_in_body, is_outlet};
-ghost use Rattle.waiting.specs.internal.Among.{all_idle, progress_of};
+ghost use Rattle.std.specs.Prelude.{◌≡◌, [], map};
+ghost use Rattle.process_tree.specs.Remaining.{remaining};
+ghost use Rattle.process_tree.specs.Tidy.{Tidy, TidySideBySide};
+ghost use Rattle.process_tree.specs.View.{proc_view, procs_of, tree_view};
+ghost use Rattle.waiting.specs.Progress.{body_is_over, is_held, is_idle, is_in_body, is_outlet};
+ghost use Rattle.waiting.specs.internal.Among.{progress_of};
+ghost use Rattle.waiting.specs.internal.Body.{first_finished};
 
 use address::{Address, Entry};
-use local_actions::{ActionKind, LocalAction};
+use local_actions::{ActionKind, LocalAction, is_over};
+use process_tree::{Proc, Tree};
 use runs::Event;
 
 /// How a run stands.
@@ -12,39 +17,49 @@ use runs::Event;
 pub enum Progress {
     /// some event is allowed
     GoesOn,
-    /// no event is allowed, and the body has nothing to do and holds nobody: at most the environment waits at its ports
+    /// no event is allowed, and nothing of the body is left: at most the environment waits at its ports
     Done,
-    /// no event is allowed, and something in the body waits, or it holds a sender
+    /// no event is allowed, and the body is not over
     Stuck,
 }
 
-/// How a run stands where these actions are offered and these events are allowed.
-pub(crate) fn progress_of(actions: &[LocalAction], events: &[Event]) -> Progress
-    ensures { result ≡ progress_of actions.now events.now }
+/// How a run stands whose tree this is, where these events are allowed.
+pub(crate) fn progress_of(tree: &Tree, events: &[Event]) -> Progress
+    ensures { Tidy (tree_view tree.now) →
+        result ≡ progress_of (body_is_over (remaining [] (tree_view tree.now))) events.now }
 {
     if !events.is_empty() {
         Progress::GoesOn
-    } else if all_idle(actions) {
+    } else if body_is_over(tree) {
         Progress::Done
     } else {
         Progress::Stuck
     }
 }
 
-/// Whether none of the actions keeps a run from being done.
-fn all_idle(actions: &[LocalAction]) -> bool
-    ensures { result ≡ all_idle actions.now }
+/// Whether nothing of the body is left, which is the first branch of the whole.
+fn body_is_over(tree: &Tree) -> bool
+    ensures { Tidy (tree_view tree.now) → result ≡ body_is_over (remaining [] (tree_view tree.now)) }
 {
-    for offered in actions {
-        if !is_idle(offered) {
-            return false;
-        }
+    match tree.root() {
+        Proc::Parallel(branches) => is_first_over(branches.as_slice()),
+        whole => is_over(whole),
     }
-    true
 }
 
-/// Whether the action keeps no run from being done: the environment offers it, and the body does not hold it.
-fn is_idle(offered: &LocalAction) -> bool
+/// Whether the first of the branches is over, if there is one.
+fn is_first_over(branches: &[Proc]) -> bool
+    ensures { TidySideBySide (procs_of (map proc_view branches.now)) →
+        result ≡ first_finished (procs_of (map proc_view branches.now)) }
+{
+    match branches {
+        [body, ..] => is_over(body),
+        [] => true,
+    }
+}
+
+/// Whether the environment offers the action, and the body does not hold it.
+pub(crate) fn is_idle(offered: &LocalAction) -> bool
     ensures { result ≡ is_idle offered.now }
 {
     !(is_in_body(&offered.place) || is_held(&offered.action))

@@ -322,7 +322,7 @@ fn write_used_up(
             write_on(system, b", the stimulus of ", channel, out)?;
             add_words(out, b" is used up")
         }
-        _ => add_words(out, b", nobody else uses it any more"),
+        _ => add_words(out, b", no other branch uses it any more"),
     }
 }
 

@@ -50,7 +50,7 @@ pub fn who_waits(alloc: Global, machine: &Machine) -> Result<Waiting, AllocError
     let (tree, store) = machine.state();
     let actions = actions_of(alloc, tree, store)?;
     let ready = ready_events(machine)?;
-    let progress = progress_of(actions.as_slice(), ready.as_slice());
+    let progress = progress_of(tree, ready.as_slice());
     let places = Places::of(alloc, ready.as_slice())?;
     let actions = left_over(actions, &places);
     let partners = partners_of(alloc, tree, actions.as_slice())?;

@@ -72,7 +72,7 @@ fn a_run_is_done_when_only_outputs_are_offered(rt: HostRuntime) -> Result<(), Fa
     is(
         &rt,
         &text,
-        b"done\nwaiting 1\n  branch 2 /2.1 environment: takes from o, nobody else uses it any more\n",
+        b"done\nwaiting 1\n  branch 2 /2.1 environment: takes from o, no other branch uses it any more\n",
     );
     Ok(())
 }
@@ -93,7 +93,7 @@ fn the_second_value_waits_behind_the_first(rt: HostRuntime) -> Result<(), Fail> 
     let trace = b"balsadbg trace 2\nstep /0.0.0 0\nstep /2.0 0\nstep /3.0 0\n";
     let text = told(rt.alloc(), FORK, trace)?;
     let wanted =
-        b"goes on\nready 1\n  branch 0 close i /1.0.1 /0.0.2\nwaiting 2\n  branch 2 /2.1 environment: takes from a, nobody else uses it any more\n  branch 3 /3.1 environment: takes from b, nobody else uses it any more\n";
+        b"goes on\nready 1\n  branch 0 close i /1.0.1 /0.0.2\nwaiting 2\n  branch 2 /2.1 environment: takes from a, no other branch uses it any more\n  branch 3 /3.1 environment: takes from b, no other branch uses it any more\n";
     is(&rt, &text, wanted);
     Ok(())
 }

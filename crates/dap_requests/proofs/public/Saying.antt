@@ -2,13 +2,18 @@
 use Rattle.std.proofs.Common.{◌≡◌, ◌⊎◌, List, [], ◌∷◌, ◌++◌, Bool, false, true, inl, inr, refl, sym, ◌∙◌, ap, subst, append_assoc}
 use Rattle.std.proofs.lemmas.List.{append-nil}
 use Rattle.syntax.specs.Lists.{Every}
+use Rattle.runs.specs.declared.event.Choice.{Choice}
 use Rattle.dap_messages.specs.Notes.{Adds, IsDone, IsRefusal, told_by}
 use Rattle.dap_messages.specs.declared.answer.Answer.{Answer}
 use Rattle.dap_messages.specs.declared.answer.Effect.{Effect}
 use Rattle.dap_messages.specs.declared.answer.Note.{Note}
 use Rattle.dap_messages.specs.declared.answer.Outcome.{Outcome}
+use Rattle.dap_messages.specs.declared.told.Stop.{Stop}
 use Rattle.dap_messages.specs.declared.told.Told.{Told}
-use Rattle.dap_requests.specs.Said.{Tells, AreOutputs, TellsOutputs, TellsStop, Runs}
+use Rattle.locked_execution.specs.AtDesk.{AtDesk}
+use Rattle.dap_requests.specs.Back.{Remembers}
+use Rattle.dap_requests.specs.Said.{Tells, AreOutputs, TellsEnd, TellsOutputs, TellsStop, Runs}
+use Rattle.dap_requests.specs.Typed.{KeepsSome}
 
 both-outputs : (ts us : List Told) → AreOutputs ts → AreOutputs us → AreOutputs (ts ++ us)
 both-outputs [] us h k = k
@@ -77,42 +82,81 @@ says_on a m b h k = record {
 }
 
 -- one `stopped`
-pub stops_now : (a b : Answer) → Adds a Told.Stopped b → TellsStop a b
-stops_now a b h = record {
+pub stops_now : (a b : Answer) (stop : Stop) → Adds a (Told.Stopped stop) b → TellsStop a stop b
+stops_now a b stop h = record {
   outputs = [];
   are = tt;
-  told = tells_one a b Told.Stopped h;
+  told = tells_one a b (Told.Stopped stop) h;
   done = done_same a.outcome b.outcome h.outcome;
   effect = h.effect;
 }
 
 -- texts, and then others and one `stopped`
-pub stops_on : (a m b : Answer) → TellsOutputs a m → TellsStop m b → TellsStop a b
-stops_on a m b h k = record {
+pub stops_on : (a m b : Answer) (stop : Stop) → TellsOutputs a m → TellsStop m stop b → TellsStop a stop b
+stops_on a m b stop h k = record {
   outputs = h.outputs ++ k.outputs;
   are = both-outputs h.outputs k.outputs h.are k.are;
   told = λ full.
-      let it = tells_on a m b h.outputs (k.outputs ++ Told.Stopped ∷ []) h.told k.told full in
-      (it.0, it.1 ∙ ap (λ (vs : List Told). told_by a.notes.items ++ vs) (sym (append_assoc h.outputs k.outputs (Told.Stopped ∷ []))));
+      let it = tells_on a m b h.outputs (k.outputs ++ Told.Stopped stop ∷ []) h.told k.told full in
+      (it.0, it.1 ∙ ap (λ (vs : List Told). told_by a.notes.items ++ vs) (sym (append_assoc h.outputs k.outputs (Told.Stopped stop ∷ []))));
+  done = λ done. k.done (h.done done);
+  effect = k.effect;
+}
+
+-- that the run has ended
+pub ends_now : (a m b : Answer) → Adds a Told.Exited m → Adds m Told.Terminated b → TellsEnd a b
+ends_now a m b h k = record {
+  outputs = [];
+  are = tt;
+  told = tells_on a m b (Told.Exited ∷ []) (Told.Terminated ∷ []) (tells_one a m Told.Exited h) (tells_one m b Told.Terminated k);
+  done = λ done. done_same m.outcome b.outcome k.outcome (done_same a.outcome m.outcome h.outcome done);
+  effect = k.effect;
+}
+
+-- texts, and then that it has ended
+pub ends_on : (a m b : Answer) → TellsOutputs a m → TellsEnd m b → TellsEnd a b
+ends_on a m b h k = record {
+  outputs = h.outputs ++ k.outputs;
+  are = both-outputs h.outputs k.outputs h.are k.are;
+  told = λ full.
+      let end = Told.Exited ∷ Told.Terminated ∷ [] in
+      let it = tells_on a m b h.outputs (k.outputs ++ end) h.told k.told full in
+      (it.0, it.1 ∙ ap (λ (vs : List Told). told_by a.notes.items ++ vs) (sym (append_assoc h.outputs k.outputs end)));
   done = λ done. k.done (h.done done);
   effect = k.effect;
 }
 
 -- a body, and then one `stopped`
-pub stops_behind : (a m b : Answer) → m.notes ≡ a.notes → (m.lacks ≡ false → a.lacks ≡ false) → (IsDone a.outcome → IsDone m.outcome)
-    → m.effect ≡ a.effect → TellsStop m b → TellsStop a b
-stops_behind a m b same lacks done effect h = stops_on a m b (says_nothing a m same lacks done effect) h
+pub stops_behind : (a m b : Answer) (stop : Stop) → m.notes ≡ a.notes → (m.lacks ≡ false → a.lacks ≡ false) → (IsDone a.outcome → IsDone m.outcome)
+    → m.effect ≡ a.effect → TellsStop m stop b → TellsStop a stop b
+stops_behind a m b stop same lacks done effect h = stops_on a m b stop (says_nothing a m same lacks done effect) h
 
 -- a request to run that is refused
-pub runs_refused : (a b : Answer) → IsRefusal b.outcome → b.notes ≡ a.notes → Runs a b
-runs_refused a b refused same = inl (refused, same)
+pub runs_refused : (a b : Answer) (d d' : AtDesk) (goes : Stop → Type 0) → IsRefusal b.outcome → b.notes ≡ a.notes → d' ≡ d → Runs a b d d' goes
+runs_refused a b d d' goes refused same stays = inl (refused, same, stays)
 
 -- one that ends
-pub runs_on : (a m b : Answer) → m ≡ a → TellsStop m b → Runs a b
-runs_on a m b same h = inr (subst (λ (x : Answer). TellsStop x b) same h)
+pub runs_on : (a m b : Answer) (d d' : AtDesk) (goes : Stop → Type 0) → m ≡ a → (stop : Stop) × TellsStop m stop b × goes stop → Runs a b d d' goes
+runs_on a m b d d' goes same h = inr (h.0, subst (λ (x : Answer). TellsStop x h.0 b) same h.1, h.2)
 
 -- one that goes on so
-pub runs_after : (a m b : Answer) → m ≡ a → Runs m b → Runs a b
-runs_after a m b same h = subst (λ (x : Answer). Runs x b) same h
+pub runs_after : (a m b : Answer) (d d' : AtDesk) (goes : Stop → Type 0) → m ≡ a → Runs m b d d' goes → Runs a b d d' goes
+runs_after a m b d d' goes same h = subst (λ (x : Answer). Runs x b d d' goes) same h
 
-pub ruleset run_ends = (runs_on, runs_after, runs_refused)
+-- one that does more than is asked for
+pub runs_weaker : (a b : Answer) (d d' : AtDesk) (goes will : Stop → Type 0) → ((stop : Stop) → goes stop → will stop) → Runs a b d d' goes → Runs a b d d' will
+runs_weaker a b d d' goes will more h = elim h [
+  | inl refused ↦ inl refused
+  | inr ends ↦ inr (ends.0, ends.1, more ends.0 ends.2)
+]
+
+-- what a step back keeps in mind
+pub keeps_of : (d d' : AtDesk) (b : Answer) (before after : List Choice) → Remembers d d' b before after → KeepsSome b before after
+keeps_of d d' b before after h = elim h [
+  | inl none ↦ inl none
+  | inr more ↦ elim more [ inl same ↦ inr (inl same.0) | inr one ↦ inr (inr one) ]
+]
+
+-- or a request that moves nothing
+pub keeps_same : (b : Answer) (before : List Choice) → KeepsSome b before before
+keeps_same b before = inr (inl refl)

@@ -3,18 +3,13 @@
 use Rattle.std.specs.Prelude.{ℕ, ◌≡◌, ◌≢◌, ◌⊎◌, ◌++◌, List, [], Bool, Option, Result, IfSome, MatchBool, MatchResult}
 use Rattle.std.specs.Io.KnownBytes.{Appends, Consumes, IsAtEnd}
 use Rattle.devices.specs.Counting.{IsBeginning}
+pub use Rattle.devices.specs.Taking.{TakesLine}
 use Rattle.system.specs.declared.system.System.{System}
 use Rattle.debug_session.specs.declared.fault.Fault.{Fault}
 use Rattle.debug_session.specs.AtLine.{AtLine}
 use Rattle.debug_session.specs.Lines.{AsksNothing, LineMayWantMemory}
 use Rattle.debug_session.specs.Script.{IsLine, AreLines, EndWith, with_end}
 use Rattle.debug_session.specs.Transcript.{Answered, Completed, StoppedByFault}
-
--- the reader gave the line and its end, or a last line without one, behind which it is at its end
-abbrev pub TakesLine : Option (List ℕ) → Option (List ℕ) → List ℕ → Bool → Type 0
-TakesLine old new line complete =
-    IsLine line
-    × MatchBool complete (Consumes old new (with_end line)) (Consumes old new line × IfSome old (λ _. IsAtEnd new))
 
 -- the reader gave a part of a line and stopped
 abbrev pub ReadingStops : Option (List ℕ) → Option (List ℕ) → List ℕ → Fault → Type 0
@@ -28,16 +23,16 @@ LineStops system line number (Fault.BadCommand n) = (n ≡ number) × (line ≢ 
 LineStops system line number fault = ⊥
 
 -- the reader gave a part of a line, or nothing
-abbrev pub TakesPart : Option (List ℕ) → Option (List ℕ) → Type 0
-TakesPart old new = (part : List ℕ) × IsLine part × Consumes old new part
+abbrev pub TookPart : Option (List ℕ) → Option (List ℕ) → Type 0
+TookPart old new = (part : List ℕ) × IsLine part × Consumes old new part
 
 -- why no line was had, and what was given of the bytes that were pending: there was no memory for a line that is at
 -- hand, which was not taken; or reading stopped, and then nothing is pending; or writing failed, and then the reader
 -- was not asked
 abbrev pub AskingStops : Option (List ℕ) → Option (List ℕ) → List ℕ → List ℕ → List ℕ → Fault → Type 0
 AskingStops old new pending pending' given Fault.Memory =
-    (Consumes old new [] × (given ++ pending' ≡ pending)) ⊎ (TakesPart old new × (given ≡ pending) × (pending' ≡ []))
-AskingStops old new pending pending' given Fault.ReadFailed = TakesPart old new × (given ≡ pending) × (pending' ≡ [])
+    (Consumes old new [] × (given ++ pending' ≡ pending)) ⊎ (TookPart old new × (given ≡ pending) × (pending' ≡ []))
+AskingStops old new pending pending' given Fault.ReadFailed = TookPart old new × (given ≡ pending) × (pending' ≡ [])
 AskingStops old new pending pending' given Fault.WriteFailed = Consumes old new [] × IsBeginning pending given
 AskingStops old new pending pending' given fault = ⊥
 

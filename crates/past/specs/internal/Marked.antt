@@ -38,5 +38,5 @@ untold all t (x ∷ k) (m ∷ marks) =
 -- the past of t is that of the marked entries, each that is told with what it follows
 pub record ListsMarked (all : Bool) (l : Live) (t : ℕ) (marks : List Bool) (past : Past) : Type 0 where
   pub tickets : tickets_of past.events ≡ told_tickets all t l marks
-  pub direct : Every (λ p. ListsLeads l p.ticket p.follows) past.events
+  pub nearest : Every (λ p. ListsLeads l p.ticket p.follows) past.events
   pub left_out : past.left_out ≡ untold all t l marks

@@ -116,10 +116,10 @@ all-known l depths n known whole = record {
 }
 
 -- the first numbers of a list, one more of them
-next-of : (xs : List ℕ) (i : ℕ) → i < length xs → take (i + 1) xs ≡ take i xs ++ get_or xs i 0 ∷ []
+pub next-of : (xs : List ℕ) (i : ℕ) → i < length xs → take (i + 1) xs ≡ take i xs ++ get_or xs i 0 ∷ []
 next-of xs i h = ap (λ (k : ℕ). take k xs) (add-one i) ∙ take-next xs i (get_or xs i 0) (slice_get-get_or xs i 0 h)
 
-in-next : (xs : List ℕ) (i t : ℕ) → i < length xs → In t (take (i + 1) xs) → In t (take i xs) ⊎ (t ≡ get_or xs i 0)
+pub in-next : (xs : List ℕ) (i t : ℕ) → i < length xs → In t (take (i + 1) xs) → In t (take i xs) ⊎ (t ≡ get_or xs i 0)
 in-next xs i t h within =
     elim (in-parts t (take i xs) (get_or xs i 0 ∷ []) (subst (λ (ys : List ℕ). In t ys) (next-of xs i h) within)) [
       | inl before ↦ inl before
@@ -127,10 +127,10 @@ in-next xs i t h within =
       | inr (inr none) ↦ absurd none
     ]
 
-in-still : (xs : List ℕ) (i t : ℕ) → i < length xs → In t (take i xs) → In t (take (i + 1) xs)
+pub in-still : (xs : List ℕ) (i t : ℕ) → i < length xs → In t (take i xs) → In t (take (i + 1) xs)
 in-still xs i t h before = subst (λ (ys : List ℕ). In t ys) (sym (next-of xs i h)) (in-left t (take i xs) (get_or xs i 0 ∷ []) before)
 
-in-here : (xs : List ℕ) (i : ℕ) → i < length xs → In (get_or xs i 0) (take (i + 1) xs)
+pub in-here : (xs : List ℕ) (i : ℕ) → i < length xs → In (get_or xs i 0) (take (i + 1) xs)
 in-here xs i h = subst (λ (ys : List ℕ). In (get_or xs i 0) ys) (sym (next-of xs i h)) (in-right (get_or xs i 0) (take i xs) (get_or xs i 0 ∷ []) (inl refl))
 
 -- d is one more than the greatest depth of these events, and 0 where there are none

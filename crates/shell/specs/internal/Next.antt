@@ -7,40 +7,41 @@ use Rattle.debug_session.specs.Script.{IsLine, with_end}
 use Rattle.debug_session.specs.declared.fault.Fault.{Fault}
 use Rattle.debug_session.specs.declared.fault.Fault.TheVariants.{WriteFailed}
 use Rattle.shell_desk.specs.AtBench.{AtBench}
-use Rattle.shell.specs.Lines.{AnsweredAsTyped, Holding, LineLeaves}
+use Rattle.shell.specs.Files.{Files}
+use Rattle.shell.specs.Lines.{AnsweredAsTyped, LineLeaves}
 use Rattle.shell.specs.Taken.{Finished, Shown, Stopped, TellsLack}
 use Rattle.shell.specs.declared.answer.Outcome.{Outcome}
 
 -- one line was taken with its end, done and shown, and did not end the session
-abbrev pub OneShown : Holding → List ℕ → List ℕ → AtBench → Option (List ℕ) → Option (List ℕ) → Option (List ℕ)
+abbrev pub OneShown : Files → List ℕ → List ℕ → AtBench → Option (List ℕ) → Option (List ℕ) → Option (List ℕ)
     → Option (List ℕ) → AtBench → Type 0
-OneShown holds source stimulus b read left wrote contents b' =
+OneShown files source stimulus b read left wrote contents b' =
     (line : List ℕ) × (outcome : Outcome) × (shown : List ℕ) × IsLine line × Consumes read left (with_end line)
-    × Appends wrote contents shown × LineLeaves holds source stimulus b line outcome b'
+    × Appends wrote contents shown × LineLeaves files source stimulus b line outcome b'
     × (outcome ≢ Outcome.Over) × Shown source b line shown b'
 
 -- all lines were done, and shown on the writer
-abbrev pub FinishedOn : Holding → List ℕ → List ℕ → AtBench → Option (List ℕ) → Option (List ℕ) → Option (List ℕ)
+abbrev pub FinishedOn : Files → List ℕ → List ℕ → AtBench → Option (List ℕ) → Option (List ℕ) → Option (List ℕ)
     → Option (List ℕ) → AtBench → Type 0
-FinishedOn holds source stimulus b read left wrote contents b' =
-    (output : List ℕ) × Appends wrote contents output × Finished holds source stimulus b read left output b'
+FinishedOn files source stimulus b read left wrote contents b' =
+    (output : List ℕ) × Appends wrote contents output × Finished files source stimulus b read left output b'
 
 -- the session ended so, without a greeting
-abbrev pub Ended : Holding → List ℕ → List ℕ → AtBench → Option (List ℕ) → Option (List ℕ) → Option (List ℕ)
+abbrev pub Ended : Files → List ℕ → List ℕ → AtBench → Option (List ℕ) → Option (List ℕ) → Option (List ℕ)
     → Option (List ℕ) → Result (Unit {0}) Fault → AtBench → Type 0
-Ended holds source stimulus b read left wrote contents result b' =
+Ended files source stimulus b read left wrote contents result b' =
     MatchResult result
-    (λ _. FinishedOn holds source stimulus b read left wrote contents b')
-    (λ fault. Stopped holds source stimulus b read left fault b')
+    (λ _. FinishedOn files source stimulus b read left wrote contents b')
+    (λ fault. Stopped files source stimulus b read left fault b')
 
 -- where others may follow one line was taken with its end; else it was the last, or it stopped
-abbrev pub NextEnds : Holding → List ℕ → List ℕ → AtBench → Option (List ℕ) → Option (List ℕ) → Option (List ℕ)
+abbrev pub NextEnds : Files → List ℕ → List ℕ → AtBench → Option (List ℕ) → Option (List ℕ) → Option (List ℕ)
     → Option (List ℕ) → Result Bool Fault → AtBench → Type 0
-NextEnds holds source stimulus b read left wrote contents result b' =
+NextEnds files source stimulus b read left wrote contents result b' =
     MatchResult result
-    (λ more. MatchBool more (OneShown holds source stimulus b read left wrote contents b')
-    (FinishedOn holds source stimulus b read left wrote contents b'))
-    (λ fault. Stopped holds source stimulus b read left fault b')
+    (λ more. MatchBool more (OneShown files source stimulus b read left wrote contents b')
+    (FinishedOn files source stimulus b read left wrote contents b'))
+    (λ fault. Stopped files source stimulus b read left fault b')
 
 -- such an answer was written on: its own part, where there was memory for it, and words
 abbrev pub Answers : {V : Type 0} → Option V → (V → List ℕ) → Option (List ℕ) → Option (List ℕ) → Type 0
@@ -60,10 +61,10 @@ GoesOn complete outcome more =
     MatchBool more ((complete ≡ true) × (outcome ≢ Outcome.Over)) ((complete ≡ false) ⊎ (outcome ≡ Outcome.Over))
 
 -- a line that was taken was done so, and is shown, or writing failed
-abbrev pub TakenEnds : Holding → List ℕ → List ℕ → AtBench → List ℕ → Bool → Option (List ℕ) → Option (List ℕ)
+abbrev pub TakenEnds : Files → List ℕ → List ℕ → AtBench → List ℕ → Bool → Option (List ℕ) → Option (List ℕ)
     → Result Bool Fault → AtBench → Type 0
-TakenEnds holds source stimulus b line complete wrote contents result b' =
-    (outcome : Outcome) × LineLeaves holds source stimulus b line outcome b'
+TakenEnds files source stimulus b line complete wrote contents result b' =
+    (outcome : Outcome) × LineLeaves files source stimulus b line outcome b'
     × MatchResult result
     (λ more. GoesOn complete outcome more × OwnShown source b line b' wrote contents)
     (λ fault. fault ≡ WriteFailed)

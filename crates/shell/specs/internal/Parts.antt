@@ -1,18 +1,20 @@
 -- What the parts of a line ask, as the code reads them.
 -- No reader has to believe it: `proofs/LeavesLemmas.antt` ties it to `Asking.antt`.
-use Rattle.std.specs.Prelude.{ℕ, ◌≡◌, ◌≢◌, ◌⊎◌, List, [], Bool, true, false, Some}
+use Rattle.std.specs.Prelude.{ℕ, ◌≡◌, ◌≢◌, ◌⊎◌, List, [], ◌∷◌, Bool, true, false, Some}
 use Rattle.machine.specs.AtMachine.{AtMachine}
 use Rattle.line_text.specs.Fields.{CutAtSpace}
 use Rattle.debug_session.specs.declared.fault.Fault.{Fault}
 use Rattle.shell_desk.specs.Words.{AsksDeed}
 use Rattle.shell_desk.specs.internal.Spelled.{AsksNoDeed}
 use Rattle.shell_desk.specs.declared.deed.Deed.{Deed}
+use Rattle.shell_desk.specs.declared.deed.Done.{Done}
 use Rattle.shell_desk.specs.declared.word.Word.{Word}
 use Rattle.shell_desk.specs.AtBench.{AtBench}
-use Rattle.shell_desk.specs.Does.{TurnsTo}
+use Rattle.shell_desk.specs.Does.{Does, TurnsTo}
 use Rattle.shell.specs.Asking.{GoesOnWith, WordAsks}
 use Rattle.shell.specs.Beginning.{BeginsAt}
-use Rattle.shell.specs.Lines.{Holding, IsSaved, line_count}
+use Rattle.shell.specs.Files.{Files}
+use Rattle.shell.specs.Lines.{IsNew, IsSaved, line_count}
 use Rattle.shell.specs.declared.answer.Outcome.{Outcome}
 
 -- a fault is want of memory
@@ -35,10 +37,21 @@ LoadsTrace source stimulus trace b Outcome.Loaded b' =
 LoadsTrace source stimulus trace b Outcome.NotLoaded b' = b' ≡ b
 LoadsTrace source stimulus trace b _ b' = ⊥
 
+-- where a file was not to be written over nothing had its name
+abbrev pub IsNewUnless : Files → Bool → List ℕ → Type 0
+IsNewUnless files over rest = over ≡ false → IsNew files rest
+
 -- the trace was saved to the file that the rest names, or that was told in words alone
-abbrev pub SavesTrace : Holding → AtBench → List ℕ → Outcome → Type 0
-SavesTrace holds b rest outcome =
-    (outcome ≡ Outcome.Done) ⊎ ((outcome ≡ Outcome.Saved) × IsSaved holds b rest)
+abbrev pub SavesTrace : Files → AtBench → List ℕ → Bool → Outcome → Type 0
+SavesTrace files b rest over outcome =
+    (outcome ≡ Outcome.Done) ⊎ ((outcome ≡ Outcome.Saved) × IsSaved files b rest × IsNewUnless files over rest)
+
+-- these bytes were written to the file that the rest names, or that was told in words alone
+abbrev pub WritesFile : Files → List ℕ → List ℕ → Bool → Outcome → Outcome → Type 0
+WritesFile files bytes rest over done outcome =
+    (outcome ≡ Outcome.Done)
+    ⊎ ((outcome ≡ done) × ((name : List ℕ) × (rest ≡ 32 ∷ name) × files.holds name bytes)
+    × IsNewUnless files over rest)
 
 -- `quit` with nothing behind it ends the session
 abbrev pub Quits : List ℕ → Outcome → Type 0
@@ -47,6 +60,12 @@ Quits rest outcome = ((rest ≡ []) × (outcome ≡ Outcome.Over)) ⊎ ((rest �
 -- the session goes on, and nothing is asked
 abbrev pub RestsWith : Word → List ℕ → Deed → Type 0
 RestsWith word rest deed = GoesOnWith word rest × (deed ≡ Deed.Rest)
+
+-- the step that has the number is taken, or there was no memory to read the line
+abbrev pub TakesNumber : ℕ → AtBench → Outcome → AtBench → Type 0
+TakesNumber n b outcome b' =
+    ((outcome ≡ Outcome.Done) × ((done : Done) × Does b (Deed.Take n) done b'))
+    ⊎ ((outcome ≡ Outcome.Unread) × (b' ≡ b))
 
 -- a word asks this with the rest behind it, or nothing
 abbrev pub WordMeans : Word → List ℕ → Deed → Type 0

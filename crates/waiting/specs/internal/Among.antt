@@ -5,7 +5,6 @@ use Rattle.runs.specs.Moves.{Place}
 use Rattle.runs.specs.Tests.{same_place}
 use Rattle.runs.specs.declared.event.Event.{Event}
 use Rattle.local_actions.specs.declared.action.LocalAction.{LocalAction}
-use Rattle.waiting.specs.Progress.{is_idle}
 use Rattle.waiting.specs.declared.progress.Progress.{Progress}
 use Rattle.waiting.specs.declared.progress.Progress.TheVariants.{GoesOn, Done, Stuck}
 
@@ -33,17 +32,12 @@ abbrev pub left_over : List Event → List LocalAction → List LocalAction
 left_over es [] = []
 left_over es (x ∷ xs) = cond (has_any x.place es) (left_over es xs) (x ∷ left_over es xs)
 
--- whether none of the actions keeps a run from being done
-abbrev pub all_idle : List LocalAction → Bool
-all_idle [] = true
-all_idle (x ∷ xs) = is_idle x && all_idle xs
-
--- how a run stands where these actions are offered and no event is allowed
+-- how a run stands where no event is allowed, from whether the body is over
 abbrev pub at_rest : Bool → Progress
 at_rest true = Done
 at_rest false = Stuck
 
 -- the same, where these events are allowed
-abbrev pub progress_of : List LocalAction → List Event → Progress
-progress_of actions (e ∷ es) = GoesOn
-progress_of actions [] = at_rest (all_idle actions)
+abbrev pub progress_of : Bool → List Event → Progress
+progress_of over (e ∷ es) = GoesOn
+progress_of over [] = at_rest over

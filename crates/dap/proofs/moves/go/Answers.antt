@@ -1,14 +1,34 @@
-use Rattle.std.proofs.Common.{ℕ, Option, refl}
-use Rattle.dap.specs.Steps.{GoesOn}
-use Rattle.dap.proofs.Going.{in_no_thread, in_thread}
+use Rattle.std.proofs.Common.{ℕ, Bool, Option, Some, refl, subst, inr}
+use Rattle.dap_messages.specs.declared.told.Stop.{Stop}
+use Rattle.dap_requests.specs.Forth.{RunsBy, alone, going_of}
+use Rattle.dap_requests.specs.Said.{TellsStop}
+use Rattle.dap.specs.Steps.{GoesOn, thread_of}
+use Rattle.dap_requests.proofs.public.Saying.{runs_refused}
+use Rattle.dap.proofs.Going.{keeps_run, keeps_same, runs_in_thread}
 use Rattle.dap.proofs.moves.go.Goals as goal
 
-pub returns-in-Some-clause-on : goal.returns-in-Some-clause-on
-returns-in-Some-clause-on c =
-    in_thread (λ (k : Option ℕ). GoesOn c.args.program.now.stops.items c.args.desk.now k c.go_in.new.desk) c.args.desk.now c.machine.result.now c.args.request.now c.thread_in.result
-    c.in-Some.branch c.machine.ensures c.thread_in.ensures.thread c.in-Some.is c.go_in.ensures.passes
+pub returns-in-Some-clause-goes : goal.returns-in-Some-clause-goes
+returns-in-Some-clause-goes c =
+    runs_in_thread c.args.answer.now c.thread_in.new.answer c.go_in.new.answer c.args.desk.now c.go_in.new.desk c.machine.result.now
+    c.args.request.now c.thread_in.result c.in-Some.branch
+    (λ (k : Option ℕ) (stop : Stop). GoesOn c.args.program.now c.args.memo.now.seen.items c.go_in.new.memo.seen.items c.args.desk.now c.args.request.now k stop c.go_in.new.desk) c.machine.ensures c.thread_in.ensures.thread c.in-Some.is
+    c.in-Some.ensures.outcome
+    (inr
+    (subst
+    (λ (single : Bool). (stop : Stop) × TellsStop c.thread_in.new.answer stop c.go_in.new.answer
+    × RunsBy (going_of c.args.program.now (alone c.in-Some.branch single)) (Some c.in-Some.branch) c.args.desk.now c.args.memo.now.seen.items
+    stop c.go_in.new.desk c.go_in.new.memo.seen.items) c.flag-single.ensures c.go_in.ensures.goes))
 
-pub returns-in-None-clause-on : goal.returns-in-None-clause-on
-returns-in-None-clause-on c =
-    in_no_thread (λ (k : Option ℕ). GoesOn c.args.program.now.stops.items c.args.desk.now k c.args.desk.now) c.args.desk.now c.machine.result.now c.args.request.now c.thread_in.result
-    c.machine.ensures c.thread_in.ensures.thread c.in-None.is refl
+pub returns-in-None-clause-goes : goal.returns-in-None-clause-goes
+returns-in-None-clause-goes c =
+    runs_refused c.args.answer.now c.thread_in.new.answer c.args.desk.now c.args.desk.now
+    (λ (stop : Stop). GoesOn c.args.program.now c.args.memo.now.seen.items c.args.memo.now.seen.items c.args.desk.now c.args.request.now (thread_of c.args.desk.now c.args.request.now) stop c.args.desk.now) c.in-None.ensures.outcome.0
+    c.in-None.ensures.outcome.1 refl
+
+pub returns-in-Some-clause-keeps : goal.returns-in-Some-clause-keeps
+returns-in-Some-clause-keeps c =
+    keeps_run (going_of c.args.program.now (alone c.in-Some.branch c.flag-single.result)) (Some c.in-Some.branch) c.args.desk.now c.go_in.new.desk
+    c.args.memo.now.seen.items c.go_in.new.memo.seen.items c.thread_in.new.answer c.go_in.new.answer c.go_in.ensures.goes
+
+pub returns-in-None-clause-keeps : goal.returns-in-None-clause-keeps
+returns-in-None-clause-keeps c = keeps_same c.thread_in.new.answer c.args.memo.now.seen.items

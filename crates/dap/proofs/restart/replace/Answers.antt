@@ -5,4 +5,4 @@ pub returns-in-Some : goal.returns-in-Some
 returns-in-Some c = inl c.begin_again.ensures
 
 pub returns-in-None : goal.returns-in-None
-returns-in-None c = inr refl
+returns-in-None c = inr (refl, refl)

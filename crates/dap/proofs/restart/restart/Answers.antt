@@ -2,7 +2,10 @@ use Rattle.std.proofs.Common.{◌⊎◌, inl, inr, refl}
 use Rattle.dap.proofs.restart.restart.Goals as goal
 
 pub returns-in-Some : goal.returns-in-Some
-returns-in-Some g c = elim c.replace.ensures [ inl led ↦ inl (c.in-Some.anew.desk, c.in-Some.ensures, led) | inr same ↦ inr same ]
+returns-in-Some g c = elim c.replace.ensures [
+  | inl led ↦ inl ((c.in-Some.anew.desk, c.in-Some.ensures, led.0), led.1)
+  | inr same ↦ inr (same.0, inr same.1)
+]
 
 pub returns-in-None : goal.returns-in-None
-returns-in-None g c = inr refl
+returns-in-None g c = inr (refl, c.note_none.ensures)

@@ -1,11 +1,9 @@
 use Rattle.std.proofs.Common.{◌≡◌, ◌+◌, ◌∙◌, ◌++◌, ◌∷◌, [], List, length, None, ap, refl, sym, subst, arith, append_assoc, append-nil, length-append}
 use Rattle.std.specs.Vec.Iter.{into_iter_items}
 use Rattle.dap_messages.specs.Messages.{AreEvents}
-use Rattle.dap_messages.specs.Notes.{told_by}
 use Rattle.dap_messages.specs.declared.answer.Note.{Note}
 use Rattle.dap_messages.specs.declared.message.Message.{Message}
-use Rattle.dap_messages.specs.declared.told.Told.{Told}
-use Rattle.dap_messages.proofs.Numbered.{events-more, none_left, told-more}
+use Rattle.dap_messages.proofs.Numbered.{events-more, none_left}
 use Rattle.dap_messages.proofs.message.add_events.Goals as goal
 
 pub loop-note-preserved : goal.loop-note-preserved
@@ -25,9 +23,8 @@ loop-note-preserved c =
       made = (
         more ++ message ∷ [],
         after ∙ ap (λ (ms : List Message). ms ++ message ∷ []) before.1 ∙ append_assoc c.args.messages.now.items more (message ∷ []),
-        subst (λ (ts : List Told). AreEvents (c.args.first + 1) ts (more ++ message ∷ [])) (sym (told-more at.yielded c.in-Some.note))
-            (events-more (c.args.first + 1) (told_by at.yielded) more c.in-Some.note.told message before.2 (omega arith)
-            (record { answers = refl; type = c.event.ensures.type_is; event = c.event.ensures.event })),
+        events-more (c.args.first + 1) at.yielded more c.in-Some.note message before.2 (omega arith)
+            (record { answers = refl; type = c.event.ensures.type_is; event = c.event.ensures.event; body = c.event.ensures.body }),
         omega arith,
       );
     }
@@ -38,4 +35,4 @@ returns c =
     let gone : into_iter_items at.note-iterator ≡ [] = none_left (into_iter_items at.note-iterator) (sym at.invariant.left ∙ c.in-None.ensures.steps.0) in
     let done : at.yielded ≡ c.args.notes.items = sym (append-nil at.yielded) ∙ ap (λ l. at.yielded ++ l) (sym gone) ∙ at.invariant.rest in
     let made = at.invariant.made in
-    (made.0, made.1, subst (λ (ns : List Note). AreEvents (c.args.first + 1) (told_by ns) made.0) done made.2)
+    (made.0, made.1, subst (λ (notes : List Note). AreEvents (c.args.first + 1) notes made.0) done made.2)

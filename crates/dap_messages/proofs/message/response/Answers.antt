@@ -1,7 +1,7 @@
-use Rattle.std.proofs.Common.{refl, subst, ℕ, List, codes}
+use Rattle.std.proofs.Common.{refl, subst, ℕ, List, None, codes}
 use Rattle.serde_json.specs.Data.{string, number, unsigned}
 use Rattle.dap_messages.specs.Written.{Has}
-use Rattle.dap_messages.proofs.Heading.{has_put, has_stays}
+use Rattle.dap_messages.proofs.Heading.{has_put, has_stays, holds_none, holds_stays}
 use Rattle.dap_messages.proofs.message.response.Goals as goal
 
 pub returns-clause-type_is : goal.returns-clause-type_is
@@ -25,3 +25,12 @@ returns-clause-command c =
     subst (λ (name : List ℕ). Has c.add_outcome.new.members (codes "command") (string name)) c.as_str.ensures.value
     (c.add_outcome.ensures.head.command (string c.as_str.result.now)
     (has_put c.number.new.self c.text-2.new.self (codes "command") (string c.as_str.result.now) c.text-2.ensures))
+
+pub returns-clause-outcome : goal.returns-clause-outcome
+returns-clause-outcome c =
+    let seq = number (unsigned c.args.request.now.seq) in
+    c.add_outcome.ensures.outcome
+    (holds_stays c.number.new.self c.text-2.new.self (codes "body") (codes "command") None (string c.as_str.result.now) refl c.text-2.ensures
+    (holds_stays c.text.new.self c.number.new.self (codes "body") (codes "request_seq") None seq refl c.number.ensures
+    (holds_stays c.new-members.result c.text.new.self (codes "body") (codes "type") None (string (codes "response")) refl c.text.ensures
+    (holds_none c.new-members.result (codes "body") c.new-members.ensures))))

@@ -1,34 +1,43 @@
-use Rattle.std.proofs.Common.{refl, ◌∙◌, []}
+use Rattle.std.proofs.Common.{refl, ◌∙◌, arith}
 use Rattle.dap_moves.proofs.public.Leading.{led_nowhere, led_on}
-use Rattle.dap_moves.proofs.Passing.{passes_nowhere, passes_on}
+use Rattle.dap_moves.proofs.Running.{counted-none, counted-more, ends-after, ends-behind, keeps-nothing}
 use Rattle.dap_moves.proofs.run.go_on_from.Goals as goal
 
-pub loop-init : goal.loop-init
-loop-init c = record {
+pub loop-taken-init : goal.loop-taken-init
+loop-taken-init c = record {
   led = led_nowhere c.args.desk.now;
   system = refl;
-  passes = passes_nowhere c.args.plan.now.lines.now [] c.args.desk.now;
+  runs = counted-none c.args.desk.now c.args.plan.now.lines.now;
+  kept = c.requires.empty;
 }
 
-pub loop-preserved : goal.loop-preserved
-loop-preserved c = record {
-  led = led_on c.args.desk.now c.loop.desk c.take_turn.new.desk c.loop.invariant.led c.take_turn.ensures.led;
-  system = c.take_turn.ensures.system ∙ c.loop.invariant.system;
-  passes =
-      passes_on c.args.plan.now.lines.now [] c.args.desk.now c.loop.desk c.take_turn.new.desk
-      c.loop.invariant.passes c.take_turn.ensures.passes;
+pub loop-taken-preserved : goal.loop-taken-preserved
+loop-taken-preserved c = record {
+  led = led_on c.args.desk.now c.loop-taken.desk c.take_turn.new.desk c.loop-taken.invariant.led c.take_turn.ensures.led;
+  system = c.take_turn.ensures.system ∙ c.loop-taken.invariant.system;
+  runs =
+      counted-more c.args.plan.now c.args.desk.now c.loop-taken.desk c.take_turn.new.desk c.loop-taken.taken c.in-Went.branch
+      c.loop-taken.invariant.runs c.in-Went.ensures.takes;
+  kept = c.in-Went.ensures.keeps;
 }
 
 pub returns-in-Ended-clause-led : goal.returns-in-Ended-clause-led
-returns-in-Ended-clause-led c = led_on c.args.desk.now c.loop.desk c.take_turn.new.desk c.loop.invariant.led c.take_turn.ensures.led
+returns-in-Ended-clause-led c =
+    led_on c.args.desk.now c.loop-taken.desk c.take_turn.new.desk c.loop-taken.invariant.led c.take_turn.ensures.led
 
 pub returns-in-Ended-clause-system : goal.returns-in-Ended-clause-system
-returns-in-Ended-clause-system c = c.take_turn.ensures.system ∙ c.loop.invariant.system
+returns-in-Ended-clause-system c = c.take_turn.ensures.system ∙ c.loop-taken.invariant.system
 
-pub returns-in-Ended-clause-passes : goal.returns-in-Ended-clause-passes
-returns-in-Ended-clause-passes c =
-    passes_on c.args.plan.now.lines.now [] c.args.desk.now c.loop.desk c.take_turn.new.desk
-    c.loop.invariant.passes c.take_turn.ensures.passes
+pub returns-in-Ended-clause-runs : goal.returns-in-Ended-clause-runs
+returns-in-Ended-clause-runs c =
+    ends-behind 1 c.args.plan.now c.args.desk.now c.loop-taken.desk c.take_turn.new.desk c.loop-taken.invariant.runs.turns c.in-Ended.ended
+    c.loop-taken.invariant.runs.turned c.in-Ended.ensures.takes
 
-pub returns-clause-truly : goal.returns-clause-truly
-returns-clause-truly c = c.after_most.ensures.truly c.args.plan.now.lines.now c.after_most.new.desk
+pub returns-clause-runs : goal.returns-clause-runs
+returns-clause-runs c =
+    ends-after c.args.plan.now c.args.desk.now c.loop-taken.desk c.after_most.new.desk c.loop-taken.taken c.loop-taken.turn c.after_most.result
+    c.loop-taken.invariant.runs (omega (arith, c.loop-taken-test.false)) c.after_most.ensures.same c.after_most.ensures.ends
+
+pub returns-clause-keeps : goal.returns-clause-keeps
+returns-clause-keeps c =
+    keeps-nothing c.args.plan.now.lines.now c.after_most.new.desk c.after_most.result c.loop-taken.kept.items c.loop-taken.invariant.kept

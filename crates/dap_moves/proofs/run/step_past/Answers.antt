@@ -1,18 +1,11 @@
-use Rattle.std.proofs.Common.{inl, inr}
-use Rattle.runs.specs.Choices.{choice_of}
-use Rattle.locked_execution.specs.declared.command.Command.{Command}
-use Rattle.dap_moves.proofs.Passing.{passes_asked, passes_still}
+use Rattle.std.proofs.Common.{sym, subst}
+use Rattle.dap_moves.specs.declared.run.Turn.{Turn}
+use Rattle.dap_moves.specs.internal.Turning.{TakesOne}
+use Rattle.dap_moves.proofs.Running.{took_at}
 use Rattle.dap_moves.proofs.run.step_past.Goals as goal
 
-pub returns-clause-passes : goal.returns-clause-passes
-returns-clause-passes c =
-    let plan = c.args.plan.now in
-    elim c.step_at-reply.ensures.steps [
-      | inl done ↦
-          passes_asked plan.lines.now c.args.seen.now c.args.desk.now c.step_at-reply.new.desk (Command.Step (choice_of c.args.event.now))
-          c.step_at-reply.result c.requires done
-      | inr none ↦ passes_still plan.lines.now c.args.seen.now c.args.desk.now c.step_at-reply.new.desk none.1
-    ]
-
-pub returns-clause-truly : goal.returns-clause-truly
-returns-clause-truly c = c.told.ensures c.step_at-reply.new.desk
+pub returns-clause-takes : goal.returns-clause-takes
+returns-clause-takes c =
+    subst (λ (turn : Turn). TakesOne c.args.plan.now c.args.seen.now c.args.desk.now c.step_at-reply.new.desk turn) (sym c.told.ensures)
+    (took_at c.args.plan.now c.args.seen.now c.args.desk.now c.step_at-reply.new.desk c.args.event.now c.args.branch c.step_at-reply.result
+    c.requires c.step_at-reply.ensures.steps)

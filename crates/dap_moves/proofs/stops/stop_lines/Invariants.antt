@@ -1,4 +1,3 @@
-use Rattle.std.proofs.Common.{◌≤◌}
 use Rattle.dap_moves.specs.Stops.{ListsStops}
 use Rattle.dap_moves.proofs.stops.stop_lines.Given as goal
 

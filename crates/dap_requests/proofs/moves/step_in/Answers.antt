@@ -1,14 +1,21 @@
-use Rattle.std.proofs.Common.{◌≡◌, ℕ, Option, None, Some, subst}
-use Rattle.dap_requests.specs.Forth.{IsTarget}
-use Rattle.dap_requests.proofs.Forward.{forth_by, forth_unasked}
+use Rattle.std.proofs.Common.{inl, inr, refl}
+use Rattle.dap_messages.specs.declared.told.Stop.{Stop}
+use Rattle.dap_requests.specs.Forth.{StepsForth, target_in}
+use Rattle.dap_requests.proofs.Forward.{remembers_same, runs_target}
+use Rattle.dap_requests.proofs.public.Saying.{runs_refused}
 use Rattle.dap_requests.proofs.moves.step_in.Goals as goal
 
-pub returns-in-Some-clause-forth : goal.returns-in-Some-clause-forth
-returns-in-Some-clause-forth c =
-    forth_by c.args.desk.now c.next_in.new.desk c.args.request.now.kind c.args.branch c.in-Some.number
-    (subst (λ (found : Option ℕ). IsTarget c.args.request.now.kind found) c.in-Some.is c.target_in.ensures.target) c.next_in.ensures.forth
+pub returns-in-Some-clause-goes : goal.returns-in-Some-clause-goes
+returns-in-Some-clause-goes c =
+    runs_target c.args.answer.now c.target_asked.new.answer c.next_in.new.answer c.args.desk.now c.next_in.new.desk c.args.branch
+    c.in-Some.number (target_in c.args.request.now) c.in-Some.ensures.1 c.in-Some.ensures.0 c.next_in.ensures.goes
 
-pub returns-in-None-clause-forth : goal.returns-in-None-clause-forth
-returns-in-None-clause-forth c =
-    forth_unasked c.args.desk.now c.args.request.now.kind c.args.branch
-    (subst (λ (found : Option ℕ). IsTarget c.args.request.now.kind found) c.in-None.is c.target_in.ensures.target)
+pub returns-in-None-clause-goes : goal.returns-in-None-clause-goes
+returns-in-None-clause-goes c =
+    runs_refused c.args.answer.now c.target_asked.new.answer c.args.desk.now c.args.desk.now
+    (λ (stop : Stop). StepsForth c.args.desk.now c.args.branch (target_in c.args.request.now) stop c.args.desk.now) c.in-None.ensures.0
+    c.in-None.ensures.1 refl
+
+pub returns-in-None-clause-keeps : goal.returns-in-None-clause-keeps
+returns-in-None-clause-keeps c =
+    remembers_same c.args.desk.now c.args.desk.now c.target_asked.new.answer c.args.memo.now.seen.items refl

@@ -1,7 +1,10 @@
+use Rattle.std.proofs.Common.{refl, ap, ◌∙◌}
+use Rattle.dap_requests.specs.Forth.{stop_of}
 use Rattle.dap_requests.proofs.moves.take.Goals as goal
 
-pub returns-in-Some-clause-steps : goal.returns-in-Some-clause-steps
-returns-in-Some-clause-steps c = (c.step_at.result, c.step_at.ensures.steps)
+pub returns-clause-goes : goal.returns-clause-goes
+returns-clause-goes c =
+    (stop_of c.step_at-reply.result, c.tell_took.ensures.stops, (c.step_at-reply.result, c.step_at-reply.ensures.steps, refl))
 
-pub returns-in-None-clause-steps : goal.returns-in-None-clause-steps
-returns-in-None-clause-steps c = (c.step_at.result, c.step_at.ensures.steps)
+pub returns-clause-keeps : goal.returns-clause-keeps
+returns-clause-keeps c = ap (λ v. v.items) c.tell_took.ensures.seen ∙ c.clear.ensures.items

@@ -23,19 +23,21 @@ returns-then-branch-clause-kept g c =
 pub returns-in_err-take_line-clause-kept : goal.returns-in_err-take_line-clause-kept
 returns-in_err-take_line-clause-kept g c =
     let p = err_from_is_err_and c.from_residual.result c.from_residual.ensures.1 in
-    comes-unkept g.R.CountedLines.buffered g.R.CountedLines.asked g.W.CountedWrite.contents c.args.reader.now c.take_line.new.self c.args.writer.now
+    comes-unkept g.R.CountedLines.buffered g.R.CountedLines.asked g.W.CountedWrite.contents g.W.CountedWrite.unsent g.W.CountedWrite.wanted c.args.reader.now c.take_line.new.self c.args.writer.now
     c.args.pending.now.items c.take_line.new.line.items c.from_residual.result p.0 p.1 p.2 c.in_err-take_line.ensures.memory
 
 pub returns-in_err-put_out-clause-kept : goal.returns-in_err-put_out-clause-kept
 returns-in_err-put_out-clause-kept g c =
     let p = err_from_is_err_and c.from_residual-in_err-put_out.result c.from_residual-in_err-put_out.ensures.1 in
-    comes-unwritten g.R.CountedLines.buffered g.R.CountedLines.asked g.W.CountedWrite.contents c.args.reader.now c.take_line.new.self
-    c.args.writer.now c.put_out.new.writer c.args.pending.now.items c.put_out.new.pending.items c.take_line.new.line.items c.from_residual-in_err-put_out.result
-    c.in_err-put_out.field-0.0 (p.1 ∙ ap Err p.2) c.in_err-put_out.ensures.bytes
+    comes-unwritten g.R.CountedLines.buffered g.R.CountedLines.asked g.W.CountedWrite.contents g.W.CountedWrite.unsent g.W.CountedWrite.wanted c.args.reader.now c.take_line.new.self
+    c.args.writer.now c.put_out.new.writer c.args.pending.now.items c.put_out.new.pending.items c.take_line.new.line.items
+    c.in_err-put_out.ensures.bytes.0 c.from_residual-in_err-put_out.result
+    c.in_err-put_out.field-0.0 (p.1 ∙ ap Err p.2) c.in_err-put_out.ensures.bytes.2 c.in_err-put_out.ensures.short
     (untaken c.args.reader.now c.take_line.new.self _ _ c.in_ok-take_line.field-0 c.if-branch.false c.in_ok-take_line.ensures.taken)
 
 pub returns-clause-kept : goal.returns-clause-kept
 returns-clause-kept g c =
-    comes-asked g.R.CountedLines.buffered g.R.CountedLines.asked g.W.CountedWrite.contents (g.R.CountedLines.remaining c.take_line.new.self)
+    comes-asked g.R.CountedLines.buffered g.R.CountedLines.asked g.W.CountedWrite.contents g.W.CountedWrite.unsent g.W.CountedWrite.wanted (g.R.CountedLines.remaining c.take_line.new.self)
     (g.R.CountedLines.remaining c.read_line.new.reader) c.args.reader.now c.read_line.new.reader c.args.writer.now c.put_out.new.writer
-    c.args.pending.now.items c.put_out.new.pending.items c.read_line.new.line.items c.read_line.result c.in_ok-put_out.ensures.bytes c.read_line.ensures.line
+    c.args.pending.now.items c.put_out.new.pending.items c.read_line.new.line.items c.read_line.result c.in_ok-put_out.ensures.bytes c.in_ok-put_out.ensures.short
+    c.read_line.ensures.line

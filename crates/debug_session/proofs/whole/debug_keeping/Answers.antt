@@ -27,7 +27,7 @@ returns-clause-held_back g c h =
     let begins = c.in_ok-script_state.ensures.script_state in (
       begins.0,
       begins.1,
-      begun-holding g.R.CountedLines.buffered g.R.CountedLines.asked c.in_ok-script_state.script_state begins.0 c.args.source.now c.answer_lines.new.reader
+      begun-holding g.R.CountedLines.buffered g.R.CountedLines.asked g.W.CountedWrite.contents g.W.CountedWrite.unsent g.W.CountedWrite.wanted c.in_ok-script_state.script_state begins.0 c.args.source.now c.answer_lines.new.reader
           (g.R.CountedLines.remaining c.args.reader.now) (g.R.CountedLines.remaining c.answer_lines.new.reader)
-          (g.W.CountedWrite.contents c.args.writer.now) (g.W.CountedWrite.contents c.answer_lines.new.writer) begins.2 (c.answer_lines.ensures.held_back h),
+          c.args.writer.now c.answer_lines.new.writer begins.2 (c.answer_lines.ensures.held_back h),
     )

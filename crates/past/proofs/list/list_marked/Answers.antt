@@ -43,8 +43,8 @@ loop-index-preserved c =
     let within : i < length marks = omega arith in
     let at = slice_get-get_or marks i _ within in
     let joined : (es : List PastEvent) (n : ℕ) → c.if-marks-index.events ≡ es → c.if-marks-index.left_out ≡ n
-        → Passed c.args.all l c.args.asked marks (i + 1) c.next.new.self es n
-        → Passed c.args.all l c.args.asked marks (i + 1) c.next.new.self c.if-marks-index.events c.if-marks-index.left_out =
+    → Passed c.args.all l c.args.asked marks (i + 1) c.next.new.self es n
+    → Passed c.args.all l c.args.asked marks (i + 1) c.next.new.self c.if-marks-index.events c.if-marks-index.left_out =
     λ es n told out p.
     subst (λ (m : ℕ). Passed c.args.all l c.args.asked marks (i + 1) c.next.new.self c.if-marks-index.events m) (sym out)
     (subst (λ (fs : List PastEvent). Passed c.args.all l c.args.asked marks (i + 1) c.next.new.self fs n) (sym told) p) in

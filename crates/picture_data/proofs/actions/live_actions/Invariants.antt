@@ -5,4 +5,4 @@ use Rattle.picture_data.proofs.actions.live_actions.Given as goal
 
 -- the events passed stand there
 abbrev pub invariant-loop-event : goal.invariant-loop-event
-invariant-loop-event l = EachStandsIn l.machine l.table.lanes.items (events (take (length l.yielded) l.live.live)) l.actions.items
+invariant-loop-event l = EachStandsIn l.machine l.table (events (take (length l.yielded) l.machine.live)) l.actions.items

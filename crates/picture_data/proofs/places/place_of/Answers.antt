@@ -1,10 +1,9 @@
 use Rattle.std.proofs.Common.{List, sym, subst}
-use Rattle.std.specs.Prelude.{IfSome}
 use Rattle.address.specs.declared.Entry.{Entry}
-use Rattle.picture_data.specs.Lines.{IsLaneOf}
+use Rattle.run_depths.specs.Since.{IsSince}
 use Rattle.picture_data.proofs.places.place_of.Goals as goal
 
-pub returns-clause-lane : goal.returns-clause-lane
-returns-clause-lane c =
-    subst (λ (a : List Entry). IfSome c.in_ok-lane.lane (λ k. IsLaneOf c.args.now.now.table.now.lanes.items k a)) (sym c.in_ok-place.ensures)
-    c.in_ok-lane.ensures
+pub returns-clause-since : goal.returns-clause-since
+returns-clause-since c =
+    subst (λ (a : List Entry). IsSince c.args.now.now.live.now.live c.args.now.now.depths.now a c.since_now-since.result) (sym c.in_ok-place.ensures)
+    c.since_now-since.ensures

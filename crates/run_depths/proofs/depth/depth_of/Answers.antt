@@ -1,6 +1,6 @@
 use Rattle.std.proofs.Common.{arith}
 use Rattle.dependence.proofs.public.ListPlaces.{in-read}
-use Rattle.run_depths.proofs.public.Deepening.{depth-all, depth-next, depth-none}
+use Rattle.run_depths.proofs.public.Deepening.{depth-all, depth-next}
 use Rattle.run_depths.proofs.depth.depth_of.Goals as goal
 
 pub depth_behind-requires-clause-live : goal.depth_behind-requires-clause-live

@@ -29,8 +29,11 @@ loop-ticket-preserved c =
     c.depth_of-depth.result r.1 c.loop-ticket.invariant (_, at) c.as_slice.ensures.value c.in_ok-push.ensures.items c.depth_of-depth.ensures.depth
     c.depth_of-depth.ensures.small)
 
-pub returns : goal.returns
-returns c =
+pub returns-clause-depths : goal.returns-clause-depths
+returns-clause-depths c =
     let all = c.into_iter-ticket-iterator.ensures.into_iter_gives ∙ c.iter-ticket-items.ensures.events in
     all-known c.args.live.now.live c.loop-ticket.depths.items (length c.loop-ticket.yielded) c.loop-ticket.invariant
     (ended _ _ _ c.loop-ticket.yielded all c.loop-ticket.yielded_by c.in-None.ensures.steps.0)
+
+pub returns-clause-small : goal.returns-clause-small
+returns-clause-small c = c.loop-ticket.invariant.small

@@ -1,4 +1,4 @@
-use Rattle.std.proofs.Common.{◌≡◌, ◌-◌, ◌<◌, ◌≤◌, ℕ, List, length, drop, get_or, sym, subst, arith}
+use Rattle.std.proofs.Common.{◌-◌, ◌<◌, ℕ, List, length, drop, get_or, sym, subst, arith}
 use Rattle.dependence.proofs.public.ListPlaces.{in-at, in-read}
 use Rattle.run_depths.specs.internal.RacesSoFar.{RacesWith}
 use Rattle.run_depths.proofs.RaceLaws.{all-seen, lead-next, none-seen, races-begin, races-end, races-next, seen-less}

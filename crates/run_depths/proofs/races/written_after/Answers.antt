@@ -1,4 +1,4 @@
-use Rattle.std.proofs.Common.{inl, inr}
+use Rattle.std.proofs.Common.{inl}
 use Rattle.run_depths.proofs.RaceLaws.{is-read, not-read, writes-none}
 use Rattle.run_depths.proofs.races.written_after.Goals as goal
 

@@ -2,8 +2,8 @@ use Rattle.devices.specs.Counting.{device}
 use Rattle.shell.proofs.TakenLemmas.{answers-behind}
 use Rattle.shell.proofs.output.write_answer.Goals as goal
 
-pub returns-in-Ok : goal.returns-in-Ok
-returns-in-Ok g c =
+pub returns-in-Ok-clause-bytes : goal.returns-in-Ok-clause-bytes
+returns-in-Ok-clause-bytes g c =
     answers-behind (λ text. text.items) c.args.answer.own (g.W.Write.contents (device c.args.out.now))
     (g.W.Write.contents (device c.write_own.new.out)) (g.W.Write.contents (device c.write_text.new.out)) c.write_text.result
-    c.in-Ok.ensures c.write_text.ensures
+    c.in-Ok.ensures.bytes c.write_text.ensures.bytes

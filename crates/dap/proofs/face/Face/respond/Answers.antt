@@ -1,12 +1,21 @@
 use Rattle.std.proofs.Common.{ap, ◌∙◌}
-use Rattle.dap.proofs.Stopping.{stops_once}
+use Rattle.dap.proofs.Stopping.{moves_stop, stays_over}
 use Rattle.dap.proofs.face.Face.respond.Goals as goal
 
 pub returns : goal.returns
 returns g c = record {
+  empty = c.new-answer.result;
+  begins = (c.new-answer.ensures.done, c.new-answer.ensures.notes, c.new-answer.ensures.full);
   goes = c.hear.ensures.goes;
   sound = c.is_sound.ensures;
-  stops = λ is. stops_once c.new-answer.result c.hear.new.answer c.new-answer.ensures.notes c.new-answer.ensures.done (c.hear.ensures.stops is);
-  early = λ none is. let early = c.hear.ensures.early none is in
-      (early.0, ap (λ notes. notes.items) early.1 ∙ c.new-answer.ensures.notes, early.2);
+  stops = λ is.
+      moves_stop c.args.self.now.launched c.hear.new.self.launched c.args.request.now c.new-answer.result c.hear.new.answer
+      c.new-answer.ensures.notes c.new-answer.ensures.done is c.hear.ensures.goes
+      (λ none. let early = c.hear.ensures.early none is in (early.0, early.1));
+  early = λ none is. let early = c.hear.ensures.early none is in (
+    early.0,
+    ap (λ notes. notes.items) early.1 ∙ c.new-answer.ensures.notes,
+    stays_over c.args.self.now c.hear.new.self c.is_over_behind-over.result c.args.request.now.kind early.2 c.is_over_behind-over.ensures is,
+  );
+  over = c.is_over_behind-over.ensures;
 }

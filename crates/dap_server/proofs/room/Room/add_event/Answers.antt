@@ -1,4 +1,4 @@
-use Rattle.std.proofs.Common.{◌+◌, ℕ, subst}
+use Rattle.std.proofs.Common.{ℕ, subst}
 use Rattle.std.proofs.lemmas.Result.{on_ok_weaker}
 use Rattle.dap_server.specs.Sent.{IsBehind}
 use Rattle.dap_server.specs.Short.{short_event}

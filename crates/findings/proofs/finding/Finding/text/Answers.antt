@@ -15,7 +15,7 @@ returns-clause-marks c = (
   string_bytes c.in_ok-text.text,
   c.as_str.result.now,
   c.in_ok-text.ensures,
-  subst (λ (t : List ℕ). ShowsMarks c.args.input.bytes.now c.args.self.now t) (sym c.as_str.ensures.value)
+  subst (λ (t : List ℕ). ShowsMarks c.args.input.bytes.now c.args.keeps_return c.args.self.now t) (sym c.as_str.ensures.value)
       c.in_ok-lines.ensures,
   c.in_ok-push_str.ensures.bytes,
 )

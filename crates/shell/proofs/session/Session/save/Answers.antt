@@ -4,7 +4,7 @@ use Rattle.shell.proofs.session.Session.save.Goals as goal
 
 pub returns-in-Ok : goal.returns-in-Ok
 returns-in-Ok g c =
-    saves-trace (g.H.Host.holds c.args.host.now) c.args.self.now.bench c.machine.result.now c.args.rest.now c.in-Some.name.now
-    c.in-Ok.trace.items c.as_slice.result.now c.save_trace.result.outcome
+    saves-trace (g.H.Host.files c.args.host.now) c.args.self.now.bench c.machine.result.now c.args.rest.now c.in-Some.name.now
+    c.in-Ok.trace.items c.as_slice.result.now c.args.over c.write_file.result.outcome
     (c.machine.ensures ∙ ap (λ d. d.machine) c.desk.ensures) c.in-Some.ensures c.in-Ok.ensures.text c.as_slice.ensures.value
-    c.save_trace.ensures
+    c.write_file.ensures

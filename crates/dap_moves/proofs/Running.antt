@@ -1,0 +1,387 @@
+-- Runs, one step after another, and how they end.
+use Rattle.std.proofs.Common.{◌≡◌, ◌⊎◌, ◌||◌, ℕ, ◌+◌, ◌<◌, ◌≤◌, List, [], ◌∷◌, ◌++◌, length, Bool, true, false, not, cond, Option, None, Some, inl, inr, refl, sym, ◌∙◌, ap, subst, arith}
+use Rattle.std.specs.List.{filter}
+use Rattle.std.proofs.lemmas.Bool.{cases_lt}
+use Rattle.std.specs.Prelude.{is_some}
+use Rattle.syntax.specs.Lists.{In}
+use Rattle.system.specs.Expression.{is_in}
+use Rattle.system.specs.declared.system.System.{System}
+use Rattle.system_places.specs.SystemBranches.{branch_at, branch_count}
+use Rattle.runs.specs.Choices.{choice_of}
+use Rattle.runs.specs.Does.{Steps}
+use Rattle.runs.specs.Events.{acting}
+use Rattle.runs.specs.Object.{Reaches}
+use Rattle.runs.specs.Ready.{ReadyList}
+use Rattle.runs.specs.Steps.{State}
+use Rattle.runs.specs.declared.event.Choice.{Choice}
+use Rattle.runs.specs.declared.event.Event.{Event}
+use Rattle.runs.specs.declared.command.Reply as runs_reply
+use Rattle.runs.specs.declared.command.Refusal.{Refusal}
+use Rattle.runs.specs.declared.command.Refusal.TheVariants.{Memory}
+use Rattle.machine.specs.AtMachine.{AtMachine}
+use Rattle.machine.specs.Branching.{AllKeptBack, Branched, acts_in, has_no_break, in_branch, is_branch, is_free, line_of}
+use Rattle.machine.specs.declared.branch.BranchReply.{BranchReply}
+use Rattle.locked_execution.specs.AtDesk.{AtDesk, breaks_of, execution}
+use Rattle.locked_execution.specs.Performs.{Answers, branch_reply, session_reply}
+use Rattle.locked_execution.specs.declared.command.Command.{Command}
+use Rattle.locked_execution.specs.declared.command.Reply.{Reply}
+use Rattle.locked_execution.proofs.public.Unchanged.{all-same}
+use Rattle.dap_moves.specs.Moves.{StepsAt, acts, quiet}
+use Rattle.dap_moves.specs.Passing.{MayAsk, PassesBy, StopsAt, TakesTurn, Turned, Turns}
+use Rattle.dap_moves.specs.Running.{EndsTruly, IsHeld, IsIdle, KeepsChoice, MayStep, NothingGoes, RunsFrom, StandsBefore, is_watched}
+use Rattle.dap_moves.specs.declared.run.Ended.{Ended}
+use Rattle.dap_moves.specs.declared.run.Plan.{Plan}
+use Rattle.dap_moves.specs.declared.run.Turn.{Turn}
+use Rattle.dap_moves.specs.internal.Turning.{TakesOne, TurnKeeps, any_goes, goes, turn_of}
+use Rattle.dap_moves.proofs.Passing.{acting_is_action}
+
+-- what is asked where it stood nowhere may be asked wherever it stood
+may-widen : (d : AtDesk) (lines : List ℕ) (seen : List Choice) (command : Command) → MayAsk d lines [] command → MayAsk d lines seen command
+may-widen d lines seen (Command.Step c) h =
+    (h.0, h.1, h.2, elim h.3 as (λ _. PassesBy d.machine lines h.0 ⊎ In c seen) [ inl passes ↦ inl passes | inr none ↦ absurd none ])
+may-widen d lines seen (Command.Branch k) h = h
+may-widen d lines seen (Command.Undo t) h = absurd h
+may-widen d lines seen (Command.Roll t) h = absurd h
+may-widen d lines seen (Command.RollValue x) h = absurd h
+may-widen d lines seen (Command.Blame x) h = absurd h
+may-widen d lines seen Command.Ready h = absurd h
+may-widen d lines seen (Command.Consequences t) h = absurd h
+may-widen d lines seen Command.Live h = absurd h
+may-widen d lines seen (Command.Value x) h = absurd h
+may-widen d lines seen (Command.Break line) h = absurd h
+may-widen d lines seen (Command.Clear line) h = absurd h
+
+takes-widen : (d : AtDesk) (lines : List ℕ) (seen : List Choice) (t : Turned) → TakesTurn d lines [] t → TakesTurn d lines seen t
+takes-widen d lines seen t h = (h.0, may-widen d lines seen h.0 h.1, h.2)
+
+-- a turn that began nowhere
+pub takes-one-widen : (plan : Plan) (seen : List Choice) (d d' : AtDesk) (turn : Turn) → TakesOne plan [] d d' turn → TakesOne plan seen d d' turn
+takes-one-widen plan seen d d' (Turn.Went branch) h = (h.0, (takes-widen d plan.lines.now seen h.0 h.1.0, h.1.1))
+takes-one-widen plan seen d d' (Turn.Ended Ended.Nothing) h = h
+takes-one-widen plan seen d d' (Turn.Ended (Ended.AtLine branch line)) h = h
+takes-one-widen plan seen d d' (Turn.Ended (Ended.Watched branch ticket)) h = (h.0, (takes-widen d plan.lines.now seen h.0 h.1.0, h.1.1), h.2, h.3)
+takes-one-widen plan seen d d' (Turn.Ended (Ended.Most branch)) h = h
+takes-one-widen plan seen d d' (Turn.Ended (Ended.Refused branch why)) h = h
+
+-- or from a desk that stayed
+pub takes-one-from : (plan : Plan) (d m d' : AtDesk) (turn : Turn) → m ≡ d → TakesOne plan [] m d' turn → TakesOne plan [] d d' turn
+takes-one-from plan d m d' turn same h = subst (λ (x : AtDesk). TakesOne plan [] x d' turn) same h
+
+-- one step more
+turns-more : (d m : AtDesk) (lines : List ℕ) (seen : List Choice) (ts : List Turned) (t : Turned) → Turns d lines seen ts m → TakesTurn m lines [] t →
+    Turns d lines seen (ts ++ t ∷ []) t.left
+turns-more d m lines seen [] t h k = (subst (λ (x : AtDesk). TakesTurn x lines seen t) h (takes-widen m lines seen t k), refl)
+turns-more d m lines seen (x ∷ ts) t h k = (h.0, turns-more x.left m lines [] ts t h.1 k)
+
+turns-to : (d m d' : AtDesk) (lines : List ℕ) (seen : List Choice) (ts : List Turned) → m ≡ d' → Turns d lines seen ts m → Turns d lines seen ts d'
+turns-to d m d' lines seen ts same h = subst (λ (x : AtDesk). Turns d lines seen ts x) same h
+
+-- so many steps were taken, and one more
+pub record Counted (d d' : AtDesk) (lines : List ℕ) (taken : ℕ) : Type 0 where
+  pub turns : List Turned
+  pub turned : Turns d lines [] turns d'
+  pub count : taken ≡ 1 + length turns
+
+pub counted-none : (d : AtDesk) (lines : List ℕ) → Counted d d lines 1
+counted-none d lines = record { turns = []; turned = refl; count = refl }
+
+length-more : (ts : List Turned) (t : Turned) → length (ts ++ t ∷ []) ≡ 1 + length ts
+length-more [] t = refl
+length-more (x ∷ ts) t = let rest = length-more ts t in omega arith
+
+pub counted-more : (plan : Plan) (d m d' : AtDesk) (taken branch : ℕ) → Counted d m plan.lines.now taken → TakesOne plan [] m d' (Turn.Went branch) →
+    Counted d d' plan.lines.now (taken + 1)
+counted-more plan d m d' taken branch h k = record {
+  turns = h.turns ++ k.0 ∷ [];
+  turned = turns-to d k.0.left d' plan.lines.now [] (h.turns ++ k.0 ∷ []) k.1.1 (turns-more d m plan.lines.now [] h.turns k.0 h.turned k.1.0);
+  count = let more = length-more h.turns k.0 in let before = h.count in omega arith;
+}
+
+-- a run that ends with a turn, behind other steps
+pub ends-behind : (already : ℕ) (plan : Plan) (d m d' : AtDesk) (ts : List Turned) (ended : Ended) → Turns d plan.lines.now [] ts m →
+    TakesOne plan [] m d' (Turn.Ended ended) → RunsFrom already plan [] d d' ended
+ends-behind already plan d m d' ts Ended.Nothing h k = record {
+  turns = ts;
+  turned = turns-to d m d' plan.lines.now [] ts (sym k.0) h;
+  truly = subst (λ (x : AtDesk). NothingGoes x plan.only) (sym k.0) k.1;
+}
+ends-behind already plan d m d' ts (Ended.AtLine branch line) h k = record {
+  turns = ts;
+  turned = turns-to d m d' plan.lines.now [] ts (sym k.0) h;
+  truly = subst (λ (x : AtDesk). StandsBefore x plan.lines.now line) (sym k.0) k.1;
+}
+ends-behind already plan d m d' ts (Ended.Watched branch ticket) h k = record {
+  turns = ts ++ k.0 ∷ [];
+  turned = turns-to d k.0.left d' plan.lines.now [] (ts ++ k.0 ∷ []) k.1.1 (turns-more d m plan.lines.now [] ts k.0 h k.1.0);
+  truly = (ts, k.0, refl, k.2, k.3);
+}
+ends-behind already plan d m d' ts (Ended.Most branch) h k = absurd k
+ends-behind already plan d m d' ts (Ended.Refused branch why) h k = record {
+  turns = ts;
+  turned = turns-to d m d' plan.lines.now [] ts (sym k.0) h;
+  truly = subst (λ (x : AtDesk). IsHeld x plan.lines.now why) (sym k.0) k.1;
+}
+
+-- one that ends with its first turn
+pub ends-first : (already : ℕ) (plan : Plan) (seen : List Choice) (d d' : AtDesk) (ended : Ended) → TakesOne plan seen d d' (Turn.Ended ended) →
+    RunsFrom already plan seen d d' ended
+ends-first already plan seen d d' Ended.Nothing k = record {
+  turns = [];
+  turned = k.0;
+  truly = subst (λ (x : AtDesk). NothingGoes x plan.only) (sym k.0) k.1;
+}
+ends-first already plan seen d d' (Ended.AtLine branch line) k = record {
+  turns = [];
+  turned = k.0;
+  truly = subst (λ (x : AtDesk). StandsBefore x plan.lines.now line) (sym k.0) k.1;
+}
+ends-first already plan seen d d' (Ended.Watched branch ticket) k = record {
+  turns = k.0 ∷ [];
+  turned = (k.1.0, sym k.1.1);
+  truly = ([], k.0, refl, k.2, k.3);
+}
+ends-first already plan seen d d' (Ended.Most branch) k = absurd k
+ends-first already plan seen d d' (Ended.Refused branch why) k = record {
+  turns = [];
+  turned = k.0;
+  truly = subst (λ (x : AtDesk). IsHeld x plan.lines.now why) (sym k.0) k.1;
+}
+
+-- one step before others
+truly-more : (plan : Plan) (d : AtDesk) (ts : List Turned) (t : Turned) (ended : Ended) → EndsTruly 1 plan d ts ended → EndsTruly 0 plan d (t ∷ ts) ended
+truly-more plan d ts t Ended.Nothing h = h
+truly-more plan d ts t (Ended.AtLine branch line) h = h
+truly-more plan d ts t (Ended.Watched branch ticket) h = (t ∷ h.0, h.1, ap (λ (xs : List Turned). t ∷ xs) h.2, h.3, h.4)
+truly-more plan d ts t (Ended.Most branch) h = omega (arith, h)
+truly-more plan d ts t (Ended.Refused branch why) h = h
+
+pub runs-then : (plan : Plan) (seen : List Choice) (d m d' : AtDesk) (branch : ℕ) (ended : Ended) → TakesOne plan seen d m (Turn.Went branch) →
+    RunsFrom 1 plan [] m d' ended → RunsFrom 0 plan seen d d' ended
+runs-then plan seen d m d' branch ended h k = record {
+  turns = h.0 ∷ k.turns;
+  turned = (h.1.0, subst (λ (x : AtDesk). Turns x plan.lines.now [] k.turns d') (sym h.1.1) k.turned);
+  truly = truly-more plan d' k.turns h.0 ended k.truly;
+}
+
+-- one that took as many steps as there may be
+pub ends-after : (plan : Plan) (d m d' : AtDesk) (taken turn : ℕ) (ended : Ended) → Counted d m plan.lines.now taken → plan.most ≤ taken → d' ≡ m →
+    ((ended ≡ Ended.Nothing) × NothingGoes m plan.only) ⊎ (ended ≡ Ended.Most turn) → RunsFrom 1 plan [] d d' ended
+ends-after plan d m d' taken turn ended h many same why =
+    let there : Turns d plan.lines.now [] h.turns d' = turns-to d m d' plan.lines.now [] h.turns (sym same) h.turned in
+    elim why [
+      | inl none ↦
+          subst (λ (e : Ended). RunsFrom 1 plan [] d d' e) (sym none.0)
+          (record { turns = h.turns; turned = there; truly = subst (λ (x : AtDesk). NothingGoes x plan.only) (sym same) none.1 })
+      | inr most ↦
+          subst (λ (e : Ended). RunsFrom 1 plan [] d d' e) (sym most)
+          (record { turns = h.turns; turned = there; truly = let count = h.count in omega (arith, many, count) })
+    ]
+
+-- a desk of the same machine and the same breakpoints
+desk-same : (d d' : AtDesk) → d'.machine ≡ d.machine → d'.breaks ≡ d.breaks → d' ≡ d
+desk-same d d' machine breaks = λ i. record { machine = machine i; breaks = breaks i }
+
+-- what passes a test among others is one of them
+in-cond : {X : Type 0} (x y : X) (b : Bool) (xs ys : List X) → (In x xs → In x ys) → In x (cond b (y ∷ xs) xs) → In x (y ∷ ys)
+in-cond x y true xs ys rest (inl same) = inl same
+in-cond x y true xs ys rest (inr there) = inr (rest there)
+in-cond x y false xs ys rest there = inr (rest there)
+
+in-filtered : {X : Type 0} (test : X → Bool) (x : X) (xs : List X) → In x (filter test xs) → In x xs
+in-filtered test x [] h = h
+in-filtered test x (y ∷ xs) h = in-cond x y (test y) (filter test xs) xs (in-filtered test x xs) h
+
+-- the first of the events that breakpoints keep back
+first-kept : (m : AtMachine) (breaks : List ℕ) (es : List Event) (line : ℕ) → AllKeptBack m breaks es line →
+    (e : Event) × In e es × (line_of m e ≡ Some line) × (is_free m breaks e ≡ false)
+first-kept m breaks [] line h = absurd h
+first-kept m breaks (e ∷ es) line h = (e, inl refl, h.0, h.1.0)
+
+flipped : (b : Bool) → not b ≡ false → b ≡ true
+flipped true h = refl
+flipped false h = absurd (cc)
+
+-- it stops at the breakpoint
+kept-stops : (m : AtMachine) (breaks : List ℕ) (e : Event) (line : ℕ) → line_of m e ≡ Some line → is_free m breaks e ≡ false → StopsAt m breaks e line
+kept-stops m breaks e line at kept = record {
+  place = acting e;
+  action = acting_is_action e;
+  there = (at, flipped (is_in line breaks) (sym (ap (λ (o : Option ℕ). has_no_break breaks o) at) ∙ kept));
+}
+
+kept-stands : (d : AtDesk) (lines : List ℕ) (k line : ℕ) (T : State) (es : List Event) → Reaches (execution d) T → ReadyList T es →
+    AllKeptBack d.machine (breaks_of d quiet) (in_branch d.machine k es) line → StandsBefore d lines line
+kept-stands d lines k line T es reaches list kept =
+    let found = first-kept d.machine (breaks_of d quiet) (in_branch d.machine k es) line kept in
+    let there : In found.0 es = in-filtered (acts_in d.machine k) found.0 es found.1 in
+    (found.0, (T, reaches, (list.exactly found.0).0 there), inr (kept-stops d.machine (breaks_of d quiet) found.0 line found.2 found.3))
+
+-- a step that was taken is watched, or the run goes on
+took-stepped : (plan : Plan) (seen : List Choice) (d d' : AtDesk) (command : Command) (branch t : ℕ) (e : Event) (b : Bool) →
+    is_watched plan.watched.now e ≡ b → MayAsk d plan.lines.now seen command → Answers d quiet command (Reply.Stepped t e) d' →
+    TakesOne plan seen d d' (cond b (Turn.Ended (Ended.Watched branch t)) (Turn.Went branch))
+took-stepped plan seen d d' command branch t e true is may h =
+    (record { ticket = t; event = e; left = d' }, ((command, may, h), refl), refl, is)
+took-stepped plan seen d d' command branch t e false is may h =
+    (record { ticket = t; event = e; left = d' }, ((command, may, h), refl))
+
+-- one that was refused
+took-refused : (plan : Plan) (seen : List Choice) (d d' : AtDesk) (command : Command) (branch : ℕ) (why : Refusal) → d' ≡ d →
+    MayAsk d plan.lines.now seen command → Answers d quiet command (Reply.Refused why) d' →
+    TakesOne plan seen d d' (Turn.Ended (Ended.Refused branch why))
+took-refused plan seen d d' command branch why same may h =
+    (same, inr (seen, command, may, subst (λ (x : AtDesk). Answers d quiet command (Reply.Refused why) x) same h))
+
+took-lacking : (plan : Plan) (seen : List Choice) (d d' : AtDesk) (branch : ℕ) (reply : Reply) → reply ≡ Reply.Refused Memory → d' ≡ d →
+    TakesOne plan seen d d' (turn_of plan.watched.now branch reply)
+took-lacking plan seen d d' branch reply is same =
+    subst (λ (r : Reply). TakesOne plan seen d d' (turn_of plan.watched.now branch r)) (sym is) (same, inl refl)
+
+-- a step by its choice
+took-chosen : (plan : Plan) (seen : List Choice) (d d' : AtDesk) (c : Choice) (branch : ℕ) (reply : Reply) (answer : runs_reply.Reply) →
+    reply ≡ session_reply answer → Steps (execution d) c answer (execution d') → d'.machine.checked ≡ d.machine.checked → d'.breaks ≡ d.breaks →
+    MayAsk d plan.lines.now seen (Command.Step c) → Answers d quiet (Command.Step c) reply d' → TakesOne plan seen d d' (turn_of plan.watched.now branch reply)
+took-chosen plan seen d d' c branch reply (runs_reply.Reply.Stepped t e) is h checked breaks may answers =
+    subst (λ (r : Reply). TakesOne plan seen d d' (turn_of plan.watched.now branch r)) (sym is)
+    (took-stepped plan seen d d' (Command.Step c) branch t e (is_watched plan.watched.now e) refl may
+    (subst (λ (r : Reply). Answers d quiet (Command.Step c) r d') is answers))
+took-chosen plan seen d d' c branch reply (runs_reply.Reply.Refused why) is h checked breaks may answers =
+    subst (λ (r : Reply). TakesOne plan seen d d' (turn_of plan.watched.now branch r)) (sym is)
+    (took-refused plan seen d d' (Command.Step c) branch why (all-same d d' checked h.1 breaks) may
+    (subst (λ (r : Reply). Answers d quiet (Command.Step c) r d') is answers))
+took-chosen plan seen d d' c branch reply _ is h checked breaks may answers = absurd h
+
+chosen-on : (plan : Plan) (seen : List Choice) (d d' : AtDesk) (c : Choice) (branch : ℕ) (reply : Reply) →
+    MayAsk d plan.lines.now seen (Command.Step c) → Answers d quiet (Command.Step c) reply d' → TakesOne plan seen d d' (turn_of plan.watched.now branch reply)
+chosen-on plan seen d d' c branch reply may h = elim h [
+  | inl done ↦ took-chosen plan seen d d' c branch reply done.0 done.1 done.2 done.3 done.4 may (inl done)
+  | inr none ↦ took-lacking plan seen d d' branch reply none.1 none.2
+]
+
+pub took_at : (plan : Plan) (seen : List Choice) (d d' : AtDesk) (e : Event) (branch : ℕ) (reply : Reply) →
+    MayAsk d plan.lines.now seen (Command.Step (choice_of e)) → StepsAt d e reply d' → TakesOne plan seen d d' (turn_of plan.watched.now branch reply)
+took_at plan seen d d' e branch reply may h = elim h [
+  | inl asked ↦ chosen-on plan seen d d' (choice_of e) branch reply may asked
+  | inr none ↦ took-lacking plan seen d d' branch reply none.0 none.1
+]
+
+-- a step of a branch
+took-branch : (plan : Plan) (d d' : AtDesk) (branch : ℕ) (reply : Reply) (answer : BranchReply) → plan.lines.now ≡ [] → reply ≡ branch_reply answer →
+    (T : State) (es : List Event) → Reaches (execution d) T → ReadyList T es →
+    Branched d.machine (breaks_of d quiet) (in_branch d.machine branch es) answer d'.machine → d'.breaks ≡ d.breaks → (reply ≡ Reply.Idle → ⊥) →
+    Answers d quiet (Command.Branch branch) reply d' → TakesOne plan [] d d' (turn_of plan.watched.now branch reply)
+took-branch plan d d' branch reply (BranchReply.Stepped t e) free is T es reaches list h breaks busy answers =
+    subst (λ (r : Reply). TakesOne plan [] d d' (turn_of plan.watched.now branch r)) (sym is)
+    (took-stepped plan [] d d' (Command.Branch branch) branch t e (is_watched plan.watched.now e) refl free
+    (subst (λ (r : Reply). Answers d quiet (Command.Branch branch) r d') is answers))
+took-branch plan d d' branch reply (BranchReply.Stopped line) free is T es reaches list h breaks busy answers =
+    subst (λ (r : Reply). TakesOne plan [] d d' (turn_of plan.watched.now branch r)) (sym is)
+    (desk-same d d' h.1 breaks, kept-stands d plan.lines.now branch line T es reaches list h.0)
+took-branch plan d d' branch reply BranchReply.Idle free is T es reaches list h breaks busy answers = absurd (busy is)
+took-branch plan d d' branch reply (BranchReply.Refused why) free is T es reaches list h breaks busy answers =
+    subst (λ (r : Reply). TakesOne plan [] d d' (turn_of plan.watched.now branch r)) (sym is)
+    (took-refused plan [] d d' (Command.Branch branch) branch why (desk-same d d' h.1 breaks) free
+    (subst (λ (r : Reply). Answers d quiet (Command.Branch branch) r d') is answers))
+
+pub branch_took : (plan : Plan) (d d' : AtDesk) (branch : ℕ) (reply : Reply) → plan.lines.now ≡ [] → (reply ≡ Reply.Idle → ⊥) →
+    Answers d quiet (Command.Branch branch) reply d' → TakesOne plan [] d d' (turn_of plan.watched.now branch reply)
+branch_took plan d d' branch reply free busy h = elim h [
+  | inl done ↦
+      took-branch plan d d' branch reply done.0 free done.1 done.2.0 done.2.1 done.2.2 done.2.3 done.2.4 done.4 busy (inl done)
+  | inr none ↦ took-lacking plan [] d d' branch reply none.1 none.2
+]
+
+-- a branch without a step
+idle-on : (d d' : AtDesk) (k : ℕ) (answer : BranchReply) → Reply.Idle ≡ branch_reply answer → (T : State) (es : List Event) → Reaches (execution d) T →
+    ReadyList T es → Branched d.machine (breaks_of d quiet) (in_branch d.machine k es) answer d'.machine → d'.breaks ≡ d.breaks → (d' ≡ d) × IsIdle d k
+idle-on d d' k (BranchReply.Stepped t e) is T es reaches list h breaks = absurd (cc)
+idle-on d d' k (BranchReply.Stopped line) is T es reaches list h breaks = absurd (cc)
+idle-on d d' k BranchReply.Idle is T es reaches list h breaks = (desk-same d d' h.1 breaks, (T, es, reaches, list, h.0))
+idle-on d d' k (BranchReply.Refused why) is T es reaches list h breaks = absurd (cc)
+
+pub branch_idle : (d d' : AtDesk) (k : ℕ) (reply : Reply) → reply ≡ Reply.Idle → Answers d quiet (Command.Branch k) reply d' → (d' ≡ d) × IsIdle d k
+branch_idle d d' k reply is h =
+    let there : Answers d quiet (Command.Branch k) Reply.Idle d' = subst (λ (r : Reply). Answers d quiet (Command.Branch k) r d') is h in
+    elim there [
+      | inl done ↦ idle-on d d' k done.0 done.1 done.2.0 done.2.1 done.2.2 done.2.3 done.2.4 done.4
+      | inr none ↦ let other : Reply.Idle ≡ Reply.Refused Memory = none.1 in absurd (cc)
+    ]
+
+-- where no event acts in a branch that may step
+none-here : (b : Option ℕ) (k : ℕ) → is_some b ≡ false → is_branch k b ≡ false
+none-here None k h = refl
+none-here (Some n) k h = absurd (cc)
+
+none-alone : (b : Bool) (o : Option ℕ) (k : ℕ) → b ≡ is_branch k o → is_some (cond b o None) ≡ false → b ≡ false
+none-alone true o k is h = is ∙ none-here o k h
+none-alone false o k is h = refl
+
+not-acts : (system : System) (only : Option ℕ) (d : AtDesk) (k : ℕ) (e : Event) → system ≡ d.machine.checked → MayStep d only k →
+    goes system only e ≡ false → acts system k e ≡ false
+not-acts system None d k e same may h = none-here (branch_at system (acting e)) k h
+not-acts system (Some only) d k e same may h =
+    let alone : acts system only e ≡ false = none-alone (acts system only e) (branch_at system (acting e)) only refl h in
+    ap (λ (n : ℕ). acts system n e) may ∙ alone
+
+or-first : (a b : Bool) → (a || b) ≡ false → a ≡ false
+or-first true b h = absurd (cc)
+or-first false b h = refl
+
+or-rest : (a b : Bool) → (a || b) ≡ false → b ≡ false
+or-rest true b h = absurd (cc)
+or-rest false b h = h
+
+pub none-in : (system : System) (only : Option ℕ) (d : AtDesk) (k : ℕ) (es : List Event) → system ≡ d.machine.checked → MayStep d only k →
+    any_goes system only es ≡ false → filter (acts system k) es ≡ []
+none-in system only d k [] same may h = refl
+none-in system only d k (e ∷ es) same may h =
+    let first = not-acts system only d k e same may (or-first (goes system only e) (any_goes system only es) h) in
+    ap (λ (b : Bool). cond b (e ∷ filter (acts system k) es) (filter (acts system k) es)) first
+    ∙ none-in system only d k es same may (or-rest (goes system only e) (any_goes system only es) h)
+
+-- nothing goes where no event that is ready may
+pub nothing-goes : (d : AtDesk) (system : System) (only : Option ℕ) (es fs : List Event) → system ≡ d.machine.checked → fs ≡ es →
+    ((T : State) × Reaches (execution d) T × ReadyList T es) → any_goes system only fs ≡ false → NothingGoes d only
+nothing-goes d system only es fs same list ready h = λ k may. (
+  ready.0,
+  es,
+  ready.1,
+  ready.2,
+  subst (λ (s : System). filter (acts s k) es ≡ []) same
+      (none-in system only d k es same may (ap (λ (xs : List Event). any_goes system only xs) (sym list) ∙ h)),
+)
+
+-- one that keeps nothing
+pub keeps-none : (lines : List ℕ) (d : AtDesk) (turn : Turn) (kept : List Choice) → kept ≡ [] → TurnKeeps lines d turn kept
+keeps-none lines d (Turn.Went branch) kept none = none
+keeps-none lines d (Turn.Ended Ended.Nothing) kept none = none
+keeps-none lines d (Turn.Ended (Ended.AtLine branch line)) kept none = inl none
+keeps-none lines d (Turn.Ended (Ended.Watched branch ticket)) kept none = none
+keeps-none lines d (Turn.Ended (Ended.Most branch)) kept none = none
+keeps-none lines d (Turn.Ended (Ended.Refused branch why)) kept none = none
+
+pub keeps-nothing : (lines : List ℕ) (d : AtDesk) (ended : Ended) (kept : List Choice) → kept ≡ [] → KeepsChoice lines d ended kept
+keeps-nothing lines d Ended.Nothing kept none = none
+keeps-nothing lines d (Ended.AtLine branch line) kept none = inl none
+keeps-nothing lines d (Ended.Watched branch ticket) kept none = none
+keeps-nothing lines d (Ended.Most branch) kept none = none
+keeps-nothing lines d (Ended.Refused branch why) kept none = none
+
+-- branches before and behind one are all of them
+pub all-idle : (d : AtDesk) (turn count : ℕ) → count ≡ branch_count d.machine.checked → ((k : ℕ) → turn ≤ k → k < count → IsIdle d k) →
+    ((k : ℕ) → 0 ≤ k → k < turn → IsIdle d k) → NothingGoes d None
+all-idle d turn count is above below = λ k may. elim (cases_lt k turn) [
+  | inl less ↦ below k (omega arith) less
+  | inr more ↦ above k more (omega (arith, is, may))
+]
+
+pub alone-idle : (d : AtDesk) (k : ℕ) → IsIdle d k → NothingGoes d (Some k)
+alone-idle d k idle = λ j may. subst (λ (n : ℕ). IsIdle d n) (sym may) idle
+
+-- one branch more that is idle
+pub idle-more : (d : AtDesk) (from branch : ℕ) → ((k : ℕ) → from ≤ k → k < branch → IsIdle d k) → IsIdle d branch →
+    ((k : ℕ) → from ≤ k → k < branch + 1 → IsIdle d k)
+idle-more d from branch before here = λ k behind less. elim (cases_lt k branch) [
+  | inl one ↦ before k behind one
+  | inr more ↦ let same : branch ≡ k = omega (arith, less, more) in subst (λ (n : ℕ). IsIdle d n) same here
+]

@@ -1,0 +1,18 @@
+use Rattle.std.proofs.Common.{refl, ◌∙◌, subst, arith}
+use Rattle.locked_execution.specs.AtDesk.{AtDesk}
+use Rattle.dap_moves.specs.Running.{IsIdle}
+use Rattle.dap_moves.proofs.Running.{idle-more}
+use Rattle.dap_moves.proofs.run.step_between.Goals as goal
+
+pub loop-branch-init : goal.loop-branch-init
+loop-branch-init c = record { same = refl; idle = λ k behind less. absurd (omega (arith, behind, less)) }
+
+pub loop-branch-preserved : goal.loop-branch-preserved
+loop-branch-preserved c =
+    let at = c.loop-branch in
+    record {
+      same = c.in_default.ensures.takes.0 ∙ at.invariant.same;
+      idle =
+          idle-more c.args.desk.now c.args.from at.branch at.invariant.idle
+          (subst (λ (d : AtDesk). IsIdle d at.branch) at.invariant.same c.in_default.ensures.takes.1);
+    }

@@ -1,0 +1,6 @@
+use Rattle.std.proofs.Common.{◌≡◌, ◌∙◌, sym, true, false}
+use Rattle.dap_requests.proofs.console.evaluate.Goals as goal
+
+pub returns-then-is_typed-clause-looks : goal.returns-then-is_typed-clause-looks
+returns-then-is_typed-clause-looks c = λ none.
+    let no : true ≡ false = sym c.if-is_typed.true ∙ c.is_typed.ensures ∙ none in absurd (cc)

@@ -1,0 +1,16 @@
+use Rattle.dap_requests.proofs.public.Saying.{keeps_of}
+use Rattle.dap_requests.proofs.console.own_line.Goals as goal
+
+pub returns-then-is_back-clause-done : goal.returns-then-is_back-clause-done
+returns-then-is_back-clause-done c = λ done. c.back_in.ensures.goes.1.done (c.result.ensures done)
+
+pub returns-then-is_back-clause-keeps : goal.returns-then-is_back-clause-keeps
+returns-then-is_back-clause-keeps c =
+    keeps_of c.args.desk.now c.back_in.new.desk c.back_in.new.answer c.args.memo.now.seen.items c.back_in.new.memo.seen.items c.back_in.ensures.keeps
+
+pub returns-else-is_back-clause-done : goal.returns-else-is_back-clause-done
+returns-else-is_back-clause-done c = λ done. c.reverse_in.ensures.goes.1.done (c.result.ensures done)
+
+pub returns-else-is_back-clause-keeps : goal.returns-else-is_back-clause-keeps
+returns-else-is_back-clause-keeps c =
+    keeps_of c.args.desk.now c.reverse_in.new.desk c.reverse_in.new.answer c.args.memo.now.seen.items c.reverse_in.new.memo.seen.items c.reverse_in.ensures.keeps

@@ -1,0 +1,29 @@
+use Rattle.std.proofs.Common.{refl}
+use Rattle.dap_messages.specs.declared.told.Stop.{Stop}
+use Rattle.dap_requests.specs.Back.{ReversesFor}
+use Rattle.dap_requests.proofs.Forward.{remembers_same, reverses_thread}
+use Rattle.dap_requests.proofs.public.Saying.{runs_on, runs_refused}
+use Rattle.dap_requests.proofs.moves.reverse.Goals as goal
+
+pub returns-in-Some-clause-goes : goal.returns-in-Some-clause-goes
+returns-in-Some-clause-goes c =
+    let d = c.args.desk.now in
+    let d' = c.reverse_in.new.desk in
+    let it = c.reverse_in.ensures.goes in
+    runs_on c.args.answer.now c.thread_in.new.answer c.reverse_in.new.answer d d'
+    (λ (stop : Stop). ReversesFor d c.args.request.now stop d') c.in-Some.ensures.outcome (
+      it.0,
+      it.1,
+      reverses_thread d d' c.machine.result.now c.args.request.now c.thread_in.result c.in-Some.branch c.flag-single.result it.0
+          c.machine.ensures c.thread_in.ensures.thread c.in-Some.is c.flag-single.ensures it.2,
+    )
+
+pub returns-in-None-clause-goes : goal.returns-in-None-clause-goes
+returns-in-None-clause-goes c =
+    runs_refused c.args.answer.now c.thread_in.new.answer c.args.desk.now c.args.desk.now
+    (λ (stop : Stop). ReversesFor c.args.desk.now c.args.request.now stop c.args.desk.now) c.in-None.ensures.outcome.0
+    c.in-None.ensures.outcome.1 refl
+
+pub returns-in-None-clause-keeps : goal.returns-in-None-clause-keeps
+returns-in-None-clause-keeps c =
+    remembers_same c.args.desk.now c.args.desk.now c.thread_in.new.answer c.args.memo.now.seen.items refl

@@ -1,0 +1,125 @@
+-- A branch that has no step has none behind an event that cannot bring it one.
+use Rattle.std.proofs.Common.{◌≡◌, ◌⊎◌, inl, inr, ℕ, List, [], ◌∷◌, ◌++◌, Bool, true, false, Option, Some, None, if◌then◌else◌, length, refl, sym, ap, ◌∙◌, subst}
+use Rattle.std.specs.Prelude.{nat_lt, ◌==◌}
+use Rattle.address.specs.Places.{Before}
+use Rattle.address.specs.declared.Entry.{Entry}
+use Rattle.address.specs.declared.Entry.TheVariants.{Ordered, Branch}
+use Rattle.syntax.specs.Lists.{In, Every}
+use Rattle.system.specs.Expression.{Store}
+use Rattle.system.specs.declared.command.Command.{Command}
+use Rattle.system.specs.declared.system.System.{System}
+use Rattle.system_places.specs.SystemBranches.{parallel_of, branch_at, branch_of_port, branch_within, child_number}
+use Rattle.sharing_check.specs.Rule.{is_shared, SharesWell}
+use Rattle.runs.specs.Moves.{Place}
+use Rattle.runs.specs.Dependence.{Directly, Earlier, SomeBefore}
+use Rattle.runs.specs.Events.{Located, Makes, assigning, testing, turning, meeting, opening as opens_with_data, opening_without_data, shutting, syncing, acting, places}
+use Rattle.runs.specs.Steps.{State, Run, Step, Allowed, opening}
+use Rattle.runs.specs.declared.event.Event.{Event}
+use Rattle.runs.proofs.public.FromOpening.{ordered, states_are_well_formed}
+use Rattle.runs.proofs.public.Orders.{Last, past, run-join}
+use Rattle.idle_branches.specs.Idle.{AreEnds, Faces, IdleIn, Passes, StaysIdle, TakesPart, TouchesNoShared}
+use Rattle.idle_branches.specs.declared.ends.Ends.{Ends}
+use Rattle.idle_branches.specs.internal.Known.{Known, known_at}
+use Rattle.idle_branches.proofs.ChainLemmas.{FitsLocated, moves-fit, run-keeps, whole-opens}
+
+-- a place before another lies in its branch
+same-within : (o : Option (List Command)) (a b : Place) → Before a b → branch_within o a ≡ branch_within o b
+same-within None a b h = refl
+same-within (Some children) (Ordered i ∷ a) (Ordered j ∷ b) h = refl
+same-within (Some children) (Branch i ∷ a) (Branch j ∷ b) h =
+    ap (λ (n : ℕ). if nat_lt n (length children) then Some n else None) h.0
+same-within (Some children) [] b h = absurd h
+same-within (Some children) (Ordered i ∷ a) [] h = absurd h
+same-within (Some children) (Branch i ∷ a) [] h = absurd h
+same-within (Some children) (Ordered i ∷ a) (Branch j ∷ b) h = absurd h
+same-within (Some children) (Branch i ∷ a) (Ordered j ∷ b) h = absurd h
+
+same-branch : (system : System) (a b : Place) → Before a b → branch_at system a ≡ branch_at system b
+same-branch system (Ordered i ∷ a) (Ordered j ∷ b) h = refl
+same-branch system (Branch i ∷ a) (Branch j ∷ b) h =
+    ap (λ (o : Option ℕ). if i == 0 then o else branch_of_port system i) (same-within (parallel_of system.main) a b h.1)
+    ∙ ap (λ (n : ℕ). if n == 0 then branch_within (parallel_of system.main) b else branch_of_port system n) h.0
+same-branch system [] b h = absurd h
+same-branch system (Ordered i ∷ a) [] h = absurd h
+same-branch system (Branch i ∷ a) [] h = absurd h
+same-branch system (Ordered i ∷ a) (Branch j ∷ b) h = absurd h
+same-branch system (Branch i ∷ a) (Ordered j ∷ b) h = absurd h
+
+-- of two at the end the one stands earlier
+earlier-end : (h : List Event) (e x : Event) → Earlier (h ++ e ∷ x ∷ []) e x
+earlier-end [] e x = inl (refl, inl refl)
+earlier-end (y ∷ h) e x = inr (earlier-end h e x)
+
+module _ (system : System) (ends : Ends) where
+  abbrev known : ℕ → Known
+  known k = known_at ends.offers.items ends.used.acting.items k
+
+  -- the side of an event that does not act faces the branch that acts
+  faces : (s : Store) (ls : List Located) (x : Event) (b : Place) (j k : ℕ) → Makes s ls x → Every (FitsLocated known system) ls
+      → In b (places x) → branch_at system b ≡ Some j → branch_at system (acting x) ≡ Some k → (b ≡ acting x) ⊎ Faces ends j k
+  faces s ls x b j k (assigning a y w e) f (inl is) at acts = inl is
+  faces s ls x b j k (assigning a y w e) f (inr bad) at acts = absurd bad
+  faces s ls x b j k (testing a d n g) f (inl is) at acts = inl is
+  faces s ls x b j k (testing a d n g) f (inr bad) at acts = absurd bad
+  faces s ls x b j k (turning a) f (inl is) at acts = inl is
+  faces s ls x b j k (turning a) f (inr bad) at acts = absurd bad
+  faces s ls x b j k (meeting a c d w e y p) f (inl is) at acts = inr (d, f.0 j (ap (branch_at system) (sym is) ∙ at), f.1.0 k acts)
+  faces s ls x b j k (meeting a c d w e y p) f (inr (inl is)) at acts = inl is
+  faces s ls x b j k (meeting a c d w e y p) f (inr (inr bad)) at acts = absurd bad
+  faces s ls x b j k (opens_with_data a c d w n e p) f (inl is) at acts = inr (d, f.0 j (ap (branch_at system) (sym is) ∙ at), f.1.0 k acts)
+  faces s ls x b j k (opens_with_data a c d w n e p) f (inr (inl is)) at acts = inl is
+  faces s ls x b j k (opens_with_data a c d w n e p) f (inr (inr bad)) at acts = absurd bad
+  faces s ls x b j k (opening_without_data a c d n p) f (inl is) at acts = inr (d, (f.0 j (ap (branch_at system) (sym is) ∙ at)).0, f.1.0 k acts)
+  faces s ls x b j k (opening_without_data a c d n p) f (inr (inl is)) at acts = inl is
+  faces s ls x b j k (opening_without_data a c d n p) f (inr (inr bad)) at acts = absurd bad
+  faces s ls x b j k (shutting a c d p) f (inl is) at acts = inr (d, f.0 j (ap (branch_at system) (sym is) ∙ at), f.1.0 k acts)
+  faces s ls x b j k (shutting a c d p) f (inr (inl is)) at acts = inl is
+  faces s ls x b j k (shutting a c d p) f (inr (inr bad)) at acts = absurd bad
+  faces s ls x b j k (syncing a c d p l) f (inl is) at acts = inl is
+  faces s ls x b j k (syncing a c d p l) f (inr (inl is)) at acts = inr (d, (f.1.0 j (ap (branch_at system) (sym is) ∙ at)).0, (f.0 k acts).1)
+  faces s ls x b j k (syncing a c d p l) f (inr (inr bad)) at acts = absurd bad
+
+  -- what comes at a place behind one of e is not in a branch that e cannot bring a step
+  no-later : (s : Store) (ls : List Located) (e x : Event) (k : ℕ) → Makes s ls x → Every (FitsLocated known system) ls
+      → Passes system ends e k → branch_at system (acting x) ≡ Some k → SomeBefore e x → ⊥
+  no-later s ls e x k makes fits passes acts (a, b, in-e, in-x, before) =
+      let same = same-branch system a b before in
+      let lies = passes.in_branches a in-e in
+      elim (faces s ls x b lies.0 k makes fits in-x (sym same ∙ lies.1) acts) [
+        | inl is ↦ passes.apart (a, in-e, same ∙ ap (branch_at system) is ∙ acts)
+        | inr faced ↦ passes.faces_none lies.0 (a, in-e, lies.1) faced
+      ]
+
+-- a test that comes out
+own : (P : Type 0) (b : Bool) → (b ≡ true → ⊥) → (b ≡ false → P) → P
+own P true not otherwise = absurd (not refl)
+own P false not otherwise = otherwise refl
+
+-- what comes later depends on the event only by a place
+not-direct : (system : System) (h : List Event) (U : State) (e x : Event) → SharesWell system → Run (opening system) (h ++ e ∷ x ∷ []) U
+    → TouchesNoShared system e → (SomeBefore e x → ⊥) → Directly e x → ⊥
+not-direct system h U e x rule all unshared later (inl before) = later before
+not-direct system h U e x rule all unshared later (inr (inl channel)) =
+    later (ordered system (h ++ e ∷ x ∷ []) U e x rule all (earlier-end h e x) (inl channel))
+not-direct system h U e x rule all unshared later (inr (inr (inl (v, w, uses)))) =
+    later (own (SomeBefore e x) (is_shared system v) (λ is. unshared v is (inl w))
+    (λ is. ordered system (h ++ e ∷ x ∷ []) U e x rule all (earlier-end h e x) (inr (inl (v, is, w, uses)))))
+not-direct system h U e x rule all unshared later (inr (inr (inr (v, w, uses)))) =
+    later (own (SomeBefore e x) (is_shared system v) (λ is. unshared v is (touched uses))
+    (λ is. ordered system (h ++ e ∷ x ∷ []) U e x rule all (earlier-end h e x) (inr (inr (v, is, w, uses)))))
+  where
+    touched : In v e.read ⊎ (e.written ≡ Some v) → (e.written ≡ Some v) ⊎ In v e.read
+    touched (inl i) = inr i
+    touched (inr w) = inl w
+
+-- the law
+pub stays-idle : StaysIdle
+stays-idle system ends h S T e k rule are run step passes idle x (U, next) acts =
+    let whole = run-keeps (known system ends) system (opening system) S h (whole-opens (known system ends) system are) run in
+    let after = run-keeps (known system ends) system S T (e ∷ []) whole (T, step, refl) in
+    let fits = moves-fit (known system ends) system T.residual next.moves U.residual after next.moved in
+    let later = no-later system ends T.store next.moves e x k next.makes fits passes acts in
+    let all : Run (opening system) (h ++ e ∷ x ∷ []) U = run-join (opening system) S U h (e ∷ x ∷ []) run (T, step, (U, next, refl)) in
+    let last = past S T U e (x ∷ []) (states_are_well_formed system h S run) step (U, next, refl)
+    (not-direct system h U e x rule all passes.unshared later, tt) in
+    idle x (last.run.0, last.run.1) acts

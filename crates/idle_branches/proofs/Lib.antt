@@ -1,0 +1,4 @@
+mod ChainLemmas
+mod FitsLemmas
+mod GatherLemmas
+mod IdleLemmas

@@ -1,0 +1,93 @@
+-- What is known of the channels that the parts of a system use.
+-- No reader has to believe it: what it leads to is `StaysIdle` of `Idle.antt`.
+use Rattle.std.specs.Prelude.{◌≡◌, ℕ, zero, suc, ◌+◌, ◌-◌, List, [], ◌∷◌, ◌++◌, Option, None, Some, map, slice_get}
+use Rattle.address.specs.declared.Entry.{Entry}
+use Rattle.syntax.specs.Lists.{In, Every}
+use Rattle.system.specs.Residual.{Residual, done, halted, inside, beside, assign, send, receive, sync, held, loop, while, test, choose, closing, drain, Arms, no_arms, arm}
+use Rattle.system.specs.Translation.{residual_of, branch_of}
+use Rattle.system.specs.declared.command.Command.{Command}
+use Rattle.system.specs.declared.system.System.{System}
+use Rattle.system_places.specs.SystemBranches.{parallel_of, branches_of}
+use Rattle.runs.specs.Moves.{Move, assigns, tests, turns, sends, receives, syncs, opens, releases, closes}
+
+-- the list of this number
+abbrev pub list_or : Option (List ℕ) → List ℕ
+list_or None = []
+list_or (Some numbers) = numbers
+
+abbrev pub list_at : List (List ℕ) → ℕ → List ℕ
+list_at lists k = list_or (slice_get lists k)
+
+-- branch i acts on channel c, by this table
+abbrev pub ActsOn : List (List ℕ) → ℕ → ℕ → Type 0
+ActsOn acting c i = In i (list_at acting c)
+
+-- who acts, acts by the other table too
+abbrev pub Grows : List (List ℕ) → List (List ℕ) → Type 0
+Grows before after = (c i : ℕ) → ActsOn before c i → ActsOn after c i
+
+-- what is known of one branch: its number, the channels at whose other side it stands, and who acts on which
+pub record Known : Type 0 where
+  pub branch : ℕ
+  pub offers : List ℕ
+  pub acting : List (List ℕ)
+
+-- it acts on the channel
+abbrev pub Acts : Known → ℕ → Type 0
+Acts u c = ActsOn u.acting c u.branch
+
+-- it stands at the other side of the channel
+abbrev pub Offers : Known → ℕ → Type 0
+Offers u c = In c u.offers
+
+abbrev mutual
+  -- all channels that the residual uses are known, by side
+  pub Fits : Known → Residual → Type 0
+  Fits u done = Unit {0}
+  Fits u halted = Unit {0}
+  Fits u (inside i child next) = Fits u child × Fits u next
+  Fits u (beside k child rest) = Fits u child × Fits u rest
+  Fits u (assign x w e) = Unit {0}
+  Fits u (send c w e) = Offers u c
+  Fits u (receive c x) = Acts u c
+  Fits u (sync c) = Offers u c × Acts u c
+  Fits u (held c) = Offers u c
+  Fits u (loop k body) = Fits u body
+  Fits u (while k e body) = Fits u body
+  Fits u (test d arms) = FitsArms u arms
+  Fits u (choose channels arms) = Every (Acts u) channels × FitsArms u arms
+  Fits u (closing c) = Acts u c
+  Fits u (drain c k) = Acts u c
+
+  -- the same of arms
+  pub FitsArms : Known → Arms → Type 0
+  FitsArms u no_arms = Unit {0}
+  FitsArms u (arm r rest) = Fits u r × FitsArms u rest
+
+-- the channel of the move is known, by its side
+abbrev pub FitsMove : Known → Move → Type 0
+FitsMove u (sends c w e opening) = Offers u c
+FitsMove u (receives c x) = Acts u c
+FitsMove u (syncs c opening) = Offers u c × Acts u c
+FitsMove u (opens c k v) = Acts u c
+FitsMove u (releases c) = Offers u c
+FitsMove u (closes c) = Acts u c
+FitsMove u _ = Unit {0}
+
+-- what is known of branch k
+abbrev pub known_at : List (List ℕ) → List (List ℕ) → ℕ → Known
+known_at offers acting k = record { branch = k; offers = list_at offers k; acting = acting }
+
+-- what the branches of the body are to do
+abbrev pub parts_of : Command → Option (List Command) → List Residual
+parts_of main None = residual_of main ∷ []
+parts_of main (Some children) = map residual_of children
+
+-- what the branches are to do, in order of their numbers
+abbrev pub parts : System → List Residual
+parts system = parts_of system.main (parallel_of system.main) ++ map branch_of system.environment
+
+-- of each of the branches from one on, what it is to do fits what is known of it
+abbrev pub FitEach : (ℕ → Known) → ℕ → List Residual → Type 0
+FitEach known k [] = Unit {0}
+FitEach known k (r ∷ rs) = Fits (known k) r × FitEach known (k + 1) rs

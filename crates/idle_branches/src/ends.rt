@@ -1,0 +1,206 @@
+// The channels that the branches of a system use.
+ghost use Rattle.std.specs.Prelude.{◌≡◌, ℕ, ◌∷◌, ◌++◌, [], length, map, true, Some, IfOk, MatchBool, OnOk};
+ghost use Rattle.syntax.specs.Lists.{In};
+ghost use Rattle.std.specs.Option.{option_copied};
+ghost use Rattle.system.specs.Translation.{residual_of, branch_of};
+ghost use Rattle.sharing_check.specs.Rule as rule;
+ghost use Rattle.system_places.specs.SystemBranches as places;
+ghost use Rattle.idle_branches.specs.Idle.{AreEnds, TouchesNoShared};
+ghost use Rattle.idle_branches.specs.internal.Gathered.{AddsParts};
+ghost use Rattle.idle_branches.specs.internal.Known.{list_at, parts_of};
+
+use crate::used::{Used, add_command};
+use runs::Event;
+use sharing_check::Checked;
+use std::alloc::{AllocError, Global};
+use std::mem;
+use syntax::Items;
+use system::{Action, Branch, Command, System};
+
+/// For each branch of a system the channels at whose other side it stands, and for each channel the branches that act
+/// on it: of a meeting the receiver, of two handshakes without data both.
+#[derive(Drop)]
+pub struct Ends {
+    pub(crate) offers: Vec<Items<u32>>,
+    pub(crate) used: Used,
+}
+
+impl Ends {
+    /// Those of the system. It is an error if there is no memory.
+    pub fn of(alloc: Global, checked: &Checked) -> Result<Ends, AllocError>
+        ensures { IfOk result (λ ends. AreEnds checked.now ends) }
+    {
+        let system = checked.system();
+        let mut ends = Ends::none(alloc, system.channels.len())?;
+        ends.add_body(alloc, &system.main)?;
+        ends.add_ports(alloc, system.environment.as_slice())?;
+        Ok(ends)
+    }
+
+    /// The channels at whose other side the branch stands.
+    pub fn offered_by(&self, branch: u32) -> &[u32]
+        ensures { result.now ≡ list_at self.now.offers.items branch }
+    {
+        list_in(self.offers.as_slice(), branch)
+    }
+
+    /// The branches that act on the channel.
+    pub fn acting_on(&self, channel: u32) -> &[u32]
+        ensures { result.now ≡ list_at self.now.used.acting.items channel }
+    {
+        list_in(self.used.acting.as_slice(), channel)
+    }
+
+    /// No branches yet, of a system of so many channels.
+    fn none(alloc: Global, channels: usize) -> Result<Ends, AllocError>
+        ensures { IfOk result (λ ends. ends.offers.items ≡ []) }
+    {
+        let mut acting = Vec::with_capacity(alloc, channels)?;
+        for number in 0..channels {
+            acting.push(Items::new(alloc))?;
+        }
+        Ok(Ends {
+            offers: Vec::new(alloc),
+            used: Used {
+                offers: Items::new(alloc),
+                acting,
+            },
+        })
+    }
+
+    /// Adds the branches of the body: its children where it is a parallel, else itself.
+    fn add_body(&mut self, alloc: Global, body: &Command) -> Result<(), AllocError>
+        ensures { OnOk result
+            (AddsParts self.old (parts_of body.now (places.parallel_of body.now)) self.new) }
+    {
+        match parallel_of(body) {
+            Some(children) => self.add_children(alloc, children.as_slice()),
+            None => self.add_alone(alloc, body),
+        }
+    }
+
+    /// Adds the body as one branch.
+    fn add_alone(&mut self, alloc: Global, body: &Command) -> Result<(), AllocError>
+        ensures { OnOk result (AddsParts self.old (residual_of body.now ∷ []) self.new) }
+    {
+        self.add_branch(alloc, body)
+    }
+
+    /// Adds these as branches.
+    fn add_children(&mut self, alloc: Global, children: &[Command]) -> Result<(), AllocError>
+        ensures { OnOk result (AddsParts self.old (map residual_of children.now) self.new) }
+    {
+        for child in children {
+            self.add_branch(alloc, child)?;
+        }
+        Ok(())
+    }
+
+    /// Adds the environment at each port as a branch.
+    fn add_ports(&mut self, alloc: Global, ports: &[Branch]) -> Result<(), AllocError>
+        ensures { OnOk result (AddsParts self.old (map branch_of ports.now) self.new) }
+    {
+        for port in ports {
+            self.add_port(alloc, port)?;
+        }
+        Ok(())
+    }
+
+    /// Adds a command as a branch.
+    fn add_branch(&mut self, alloc: Global, command: &Command) -> Result<(), AllocError>
+        ensures { OnOk result (AddsParts self.old (residual_of command.now ∷ []) self.new) }
+    {
+        let number = self.next_number()?;
+        add_command(command, number, &mut self.used)?;
+        self.end_branch(alloc)
+    }
+
+    /// Adds the environment at a port as a branch.
+    fn add_port(&mut self, alloc: Global, port: &Branch) -> Result<(), AllocError>
+        ensures { OnOk result (AddsParts self.old (branch_of port.now ∷ []) self.new) }
+    {
+        let number = self.next_number()?;
+        self.used.add_port(number, port)?;
+        self.end_branch(alloc)
+    }
+
+    /// The number of the next branch. It is an error if it has not 32 bits.
+    fn next_number(&self) -> Result<u32, AllocError>
+        ensures { IfOk result (λ number. number ≡ length self.now.offers.items) }
+    {
+        let count = self.offers.len();
+        if count > 4294967295 {
+            return Err(AllocError);
+        }
+        Ok(count as u32)
+    }
+
+    /// Ends the branch that is gone through.
+    fn end_branch(&mut self, alloc: Global) -> Result<(), AllocError>
+        ensures offers { OnOk result (self.new.offers.items ≡ self.old.offers.items ++ self.old.used.offers ∷ []) }
+        ensures acting { self.new.used.acting ≡ self.old.used.acting }
+    {
+        let offers = mem::replace(&mut self.used.offers, Items::new(alloc));
+        self.offers.push(offers)?;
+        Ok(())
+    }
+}
+
+/// Whether the event reads or writes a variable that branches may share.
+pub fn touches_shared(system: &System, event: &Event) -> bool
+    ensures { MatchBool result (Unit {0}) (TouchesNoShared system.now event.now) }
+{
+    writes_shared(system, event.written) || reads_shared(system, event.read.as_slice())
+}
+
+/// Whether branches may share the variable, if there is one.
+fn writes_shared(system: &System, written: Option<u32>) -> bool
+    ensures { MatchBool result (Unit {0}) ((x : ℕ) → rule.is_shared system.now x ≡ true → written ≡ Some x → ⊥) }
+{
+    match written {
+        Some(variable) => is_shared(system, variable),
+        None => false,
+    }
+}
+
+/// Whether branches may share one of these variables.
+fn reads_shared(system: &System, read: &[u32]) -> bool
+    ensures { MatchBool result (Unit {0}) ((x : ℕ) → rule.is_shared system.now x ≡ true → In x read.now → ⊥) }
+{
+    for variable in read {
+        if is_shared(system, *variable) {
+            return true;
+        }
+    }
+    false
+}
+
+/// Whether branches may share the variable.
+fn is_shared(system: &System, variable: u32) -> bool
+    ensures { result ≡ rule.is_shared system.now variable }
+{
+    match system.variables.get(variable as usize) {
+        Some(found) => found.shared,
+        None => false,
+    }
+}
+
+/// The children of a command that is a parallel.
+fn parallel_of(command: &Command) -> Option<&Items<Command>>
+    ensures { option_copied result ≡ places.parallel_of command.now }
+{
+    match command.action.get() {
+        Action::Parallel(children) => Some(children),
+        _ => None,
+    }
+}
+
+/// The list of this number, and none where there is none.
+fn list_in(lists: &[Items<u32>], number: u32) -> &[u32]
+    ensures { result.now ≡ list_at lists.now number }
+{
+    match lists.get(number as usize) {
+        Some(list) => list.as_slice(),
+        None => &[],
+    }
+}

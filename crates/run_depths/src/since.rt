@@ -1,0 +1,167 @@
+// From which depth on a place may be stood at.
+ghost use Rattle.std.specs.Prelude.{◌≡◌, ◌⊎◌, ◌+◌, ◌<◌, ◌≤◌, ℕ, Some, length, slice_get, slice_index, IfOk, IsTrue, OnOk, ◌↔◌};
+ghost use Rattle.address.specs.Places.{Before};
+ghost use Rattle.syntax.specs.Lists.{In};
+ghost use Rattle.last_events.specs.LastEvents.{IsAt, Orderly, PutAt};
+ghost use Rattle.runs.specs.Moves.{Place};
+ghost use Rattle.dependence.specs.internal.Tabled.{Placed};
+ghost use Rattle.run_depths.specs.Depths.{AreBelow, AreDepths};
+ghost use Rattle.run_depths.specs.Since.{AreSince, IsEventSince, IsSince};
+ghost use Rattle.run_depths.specs.internal.PlacesHeld.{BehindLast, GreatestBehind, HasBefore, HoldsTo, WithEvent};
+
+use crate::depth::larger;
+use address::{Address, before};
+use dependence::Live;
+use last_events::PlaceTable;
+use runs::Event;
+use std::alloc::{AllocError, Global};
+
+/// From which depth on each of the two places of each live event may have been stood at: one more than the greatest
+/// depth of an event with a place before it, and 0 where there is none. Of an event with one place it is told twice.
+///
+/// It is an error if there is no memory.
+pub fn all_since(
+    alloc: Global,
+    live: &Live,
+    depths: &[usize],
+) -> Result<Vec<(usize, usize)>, AllocError>
+    requires placed { Placed live.now.live }
+    requires depths { AreDepths live.now.live depths.now }
+    requires small { AreBelow depths.now }
+    ensures { IfOk result (λ since. AreSince live.now.live depths.now since.items) }
+{
+    live.is_sound();
+    let mut table = PlaceTable::new(alloc);
+    let mut since = Vec::with_capacity(alloc, live.len())?;
+    for (index, (ticket, event)) in live.iter().enumerate() {
+        since.push(event_since(alloc, live, depths, &mut table, index, ticket, event)?)?;
+    }
+    Ok(since)
+}
+
+/// The same of the event at an index, of this ticket, where the table has the places of those before it.
+fn event_since(
+    alloc: Global,
+    live: &Live,
+    depths: &[usize],
+    table: &mut PlaceTable,
+    index: usize,
+    ticket: u64,
+    event: &Event,
+) -> Result<(usize, usize), AllocError>
+    requires stands { slice_get live.now.live index ≡ Some (ticket, event.now) }
+    requires table { HoldsTo live.now.live index table.old }
+    requires placed { Placed live.now.live }
+    requires depths { AreDepths live.now.live depths.now }
+    requires small { AreBelow depths.now }
+    ensures since { IfOk result (λ since. IsEventSince live.now.live depths.now event.now since) }
+    ensures table { OnOk result (HoldsTo live.now.live (index + 1) table.new) }
+{
+    live.is_sound();
+    let first = put_since(alloc, depths, table, &event.first, index)?;
+    match &event.second {
+        Some(second) => {
+            let other = put_since(alloc, depths, table, second, index)?;
+            Ok((first, other))
+        }
+        None => Ok((first, first)),
+    }
+}
+
+/// From which depth on a place may be stood at behind all live events. It looks at the last ones first, so that of the
+/// others nearly always the depths are enough.
+pub fn since_now(live: &Live, depths: &[usize], place: &Address) -> usize
+    requires depths { AreDepths live.now.live depths.now }
+    requires small { AreBelow depths.now }
+    ensures { IsSince live.now.live depths.now place.now result }
+{
+    let count = live.len();
+    let mut since = 0;
+    for back in 0..count {
+        let index = count - 1 - back;
+        since = with_event(depths, index, event_at(live, index), place, since);
+    }
+    since
+}
+
+/// The live event at this index.
+fn event_at(live: &Live, index: usize) -> &Event
+    requires { index < length live.now.live }
+    ensures { (t : ℕ) × (slice_get live.now.live index ≡ Some (t, result.now)) }
+{
+    match live.pair_at(index as u64) {
+        Some((_, event)) => event,
+        None => unreachable!(),
+    }
+}
+
+/// The greater of what is known and what stands behind the event at an index, if it has a place before this one.
+fn with_event(depths: &[usize], index: usize, event: &Event, place: &Address, since: usize) -> usize
+    requires inside { index < length depths.now }
+    requires small { AreBelow depths.now }
+    ensures { WithEvent (slice_index depths.now index) event.now place.now since result }
+{
+    if depths[index] < since {
+        return since;
+    }
+    if has_before(event, place) {
+        depth_after(depths, index)
+    } else {
+        since
+    }
+}
+
+/// Whether the event has a place before this one.
+fn has_before(event: &Event, place: &Address) -> bool
+    ensures { IsTrue result ↔ HasBefore event.now place.now }
+{
+    let first = before(&event.first, place);
+    let second = match &event.second {
+        Some(other) => before(other, place),
+        None => false,
+    };
+    first || second
+}
+
+/// Puts the place of the event at an index into the table; one more than the greatest depth of the last events before
+/// it, and 0 where there are none.
+fn put_since(
+    alloc: Global,
+    depths: &[usize],
+    table: &mut PlaceTable,
+    place: &Address,
+    index: usize,
+) -> Result<usize, AllocError>
+    requires orderly { Orderly table.old place.now }
+    requires inside { (a : Place) (i : ℕ) → IsAt table.old a i → i < length depths.now }
+    requires small { AreBelow depths.now }
+    ensures put { OnOk result (PutAt table.old place.now index table.new) }
+    ensures since { IfOk result (BehindLast table.old depths.now place.now) }
+{
+    let mut found = Vec::new(alloc);
+    table.put(place, index as u64, &mut found)?;
+    Ok(greatest_behind(depths, found.as_slice()))
+}
+
+/// One more than the greatest depth of the events at these indexes, and 0 where there are none.
+fn greatest_behind(depths: &[usize], found: &[u64]) -> usize
+    requires inside { (i : ℕ) → In i found.now → i < length depths.now }
+    requires small { AreBelow depths.now }
+    ensures { GreatestBehind depths.now found.now result }
+{
+    let mut since = 0;
+    for index in found {
+        since = larger(since, depth_after(depths, *index as usize));
+    }
+    since
+}
+
+/// One more than the depth of the event at an index.
+fn depth_after(depths: &[usize], index: usize) -> usize
+    requires inside { index < length depths.now }
+    requires small { AreBelow depths.now }
+    ensures depth { result ≡ slice_index depths.now index + 1 }
+    ensures small { result ≤ length depths.now }
+{
+    depths[index] + 1
+}

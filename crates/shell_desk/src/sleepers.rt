@@ -1,0 +1,159 @@
+// The branches that a run passes over: they had no step, and no step since could bring them one.
+ghost use Rattle.std.specs.Prelude.{◌≡◌, ◌∷◌, [], ◌⊎◌, ◌<◌, ◌≤◌, ℕ, IfOk, MatchBool, MatchOption};
+ghost use Rattle.runs.specs.Events.{places_of};
+ghost use Rattle.idle_branches.specs.Idle.{AreEnds};
+ghost use Rattle.shell_desk.specs.internal.Sleeping.{AllSleep, IsAsleep, NoneSleeps, SleepBehindEvent, SleepBehindPlaces, SleepBut, SleepButFaced, SleepButThese, SleepsBehind};
+
+use address::Address;
+use idle_branches::{Ends, touches_shared};
+use locked_execution::{Event, Reply};
+use std::alloc::{AllocError, Global};
+use system::System;
+use system_places::branch_at;
+
+/// For each branch whether it is asleep. Those that are left out are awake.
+#[derive(Drop)]
+pub(crate) struct Sleepers {
+    pub(crate) asleep: Vec<bool>,
+}
+
+impl Sleepers {
+    /// None of so many branches. Without memory none will ever sleep.
+    pub(crate) fn none(alloc: Global, count: u32) -> Sleepers
+        ensures { NoneSleeps result.asleep.items }
+    {
+        match all_awake(alloc, count) {
+            Ok(asleep) => Sleepers { asleep },
+            Err(_) => Sleepers {
+                asleep: Vec::new(alloc),
+            },
+        }
+    }
+
+    /// Whether the branch is asleep.
+    fn has(&self, branch: u32) -> bool
+        ensures { MatchBool result (IsAsleep self.now.asleep.items branch) (Unit {0}) }
+    {
+        match self.asleep.get(branch as usize) {
+            Some(is_asleep) => *is_asleep,
+            None => false,
+        }
+    }
+
+    /// The first branch from one up to another that is awake.
+    pub(crate) fn first_awake(&self, from: u32, to: u32) -> Option<u32>
+        ensures { MatchOption result (AllSleep self.now.asleep.items from to)
+            (λ next. (from ≤ next) × (next < to) × AllSleep self.now.asleep.items from next) }
+    {
+        for branch in from..to {
+            if !self.has(branch) {
+                return Some(branch);
+            }
+        }
+        None
+    }
+
+    /// Keeps in mind who sleeps behind this reply to a branch: the branch, where it has no step; no more those to whom
+    /// a step may have brought one.
+    pub(crate) fn note(&mut self, system: &System, ends: &Ends, branch: u32, reply: &Reply)
+        ensures { SleepsBehind ends.now system.now branch reply.now self.old.asleep.items self.new.asleep.items }
+    {
+        match reply {
+            Reply::Idle => self.lull(branch),
+            Reply::Stepped(_, event) => self.wake_behind(system, ends, event),
+            _ => {}
+        }
+    }
+
+    /// Wakes those to whom the event may have brought a step: who took part in it, who acts on a channel at whose other
+    /// side one of these stands, and all where it is on a shared variable.
+    fn wake_behind(&mut self, system: &System, ends: &Ends, event: &Event)
+        ensures { SleepBehindEvent system.now ends.now event.now self.old.asleep.items self.new.asleep.items }
+    {
+        if touches_shared(system, event) {
+            self.wake_all();
+        } else {
+            self.wake_at(system, ends, &event.first);
+            self.wake_second(system, ends, &event.second);
+        }
+    }
+
+    /// Wakes those to whom a step at the place may have brought one, if there is one.
+    fn wake_second(&mut self, system: &System, ends: &Ends, second: &Option<Address>)
+        ensures { SleepBehindPlaces system.now ends.now (places_of second.now)
+            self.old.asleep.items self.new.asleep.items }
+    {
+        match second {
+            Some(place) => self.wake_at(system, ends, place),
+            None => {}
+        }
+    }
+
+    /// Wakes those to whom a step at the place may have brought one: all where it lies in no branch.
+    fn wake_at(&mut self, system: &System, ends: &Ends, place: &Address)
+        ensures { SleepBehindPlaces system.now ends.now (place.now ∷ [])
+            self.old.asleep.items self.new.asleep.items }
+    {
+        match branch_at(system, place) {
+            Some(branch) => {
+                self.wake(branch);
+                self.wake_faced(ends, branch);
+            }
+            None => self.wake_all(),
+        }
+    }
+
+    /// Wakes who acts on a channel at whose other side the branch stands.
+    fn wake_faced(&mut self, ends: &Ends, branch: u32)
+        ensures { SleepButFaced ends.now branch self.old.asleep.items self.new.asleep.items }
+    {
+        for channel in ends.offered_by(branch) {
+            self.wake_each(ends.acting_on(*channel));
+        }
+    }
+
+    /// Wakes these.
+    fn wake_each(&mut self, branches: &[u32])
+        ensures { SleepButThese branches.now self.old.asleep.items self.new.asleep.items }
+    {
+        for branch in branches {
+            self.wake(*branch);
+        }
+    }
+
+    /// Wakes all.
+    fn wake_all(&mut self)
+        ensures { NoneSleeps self.new.asleep.items }
+    {
+        self.asleep.as_mut_slice().fill(false);
+    }
+
+    /// Wakes a branch.
+    fn wake(&mut self, branch: u32)
+        ensures { SleepBut branch self.old.asleep.items self.new.asleep.items }
+    {
+        let index = branch as usize;
+        if self.asleep.len() <= index {
+            return;
+        }
+        self.asleep[index] = false;
+    }
+
+    /// Lets a branch fall asleep.
+    fn lull(&mut self, branch: u32)
+        ensures { (i : ℕ) → IsAsleep self.new.asleep.items i → IsAsleep self.old.asleep.items i ⊎ (i ≡ branch) }
+    {
+        let index = branch as usize;
+        if self.asleep.len() <= index {
+            return;
+        }
+        self.asleep[index] = true;
+    }
+}
+
+/// So many branches that are awake.
+fn all_awake(alloc: Global, count: u32) -> Result<Vec<bool>, AllocError>
+    ensures { IfOk result (λ asleep. NoneSleeps asleep.items) }
+{
+    Ok(vec![in alloc; false; count as usize]?)
+}
