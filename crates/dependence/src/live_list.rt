@@ -1,5 +1,5 @@
 // The live events with their links, by ticket in one map.
-ghost use Rattle.std.specs.Prelude.{◌≡◌, ◌<◌, ◌+◌, ◌^◌, ◌++◌, ◌∷◌, [], ℕ, suc, length, drop, Some, None, slice_get, MatchOption, MatchResult, OnOk};
+ghost use Rattle.std.specs.Prelude.{◌≡◌, ◌<◌, ◌+◌, ◌-◌, ◌^◌, ◌++◌, ◌∷◌, [], ℕ, length, drop, Some, None, slice_get, MatchOption, MatchResult, OnOk};
 ghost use Rattle.syntax.specs.Lists.{In};
 ghost use Rattle.slots.specs.Places.{filled, rank, RiseFrom, Counted, EndsFilled, IsOf};
 ghost use Rattle.runs.specs.InOrder.{InOrder};
@@ -151,8 +151,8 @@ impl LiveList {
 
     /// The last event with its ticket.
     pub(crate) fn last(&self) -> Option<(u64, &Event)>
-        ensures { MatchOption result (self.now.live ≡ []) (λ last. (i : ℕ) × (suc i ≡ length self.now.live)
-            × (slice_get self.now.live i ≡ Some (last.0, last.1.now))) }
+        ensures { MatchOption result (self.now.live ≡ []) (λ last.
+            slice_get self.now.live (length self.now.live - 1) ≡ Some (last.0, last.1.now)) }
     {
         match self.slots.last() {
             Some((ticket, Some(kept))) => Some((*ticket, kept.event.get())),

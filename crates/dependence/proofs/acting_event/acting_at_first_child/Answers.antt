@@ -7,8 +7,8 @@ pub returns-in_default : goal.returns-in_default
 returns-in_default c =
     none-stands c.args.list.now.live c.args.tables.now (first_child c.args.place.now) c.requires.tables (sym c.at_first_child.ensures ∙ c.in_default.is)
 
-pub event_of-event-requires-clause-live : goal.event_of-event-requires-clause-live
-event_of-event-requires-clause-live c =
+pub event_of-event-requires : goal.event_of-event-requires
+event_of-event-requires c =
     stands-live c.args.list.now.live c.args.tables.now (first_child c.args.place.now) c.in-Some.ticket c.requires.tables (sym c.at_first_child.ensures ∙ c.in-Some.is)
 
 pub returns-then-is_first_child : goal.returns-then-is_first_child

@@ -19,13 +19,13 @@ loop-ticket-preserved c =
     let ts : List ℕ = take c.loop-ticket.ticket-index c.args.tickets.now in
     let one : ℕ = get_or c.args.tickets.now c.loop-ticket.ticket-index 0 in
     let next = read-next c.args.tickets.now c.loop-ticket.ticket-index c.loop-ticket-test.true in
-    found-some new.live.now new.event.now (λ t. In t ts ⊎ (t ≡ one)) _ c.args.found.now.items c.add_access.new.found.items
+    found-some new.list.now.live new.event.now (λ t. In t ts ⊎ (t ≡ one)) _ c.args.found.now.items c.add_access.new.found.items
     (λ t e i j. elim (in-parts t ts (one ∷ []) (subst (λ (k : List ℕ). In t k) next j)) [
       | inl a ↦ inl a
       | inr (inl a) ↦ inr a
       | inr (inr a) ↦ absurd a
     ])
-    (found-then new.live.now new.event.now (λ t. In t ts) (λ t. t ≡ one) c.args.found.now.items c.loop-ticket.found.items c.add_access.new.found.items
+    (found-then new.list.now.live new.event.now (λ t. In t ts) (λ t. t ≡ one) c.args.found.now.items c.loop-ticket.found.items c.add_access.new.found.items
     c.loop-ticket.invariant c.in_ok-add_access.ensures)
 
 pub returns : goal.returns
