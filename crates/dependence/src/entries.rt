@@ -21,7 +21,7 @@ use syntax::Boxed;
 /// The tickets of the live events that a new event follows, falling. `found` are those that its places give.
 pub(crate) fn leads_of(
     alloc: Global,
-        new: &NewEvent<'_>,
+    new: &NewEvent<'_>,
     mut found: Vec<u64>,
 ) -> Result<Vec<u64>, AllocError>
     requires new { IsNewEvent new.now }

@@ -169,11 +169,7 @@ impl Live {
         requires { IsLive self.now.live ticket }
         ensures { IfOk result (λ tickets. ConsequencesList self.now.live ticket tickets.items) }
     {
-        consequences(
-            self.alloc,
-            &self.list,
-            ticket,
-        )
+        consequences(self.alloc, &self.list, ticket)
     }
 
     /// Marks the live event of this ticket and all live events that depend on it, and no others; how many they are. The
@@ -258,12 +254,7 @@ impl Live {
         ensures live { WithoutTickets (λ t. t ≡ ticket) self.old.live self.new.live }
         ensures marked { Without (λ t. t ≡ ticket) self.old.marked self.new.marked }
     {
-        take_event(
-            &mut self.list,
-            &mut self.marks,
-            &mut self.tables,
-            ticket,
-        )
+        take_event(&mut self.list, &mut self.marks, &mut self.tables, ticket)
     }
 
     /// Takes out what stands beside a marked event, of items that stand beside the live events at the same indexes.

@@ -90,12 +90,7 @@ impl LiveList {
         ensures { MatchOption result (NoneAt self.now.live ticket) (λ i. StandsAt self.now.live ticket i) }
     {
         let place = find(&self.slots, ticket)?;
-        Some(index_at(
-            &self.slots,
-            self.counts.as_slice(),
-            self.count,
-            place,
-        ))
+        Some(index_at(&self.slots, self.counts.as_slice(), self.count, place))
     }
 
     /// Where the live event of this ticket stands.

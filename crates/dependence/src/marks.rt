@@ -17,12 +17,7 @@ const STRIDE: usize = 1_024;
 
 /// Marks the event of this ticket and all that depend on it, and no others; how many they are. No event of a ticket
 /// less than `first` was marked.
-pub(crate) fn mark_and_count(
-    list: &LiveList,
-    marks: &mut [bool],
-    first: u64,
-    ticket: u64,
-) -> usize
+pub(crate) fn mark_and_count(list: &LiveList, marks: &mut [bool], first: u64, ticket: u64) -> usize
     requires rising { IsRising list.now.live }
     requires linked { Linked list.now.live list.now.links }
     requires live { IsLive list.now.live ticket }
@@ -40,12 +35,7 @@ pub(crate) fn mark_and_count(
 
 /// Marks the event of this ticket and all that depend on it, where nothing is marked. The marks are those of the live
 /// events from the index `base` on, and the event is one of these.
-pub(crate) fn mark_dependents(
-    list: &LiveList,
-    base: usize,
-    marks: &mut [bool],
-    ticket: u64,
-)
+pub(crate) fn mark_dependents(list: &LiveList, base: usize, marks: &mut [bool], ticket: u64)
     requires rising { IsRising list.now.live }
     requires linked { Linked list.now.live list.now.links }
     requires size { base + length marks.old ≡ length list.now.live }
@@ -142,11 +132,7 @@ pub(crate) fn is_marked(list: &LiveList, marks: &[bool], ticket: u64) -> bool
 }
 
 /// The event at this index where it is marked.
-pub(crate) fn marked_at<'a>(
-    list: &'a LiveList,
-    marks: &[bool],
-    index: usize,
-) -> Option<&'a Event>
+pub(crate) fn marked_at<'a>(list: &'a LiveList, marks: &[bool], index: usize) -> Option<&'a Event>
     requires rising { IsRising list.now.live }
     requires size { length marks.now ≡ length list.now.live }
     ensures { MatchOption result (NoneMarkedAt list.now.live (tickets_marked list.now.live marks.now) index) (λ found.

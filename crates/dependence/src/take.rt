@@ -106,13 +106,7 @@ fn unlink_at(alloc: Global, list: &mut LiveList, marks: &[bool], index: usize)
 }
 
 /// Takes the ticket, which is marked, out of the followers of the live event `lead`, and other marked ones with it.
-fn unlink_from(
-    alloc: Global,
-    list: &mut LiveList,
-    marks: &[bool],
-    lead: u64,
-    ticket: u64,
-)
+fn unlink_from(alloc: Global, list: &mut LiveList, marks: &[bool], lead: u64, ticket: u64)
     requires rising { IsRising list.old.live }
     requires size { length marks.now ≡ length list.old.live }
     requires long { length list.old.links ≡ length list.old.live }

@@ -19,7 +19,7 @@ pub fn place_at<T>(slots: &Slots<T>, counts: &[u8], count: usize, index: usize) 
         return index;
     }
     let (number, left) = block_at(slots, counts, index);
-    place_from(slots, number * BLOCK, left)
+    place_from(slots, BLOCK * number, left)
 }
 
 /// The number of the block that has the item at this index, and its index among the items of the block.
@@ -80,7 +80,7 @@ pub fn index_at<T>(slots: &Slots<T>, counts: &[u8], count: usize, place: usize) 
         return place;
     }
     let number = place / BLOCK;
-    let start = number * BLOCK;
+    let start = BLOCK * number;
     before_block(slots, counts, number) + between(slots, start, place)
 }
 

@@ -13,9 +13,5 @@ pub fn find<T>(slots: &Slots<T>, ticket: u64) -> Option<usize>
     ensures { MatchOption result (NoneOf slots.now.entries ticket) (λ place. IsOf slots.now.entries ticket place) }
 {
     let (place, _, item) = slots.get_full(&ticket)?;
-    if item.is_some() {
-        Some(place)
-    } else {
-        None
-    }
+    if item.is_some() { Some(place) } else { None }
 }

@@ -4,19 +4,19 @@ use Rattle.std.specs.Prelude.{slice_get, slice_set, is_some, ◌⊎◌}
 use Rattle.std.proofs.lemmas.Bool.{cases_lt, cases_eq}
 use Rattle.indexmap.specs.IndexMap.{set_value_at}
 use Rattle.slots.specs.Places.{Places, put_before, filled, rank, RiseFrom, Counted, EndsFilled}
-use Rattle.slots.proofs.public.PlaceLaws.{none-some, some-is, add_here, length-put, filled-short, rank-whole, rank-rises, rank-next, rank-full, rank-changed, rank-taken-before, rank-taken-behind, rank-pushed, rank-past, length-edited, filled-append, held-some}
+use Rattle.slots.proofs.public.PlaceLaws.{none-some, some-is, add_here, length-put, filled-short, rank-whole, rank-rises, rank-span, rank-next, rank-full, rank-changed, rank-taken-before, rank-taken-behind, rank-pushed, rank-past, length-edited, filled-append, held-some}
 
 length-written : (ns : List ℕ) (i v : ℕ) → length (slice_set ns i v) ≡ length ns
 length-written [] i v = refl
 length-written (n ∷ ns) zero v = refl
 length-written (n ∷ ns) (suc i) v = ap suc (length-written ns i v)
 
-written-here : (ns : List ℕ) (i v m n : ℕ) → slice_get ns i ≡ Some n → slice_get (slice_set ns i v) i ≡ Some m → m ≡ v
+pub written-here : (ns : List ℕ) (i v m n : ℕ) → slice_get ns i ≡ Some n → slice_get (slice_set ns i v) i ≡ Some m → m ≡ v
 written-here [] i v m n h e = none-some n h
 written-here (k ∷ ns) zero v m n h e = sym (some-is v m e)
 written-here (k ∷ ns) (suc i) v m n h e = written-here ns i v m n h e
 
-written-other : (ns : List ℕ) (i j v : ℕ) → j ≢ i → slice_get (slice_set ns i v) j ≡ slice_get ns j
+pub written-other : (ns : List ℕ) (i j v : ℕ) → j ≢ i → slice_get (slice_set ns i v) j ≡ slice_get ns j
 written-other [] i j v h = refl
 written-other (n ∷ ns) zero zero v h = absurd (h refl)
 written-other (n ∷ ns) zero (suc j) v h = refl
@@ -75,7 +75,7 @@ counted-taken ps counts i t x n h at c = record {
 }
   where
     strictly : (a b : ℕ) → a ≤ b → b ≢ a → a < b
-    strictly a b le other = elim (cases_eq b a) [ | inl is ↦ absurd (other is) | inr no ↦ omega arith ]
+    strictly a b le other = elim (cases_eq b a) [ inl is ↦ absurd (other is) | inr differs ↦ omega arith ]
 
 -- an item more
 pub counted-pushed : {X : Type 0} (ps : Places X) (counts : List ℕ) (t : ℕ) (x : X) (n : ℕ) → slice_get counts (length ps / 64) ≡ Some n → length ps < 64 * length counts →
@@ -113,7 +113,7 @@ counted-pushed ps counts t x n at room c = record {
 }
   where
     strictly : (a b : ℕ) → a ≤ b → b ≢ a → a < b
-    strictly a b le other = elim (cases_eq b a) [ | inl is ↦ absurd (other is) | inr no ↦ omega arith ]
+    strictly a b le other = elim (cases_eq b a) [ inl is ↦ absurd (other is) | inr differs ↦ omega arith ]
 
 -- an empty place less at the end
 pub rank-cut : {X : Type 0} (ps : Places X) (t j : ℕ) → rank (ps ++ (t, None) ∷ []) j ≡ rank ps j
@@ -164,7 +164,7 @@ is_filled p = is_some p.1
 
 pub filled-kept : {X : Type 0} (ps : Places X) → filled (filter is_filled ps) ≡ filled ps
 filled-kept [] = refl
-filled-kept (p ∷ ps) = by p.0 p.1 (filled-kept ps)
+filled-kept {X = X} (p ∷ ps) = by p.0 p.1 (filled-kept ps)
   where
     by : (t : ℕ) (o : Option X) → filled (filter is_filled ps) ≡ filled ps → filled (cond (is_some o) ((t, o) ∷ filter is_filled ps) (filter is_filled ps)) ≡ put_before t o (filled ps)
     by t None rest = rest
@@ -172,7 +172,7 @@ filled-kept (p ∷ ps) = by p.0 p.1 (filled-kept ps)
 
 pub full-kept : {X : Type 0} (ps : Places X) → length (filled (filter is_filled ps)) ≡ length (filter is_filled ps)
 full-kept [] = refl
-full-kept (p ∷ ps) = by p.0 p.1 (full-kept ps)
+full-kept {X = X} (p ∷ ps) = by p.0 p.1 (full-kept ps)
   where
     by : (t : ℕ) (o : Option X) → length (filled (filter is_filled ps)) ≡ length (filter is_filled ps) →
         length (filled (cond (is_some o) ((t, o) ∷ filter is_filled ps) (filter is_filled ps))) ≡ length (cond (is_some o) ((t, o) ∷ filter is_filled ps) (filter is_filled ps))
@@ -185,7 +185,7 @@ rise-lower low high (p ∷ ps) h r = let first = r.0 in (omega arith, r.1)
 
 pub rise-kept : {X : Type 0} (low : ℕ) (ps : Places X) → RiseFrom low ps → RiseFrom low (filter is_filled ps)
 rise-kept low [] r = tt
-rise-kept low (p ∷ ps) r = by p.0 p.1 r.0 (rise-kept (suc p.0) ps r.1)
+rise-kept {X = X} low (p ∷ ps) r = by p.0 p.1 r.0 (rise-kept (suc p.0) ps r.1)
   where
     by : (t : ℕ) (o : Option X) → low ≤ t → RiseFrom (suc t) (filter is_filled ps) → RiseFrom low (cond (is_some o) ((t, o) ∷ filter is_filled ps) (filter is_filled ps))
     by t None first rest = rise-lower low (suc t) (filter is_filled ps) (omega arith) rest
@@ -193,7 +193,7 @@ rise-kept low (p ∷ ps) r = by p.0 p.1 r.0 (rise-kept (suc p.0) ps r.1)
 
 pub none-empty : {X : Type 0} (ps : Places X) (i t : ℕ) → slice_get (filter is_filled ps) i ≡ Some (t, None) → ⊥
 none-empty [] i t h = none-some (t, None) h
-none-empty (p ∷ ps) i t h = by p.0 p.1 i h (λ j e. none-empty ps j t e)
+none-empty {X = X} (p ∷ ps) i t h = by p.0 p.1 i h (λ j e. none-empty ps j t e)
   where
     by : (u : ℕ) (o : Option X) (i : ℕ) → slice_get (cond (is_some o) ((u, o) ∷ filter is_filled ps) (filter is_filled ps)) i ≡ Some (t, None) →
         ((j : ℕ) → slice_get (filter is_filled ps) j ≡ Some (t, None) → ⊥) → ⊥
@@ -225,7 +225,7 @@ counted-full ps counts full all told = record {
 
 -- what a place says where no place is empty
 pub full-at : {X : Type 0} (ps : Places X) (i : ℕ) (p : ℕ × Option X) → length (filled ps) ≡ length ps → slice_get ps i ≡ Some p → i < length ps → (x : X) × (p.1 ≡ Some x)
-full-at ps i p full at less =
+full-at {X = X} ps i p full at less =
     let one = rank-full ps i full (omega arith) in
     let two = rank-full ps (suc i) full (omega arith) in
     by p.1 (rank-next ps i p at) one two
@@ -233,3 +233,20 @@ full-at ps i p full at less =
     by : (o : Option X) → rank ps (suc i) ≡ add_here o (rank ps i) → rank ps i ≡ i → rank ps (suc i) ≡ suc i → (x : X) × (o ≡ Some x)
     by None next a b = absurd (omega arith)
     by (Some x) next a b = (x, refl)
+
+-- a block that has an item is told so
+pub block-some : {X : Type 0} (ps : Places X) (counts : List ℕ) (i t : ℕ) (x : X) (n : ℕ) → slice_get ps i ≡ Some (t, Some x) → slice_get counts (i / 64) ≡ Some n →
+    Counted ps counts → 1 ≤ n
+block-some ps counts i t x n h at c =
+    let told = c.blocks (i / 64) n at in
+    let next : rank ps (suc i) ≡ suc (rank ps i) = rank-next ps i (t, Some x) h in
+    let low = rank-rises ps (64 * (i / 64)) i (omega arith) in
+    let high = rank-rises ps (suc i) (64 * (i / 64) + 64) (omega arith) in
+    omega arith
+
+-- and no more than it has places
+pub block-most : {X : Type 0} (ps : Places X) (counts : List ℕ) (b n : ℕ) → slice_get counts b ≡ Some n → Counted ps counts → n ≤ 64
+block-most ps counts b n at c =
+    let told = c.blocks b n at in
+    let span = rank-span ps (64 * b) 64 in
+    omega arith

@@ -3,7 +3,7 @@ use Rattle.std.proofs.Common.{◌≡◌, Bool, true, false, cond, nat_eq, ℕ, z
 use Rattle.std.proofs.lemmas.Bool.{cases_lt}
 use Rattle.std.proofs.lemmas.Bool.Decides.{nat_tests}
 use Rattle.std.specs.Map.{lookup, lookup_key, values_of}
-use Rattle.std.specs.Prelude.{slice_get, slice_set, is_some, ◌⊎◌}
+use Rattle.std.specs.Prelude.{slice_get, slice_set, is_some, ◌⊎◌, Result, Ok, Err, OnOk}
 use Rattle.std.specs.List.{remove}
 use Rattle.std.proofs.lemmas.Option.{slice_get_within}
 use Rattle.indexmap.specs.IndexMap.{set_value_at}
@@ -90,12 +90,12 @@ filled-short (p ∷ ps) =
     let rest = filled-short ps in
     omega arith
 
-pub rank-none : {X : Type 0} (i : ℕ) → rank {X = X} [] i ≡ 0
-rank-none zero = refl
-rank-none (suc i) = refl
+pub rank-none : (X : Type 0) (i : ℕ) → rank {X = X} [] i ≡ 0
+rank-none X zero = refl
+rank-none X (suc i) = refl
 
 pub rank-whole : {X : Type 0} (ps : Places X) (i : ℕ) → length ps ≤ i → rank ps i ≡ length (filled ps)
-rank-whole [] i h = rank-none i
+rank-whole {X = X} [] i h = rank-none X i
 rank-whole (p ∷ ps) zero h = absurd (omega arith)
 rank-whole (p ∷ ps) (suc i) h =
     let less : length ps ≤ i = omega arith in
@@ -109,7 +109,7 @@ rank-next (q ∷ ps) (suc i) p h =
     rank-cons q ps (suc i) ∙ ap (add_here q.1) (rank-next ps i p h) ∙ here-swap q.1 p.1 (rank ps i) ∙ ap (add_here p.1) (sym (rank-cons q ps i))
 
 pub rank-rises : {X : Type 0} (ps : Places X) (i j : ℕ) → i ≤ j → rank ps i ≤ rank ps j
-rank-rises [] i j h = let a = rank-none {X = _} i in let b = rank-none {X = _} j in omega arith
+rank-rises {X = X} [] i j h = let a = rank-none X i in let b = rank-none X j in omega arith
 rank-rises (p ∷ ps) zero j h = omega arith
 rank-rises (p ∷ ps) (suc i) zero h = absurd (omega arith)
 rank-rises (p ∷ ps) (suc i) (suc j) h =
@@ -120,7 +120,7 @@ rank-rises (p ∷ ps) (suc i) (suc j) h =
     omega arith
 
 pub rank-low : {X : Type 0} (ps : Places X) (i : ℕ) → rank ps i ≤ i
-rank-low [] i = let a = rank-none {X = _} i in omega arith
+rank-low {X = X} [] i = let a = rank-none X i in omega arith
 rank-low (p ∷ ps) zero = omega arith
 rank-low (p ∷ ps) (suc i) =
     let a = rank-cons p ps i in
@@ -130,11 +130,12 @@ rank-low (p ∷ ps) (suc i) =
 
 -- so many places hold at most so many items
 pub rank-span : {X : Type 0} (ps : Places X) (i k : ℕ) → rank ps (i + k) ≤ rank ps i + k
-rank-span [] i k = let a = rank-none {X = _} (i + k) in omega arith
-rank-span (p ∷ ps) zero k = let low = rank-low (p ∷ ps) k in subst (λ (n : ℕ). rank (p ∷ ps) n ≤ k) (sym (zero-sum k)) low
-  where
-    zero-sum : (k : ℕ) → 0 + k ≡ k
-    zero-sum k = omega arith
+rank-span {X = X} [] i k = let a = rank-none X (i + k) in omega arith
+rank-span (p ∷ ps) zero k =
+    let low = rank-low (p ∷ ps) k in
+    let sum : 0 + k ≡ k = omega arith in
+    let same : rank (p ∷ ps) (0 + k) ≡ rank (p ∷ ps) k = ap (λ (n : ℕ). rank (p ∷ ps) n) sum in
+    omega arith
 rank-span (p ∷ ps) (suc i) k =
     let next : suc i + k ≡ suc (i + k) = omega arith in
     let rest = here-more p.1 (rank ps (i + k)) (rank ps i + k) (rank-span ps i k) in
@@ -185,7 +186,6 @@ filled-in (p ∷ ps) t x i =
       | inl both ↦ inl (pair-is p t x both.0 both.1)
       | inr later ↦ inr (filled-in ps t x later)
     ]
-
 
 -- ---- the order of tickets
 pub rise-in : {X : Type 0} (low : ℕ) (ps : Places X) (t : ℕ) (o : Option X) → RiseFrom low ps → In (t, o) ps → low ≤ t
@@ -322,7 +322,7 @@ rank-pushed (q ∷ ps) p (suc j) h =
 
 pub rank-past : {X : Type 0} (ps : Places X) (p : ℕ × Option X) (j : ℕ) → length ps < j → rank (ps ++ p ∷ []) j ≡ add_here p.1 (length (filled ps))
 rank-past [] p zero h = absurd (omega arith)
-rank-past [] p (suc j) h = rank-cons p [] j ∙ ap (add_here p.1) (rank-none j)
+rank-past {X = X} [] p (suc j) h = rank-cons p [] j ∙ ap (add_here p.1) (rank-none X j)
 rank-past (q ∷ ps) p zero h = absurd (omega arith)
 rank-past (q ∷ ps) p (suc j) h =
     let less : length ps < j = omega arith in
@@ -364,3 +364,13 @@ last-cut [] i p last h = none-some p h
 last-cut (q ∷ []) zero p last h = ap (λ (z : ℕ × Option _). z ∷ []) (some-is q p h)
 last-cut (q ∷ (r ∷ ps)) zero p last h = absurd (omega arith)
 last-cut (q ∷ ps) (suc i) p last h = let less : suc i ≡ length ps = omega arith in ap (λ k. q ∷ k) (last-cut ps i p less h)
+
+pub value-is : {X : Type 0} (ps : Places X) (i t : ℕ) (x : X) (o : Option X) → slice_get ps i ≡ Some (t, Some x) → slice_get (values_of ps) i ≡ Some o → o ≡ Some x
+value-is ps i t x o at h =
+    let found = value-at ps i o h in
+    ap (λ (q : ℕ × Option _). q.1) (some-is (found.0, o) (t, Some x) (sym found.1 ∙ at))
+
+-- what holds where a call has succeeded
+pub on-ok : {A E : Type 0} (r : Result A E) (a : A) (P : Type 0) → r ≡ Ok a → OnOk r P → P
+on-ok (Ok x) a P is h = h
+on-ok (Err e) a P is h = cc

@@ -16,8 +16,8 @@ overflow_add-sum g c =
     let told = c.requires.counted.blocks c.loop-at.at (get_or c.args.counts.now c.loop-at.at 0) (slice_get-get_or c.args.counts.now c.loop-at.at 0 less) in
     let most = rank-within c.args.slots.now.entries (64 * c.loop-at.at + 64) in
     let short = filled-short c.args.slots.now.entries in
-    let len = c.len-_len.ensures.len in
-    let small = c.len-_len.ensures.small in
+    let len = c.len-len.ensures.len in
+    let small = c.len-len.ensures.small in
     omega arith
 
 pub loop-at-preserved : goal.loop-at-preserved

@@ -9,18 +9,18 @@ loop-place-init g c = omega arith
 pub overflow_add-sum : goal.overflow_add-sum
 overflow_add-sum g c =
     let sum = c.loop-place.invariant in
-    let next = c.items_at.ensures.next in
+    let next = c.items_at-sum.ensures.next in
     let low = rank-low c.args.slots.now.entries (c.loop-place.place + 1) in
     let test = c.loop-place-test.true in
     let within = c.requires.within in
-    let len = c.len-_len.ensures.len in
-    let small = c.len-_len.ensures.small in
+    let len = c.len-len.ensures.len in
+    let small = c.len-len.ensures.small in
     omega arith
 
 pub loop-place-preserved : goal.loop-place-preserved
 loop-place-preserved g c =
     let sum = c.loop-place.invariant in
-    let next = c.items_at.ensures.next in
+    let next = c.items_at-sum.ensures.next in
     omega arith
 
 pub returns : goal.returns

@@ -19,8 +19,8 @@ overflow_add-number g c =
     let sum = c.loop-number.invariant in
     let within = c.requires.within in
     let place = place-left c.args.slots.now.entries (64 * c.loop-number.number) (omega arith) in
-    let small = c.len-_len.ensures.small in
-    let len = c.len-_len.ensures.len in
+    let small = c.len-len.ensures.small in
+    let len = c.len-len.ensures.len in
     omega arith
 
 pub loop-number-smaller : goal.loop-number-smaller
