@@ -30,7 +30,7 @@ impl<'a> LiveEvents<'a> {
     /// The events at these places.
     pub(crate) fn of(places: Slice<'a, u64, Option<Kept>>) -> LiveEvents<'a>
         requires { length places < 2 ^ 64 }
-        ensures events { result ≡ events_kept (filled places) }
+        ensures events { result ≡ events_kept (filled places.entry) }
         ensures fits { length result < 2 ^ 64 }
     {
         LiveEvents { places }

@@ -2,19 +2,17 @@
 ghost use Rattle.std.specs.Prelude.{◌≡◌, ◌<◌, ◌+◌, ◌-◌, ◌^◌, ◌++◌, ◌∷◌, [], ℕ, length, drop, Some, None, slice_get, MatchOption, MatchResult, OnOk};
 ghost use Rattle.syntax.specs.Lists.{In};
 ghost use Rattle.slots.specs.Places.{filled, rank, RiseFrom, Counted, EndsFilled, IsOf};
+ghost use Rattle.std.specs.List.{remove};
 ghost use Rattle.runs.specs.InOrder.{InOrder};
 ghost use Rattle.runs.specs.Live.{LiveAt, NoneAt, IsLive, Rising};
 ghost use Rattle.runs.specs.declared.event.Event.{Event};
 ghost use Rattle.dependence.specs.declared.links.Links.{Links};
 ghost use Rattle.dependence.specs.internal.Listed.{events_kept, SameLive, LinksOf, TakenOut};
 ghost use Rattle.dependence.specs.internal.Tables.{IsRising, StandsAt, FollowersChanged, Removed};
-ghost use Rattle.dependence.specs.internal.Unmarked.{unmarked};
-ghost use Rattle.dependence.specs.internal.Marking.{UnmarkedTo};
 
 use crate::kept::Kept;
 use crate::links::{Followers, Links, remove};
 use crate::live_events::LiveEvents;
-use crate::marks::unmarked_below;
 use runs::Event;
 use slots::{Slots, close_up, cut_end, find, index_at, make_room, place_at, push, take_at};
 use smallvec::SmallVec;
@@ -195,6 +193,8 @@ impl LiveList {
             leads,
         };
         let kept = Kept { event, links };
+        // The length is what says that the count fits.
+        let _len = self.slots.len();
         push(&mut self.slots, self.counts.as_mut_slice(), ticket, kept);
         self.count += 1;
     }
@@ -258,18 +258,15 @@ impl LiveList {
         (index, kept)
     }
 
-    /// Keeps the events beside which no mark stands, with their links.
-    pub(crate) fn keep_unmarked(&mut self, marks: &[bool])
-        requires { length marks.now ≡ length self.old.live }
-        ensures live { self.new.live ≡ unmarked marks.now self.old.live }
-        ensures links { self.new.links ≡ unmarked marks.now self.old.links }
+    /// Takes the event at an index out with its links.
+    pub(crate) fn take_at(&mut self, index: usize)
+        requires { index < length self.old.live }
+        ensures live { self.new.live ≡ remove self.old.live index }
+        ensures links { self.new.links ≡ remove self.old.links index }
     {
-        let from = unmarked_below(marks);
-        if from >= self.count {
-            return;
-        }
-        let start = place_at(&self.slots, self.counts.as_slice(), self.count, from);
-        self.count -= empty_marked(&mut self.slots, &mut self.counts, marks, start, from);
+        let place = place_at(&self.slots, self.counts.as_slice(), self.count, index);
+        take_at(&mut self.slots, self.counts.as_mut_slice(), place);
+        self.count -= 1;
         settle(&mut self.slots, &mut self.counts, self.count);
     }
 }
@@ -311,36 +308,4 @@ fn settle(slots: &mut Slots<Kept>, counts: &mut Vec<u8>, count: usize)
     if count < slots.len() / 2 {
         close_up(slots, counts.as_mut_slice());
     }
-}
-
-/// Takes the marked events out from the place `start` on, at which the one at the index `from` stands; how many.
-fn empty_marked(
-    slots: &mut Slots<Kept>,
-    counts: &mut Vec<u8>,
-    marks: &[bool],
-    start: usize,
-    from: usize,
-) -> usize
-    requires rising { RiseFrom 0 slots.old.entries }
-    requires counted { Counted slots.old.entries counts.old.items }
-    requires size { length marks.now ≡ length (filled slots.old.entries) }
-    requires start { rank slots.old.entries start ≡ from }
-    requires none { UnmarkedTo marks.now from }
-    ensures rising { RiseFrom 0 slots.new.entries }
-    ensures counted { Counted slots.new.entries counts.new.items }
-    ensures filled { filled slots.new.entries ≡ unmarked marks.now (filled slots.old.entries) }
-    ensures count { length (filled slots.new.entries) + result ≡ length (filled slots.old.entries) }
-{
-    let mut index = from;
-    let mut taken = 0;
-    for place in start..slots.len() {
-        if slots[place].is_some() {
-            if marks[index] {
-                take_at(slots, counts.as_mut_slice(), place);
-                taken += 1;
-            }
-            index += 1;
-        }
-    }
-    taken
 }

@@ -38,7 +38,7 @@ pub(crate) fn take_marked(
 {
     remove_marked(list, marks.as_slice(), tables);
     unlink_marked(alloc, list, marks.as_slice());
-    list.keep_unmarked(marks.as_slice());
+    take_each(list, marks.as_slice());
     keep_no_marks(marks, list.len());
 }
 
@@ -65,6 +65,23 @@ fn remove_marked(list: &LiveList, marks: &[bool], tables: &mut Tables)
         index -= 1;
         if marks[index] {
             tables.remove(list.ticket_at(index), list.event_at(index));
+        }
+    }
+}
+
+/// Takes the marked events out of the list, the last first.
+fn take_each(list: &mut LiveList, marks: &[bool])
+    requires live { length marks.now ≡ length list.old.live }
+    requires links { length marks.now ≡ length list.old.links }
+    ensures live { list.new.live ≡ unmarked marks.now list.old.live }
+    ensures links { list.new.links ≡ unmarked marks.now list.old.links }
+{
+    let first = unmarked_below(marks);
+    let mut index = marks.len();
+    while index > first {
+        index -= 1;
+        if marks[index] {
+            list.take_at(index);
         }
     }
 }

@@ -35,10 +35,10 @@ listed ps spare blocks = record {
 }
 
 -- what holds of the places at every moment
-pub record IsListed (ps : Places Kept) (counts : List ℕ) (count : ℕ) : Type 0 where
+pub record IsListed (ps : Places Kept) (counts : List ℕ) (n : ℕ) : Type 0 where
   pub rising : RiseFrom 0 ps
   pub counted : Counted ps counts
-  pub count : count ≡ length (filled ps)
+  pub count : n ≡ length (filled ps)
   pub last : EndsFilled ps
 
 -- nothing but links has changed
