@@ -36,7 +36,7 @@ fn count_from(list: &LiveList, ticket: u64, first: u64) -> usize
 fn count_among(event: &Event, later: LiveEvents<'_>) -> usize
     requires rising { IsRising later }
     requires fits { length later < 2 ^ 64 }
-    ensures { CountsAmong event.now later result }
+    ensures { CountsAmong event.now later.entry result }
 {
     let mut count = 0;
     for (_, other) in later {

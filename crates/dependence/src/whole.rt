@@ -1,5 +1,5 @@
 // The tables as one: what is asked of them, an event more, an event less.
-ghost use Rattle.std.specs.Prelude.{◌≡◌, ◌<◌, ◌++◌, ◌∷◌, [], ℕ, vec_len, MatchOption, IfErr, OnOk, OnErr};
+ghost use Rattle.std.specs.Prelude.{◌≡◌, ◌<◌, ◌++◌, ◌∷◌, [], ℕ, vec_len, MatchOption, IfOk, IfErr, OnOk, OnErr};
 ghost use Rattle.std.specs.Vec.{vec_capacity};
 ghost use Rattle.runs.specs.Dependence.{Without};
 ghost use Rattle.runs.specs.Live.{Rising, LiveAt, NoDependent, FirstDependent, WithoutTickets, IsLive, LastWriter, NoWriter};

@@ -1,4 +1,4 @@
-use Rattle.std.proofs.Common.{◌≤◌, ◌<◌, ℕ, length, take, refl, sym, ap, subst, arith}
+use Rattle.std.proofs.Common.{◌≤◌, ◌<◌, ℕ, length, take, refl, sym, ap, subst, arith, ◌+◌}
 use Rattle.std.proofs.lemmas.List.{length_push}
 use Rattle.runs.specs.Live.{Live}
 use Rattle.dependence.specs.internal.Tables.{CountsAmong}

@@ -1,4 +1,4 @@
-use Rattle.std.proofs.Common.{◌≡◌, ◌∙◌, ◌++◌, ◌∷◌, [], ℕ, ◌<◌, List, take, refl, sym, subst}
+use Rattle.std.proofs.Common.{◌≡◌, ◌∙◌, ◌++◌, ◌∷◌, [], ℕ, ◌<◌, List, take, refl, sym, subst, get_or}
 use Rattle.syntax.specs.Lists.{In}
 use Rattle.runs.specs.Live.{Live, NoneAt, IsLive}
 use Rattle.dependence.specs.internal.Tables.{IsRising, PartLinked, FollowersChanged}
@@ -12,13 +12,13 @@ loop-done-init c = record { same = same-self c.args.list.now; linked = c.require
 
 pub add_follower-requires : goal.add_follower-requires
 add_follower-requires c =
-    subst (λ (k : Live). IsLive k _) (sym c.loop-done.invariant.same.live) (c.requires.live _ (in-read c.args.leads.now c.loop-done.done c.loop-done-test.true))
+    subst (λ (k : Live). IsLive k (get_or c.args.leads.now c.loop-done.done 0)) (sym c.loop-done.invariant.same.live) (c.requires.live _ (in-read c.args.leads.now c.loop-done.done c.loop-done-test.true))
 
 pub unlink_all-requires : goal.unlink_all-requires
 unlink_all-requires c =
     let l : Live = c.args.list.now.live in
     let live : c.add_follower.new.self.live ≡ l = c.in-Err.ensures.same.live ∙ c.loop-done.invariant.same.live in
-    let changed = subst (λ (k : Live). FollowersChanged k _ (λ (b : List ℕ) (a : List ℕ). a ≡ b) c.loop-done.list.links c.add_follower.new.self.links) c.loop-done.invariant.same.live c.in-Err.ensures.changed in
+    let changed = subst (λ (k : Live). FollowersChanged k (get_or c.args.leads.now c.loop-done.done 0) (λ (b : List ℕ) (a : List ℕ). a ≡ b) c.loop-done.list.links c.add_follower.new.self.links) c.loop-done.invariant.same.live c.in-Err.ensures.changed in
     record {
       rising = subst (λ (k : Live). IsRising k) (sym live) (c.args.ticket, c.requires.rising);
       absent = subst (λ (k : Live). NoneAt k c.args.ticket) (sym live) (next-absent l c.args.ticket c.requires.rising);
@@ -41,7 +41,7 @@ returns-in-Err c =
 pub loop-done-preserved : goal.loop-done-preserved
 loop-done-preserved c =
     let changed =
-    subst (λ (k : Live). FollowersChanged k _ (λ (b : List ℕ) (a : List ℕ). a ≡ b ++ c.args.ticket ∷ []) c.loop-done.list.links c.add_follower.new.self.links)
+    subst (λ (k : Live). FollowersChanged k (get_or c.args.leads.now c.loop-done.done 0) (λ (b : List ℕ) (a : List ℕ). a ≡ b ++ c.args.ticket ∷ []) c.loop-done.list.links c.add_follower.new.self.links)
     c.loop-done.invariant.same.live c.in_default.ensures.changed in
     record {
       same = same-then _ _ _ c.loop-done.invariant.same c.in_default.ensures.same;

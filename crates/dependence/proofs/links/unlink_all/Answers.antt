@@ -1,4 +1,4 @@
-use Rattle.std.proofs.Common.{◌≡◌, ℕ, List, drop, refl, sym, subst}
+use Rattle.std.proofs.Common.{◌≡◌, ℕ, List, drop, refl, sym, subst, get_or}
 use Rattle.syntax.specs.Lists.{In}
 use Rattle.runs.specs.Live.{Live, IsLive}
 use Rattle.dependence.specs.internal.Tables.{PartLinked, FollowersChanged, Removed}
@@ -12,14 +12,14 @@ loop-lead-init c = record { same = same-self c.args.list.now; linked = c.require
 
 pub remove_follower-requires : goal.remove_follower-requires
 remove_follower-requires c = record {
-  live = subst (λ (k : Live). IsLive k _) (sym c.loop-lead.invariant.same.live) (c.requires.live _ (in-read c.args.leads.now c.loop-lead.lead-index c.loop-lead-test.true));
+  live = subst (λ (k : Live). IsLive k (get_or c.args.leads.now c.loop-lead.lead-index 0)) (sym c.loop-lead.invariant.same.live) (c.requires.live _ (in-read c.args.leads.now c.loop-lead.lead-index c.loop-lead-test.true));
   ordered = λ m of.
       lists-ascend c.args.list.now.live c.args.ticket (λ (t : ℕ). In t (drop c.loop-lead.lead-index c.args.leads.now)) c.loop-lead.list.links c.loop-lead.invariant.linked of.0 m of.2;
 }
 
 pub loop-lead-preserved : goal.loop-lead-preserved
 loop-lead-preserved c =
-    let changed = subst (λ (k : Live). FollowersChanged k _ (Removed c.args.ticket) c.loop-lead.list.links c.remove_follower.new.self.links) c.loop-lead.invariant.same.live
+    let changed = subst (λ (k : Live). FollowersChanged k (get_or c.args.leads.now c.loop-lead.lead-index 0) (Removed c.args.ticket) c.loop-lead.list.links c.remove_follower.new.self.links) c.loop-lead.invariant.same.live
     c.remove_follower.ensures.changed in
     record {
       same = same-then _ _ _ c.loop-lead.invariant.same c.remove_follower.ensures.same;

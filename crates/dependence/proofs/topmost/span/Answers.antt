@@ -4,11 +4,11 @@ use Rattle.dependence.proofs.public.ListPlaces.{in-read}
 use Rattle.dependence.proofs.Sweeps.{span-of}
 use Rattle.dependence.proofs.topmost.span.Goals as goal
 
-pub index_of_live-low-requires-clause-live : goal.index_of_live-low-requires-clause-live
-index_of_live-low-requires-clause-live c = c.requires.live _ (in-read c.args.tickets.now 0 c.requires.some)
+pub index_of_live-low-requires : goal.index_of_live-low-requires
+index_of_live-low-requires c = c.requires.live _ (in-read c.args.tickets.now 0 c.requires.some)
 
-pub index_of_live-last-requires-clause-live : goal.index_of_live-last-requires-clause-live
-index_of_live-last-requires-clause-live c = c.requires.live _ (in-read c.args.tickets.now (length c.args.tickets.now - 1) (omega (arith, c.requires.some)))
+pub index_of_live-last-requires : goal.index_of_live-last-requires
+index_of_live-last-requires c = c.requires.live _ (in-read c.args.tickets.now (length c.args.tickets.now - 1) (omega (arith, c.requires.some)))
 
 pub returns : goal.returns
 returns c =
