@@ -8,7 +8,7 @@ returns-then-marks-index c =
     let p : ℕ = c.loop-index.index - 1 in
     let less : p < length c.args.list.now.live = omega arith in
     let within : p < length c.args.marks.now = omega arith in
-    last-greatest c.args.list.now.live c.args.marks.now p _ c.requires.rising (slice_get-get_or c.args.list.now.live p c.index-live-index.result less)
+    last-greatest c.args.list.now.live c.args.marks.now p (c.ticket_at.result, c.ticket_at.ensures.0) c.requires.rising c.ticket_at.ensures.1
     (slice_get-get_or c.args.marks.now p _ within ∙ ap (λ (b : Bool). Some b) c.if-marks-index.true)
     (λ k up on. c.loop-index.invariant.none k (omega arith) on)
 

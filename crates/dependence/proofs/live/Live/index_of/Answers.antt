@@ -5,9 +5,6 @@ use Rattle.dependence.specs.Shown.{Shown}
 use Rattle.dependence.specs.internal.Tables.{IsRising, StandsAt}
 use Rattle.dependence.proofs.live.Live.index_of.Goals as goal
 
-pub index_of-requires : goal.index_of-requires
-index_of-requires c = subst (λ (k : Live). IsRising k) (sym refl) c.self.invariant.0.rising
-
 pub returns : goal.returns
 returns c =
     subst (λ (s : Shown). MatchOption c.index_of.result (NoneAt s.live c.args.ticket) (λ i. StandsAt s.live c.args.ticket i)) c.self.view_is
