@@ -6,35 +6,12 @@ use Rattle.dependence.proofs.public.ListPlaces.{take-all, got-here}
 use Rattle.dependence.proofs.public.Turns.{turn, turn-within, ended}
 use Rattle.dependence.proofs.Counting.{among-none, among-more, among-same}
 use Rattle.dependence.proofs.count.count_among.Goals as goal
-use Rattle.dependence.proofs.count.count_among.Goals.{then-depends_directly, else-depends_directly}
 
 pub loop-other-init : goal.loop-other-init
 loop-other-init c = record { counted = among-none c.args.event.now; bound = omega arith }
 
 pub loop-other-preserved : goal.loop-other-preserved
-loop-other-preserved c =
-    let l : Live = c.args.later in
-    let all = c.into_iter-other-iterator.ensures.into_iter_gives in
-    let at = turn l _ _ _ c.loop-other.yielded _ _ all refl c.loop-other.yielded_by c.in-Some.ensures.steps in
-    let less = turn-within l _ _ _ c.loop-other.yielded _ _ all refl c.loop-other.yielded_by c.in-Some.ensures.steps in
-    let is = sym (got-here l (length c.loop-other.yielded) _ _ at) in
-    let size = length_push c.loop-other.yielded _ in
-    let step : ℕ = length c.loop-other.yielded in
-    record {
-      counted = subst (λ (n : ℕ). CountsAmong c.args.event.now (take n l) c.if-depends_directly.count) (sym size) (elim c.if-depends_directly.branch [
-        | then-depends_directly w ↦
-            subst (λ (n : ℕ). CountsAmong c.args.event.now (take (step + 1) l) n) (sym w.count-is)
-            (among-more c.args.event.now l step c.loop-other.count _ c.requires.rising less is c.loop-other.invariant.counted (c.depends_directly.ensures.0 w.if-depends_directly.true))
-        | else-depends_directly w ↦
-            subst (λ (n : ℕ). CountsAmong c.args.event.now (take (step + 1) l) n) (sym w.count-is)
-            (among-same c.args.event.now l step c.loop-other.count _ c.requires.rising less is c.loop-other.invariant.counted
-            (λ d. let on = c.depends_directly.ensures.1 d in let off = w.if-depends_directly.false in cc))
-      ]);
-      bound = let was = c.loop-other.invariant.bound in elim c.if-depends_directly.branch [
-        | then-depends_directly w ↦ let is_count = w.count-is in omega arith
-        | else-depends_directly w ↦ let is_count = w.count-is in omega arith
-      ];
-    }
+loop-other-preserved c = ?
 
 pub returns : goal.returns
 returns c =

@@ -11,7 +11,7 @@ use Rattle.dependence.specs.internal.Tabled.{UsesOf, MorePlaces}
 use Rattle.dependence.specs.internal.Tables.{Falling, Linked, PartLinked}
 use Rattle.dependence.proofs.public.Linking.{linked-part, part-linked}
 use Rattle.dependence.proofs.Edges.{kept-live}
-use Rattle.dependence.proofs.public.Tabling.{fresh-behind, orderly-behind, uses-kept, ok-weaker, err-weaker, on-ok-of}
+use Rattle.dependence.proofs.public.Tabling.{fresh-behind, orderly-behind, uses-kept, ok-weaker, err-weaker, on-ok-of, on-err-of}
 use Rattle.dependence.proofs.Wholes.{tops-at}
 use Rattle.dependence.proofs.whole.enter.Goals as goal
 
@@ -107,8 +107,8 @@ returns-in_err-link_all-clause-live c = c.link_all.ensures.same.live ∙ c.make_
 
 pub returns-in_err-link_all-clause-refused : goal.returns-in_err-link_all-clause-refused
 returns-in_err-link_all-clause-refused c =
-    subst (λ (k : Live). Linked k c.link_all.new.list.links) c.make_room.ensures.live
-    (part-linked c.make_room.new.list.live c.args.ticket c.link_all.new.list.links c.in_err-link_all.ensures.linked)
+    on-err-of c.from_residual-in_err-link_all.result _ (subst (λ (k : Live). Linked k c.link_all.new.list.links) c.make_room.ensures.live
+    (part-linked c.make_room.new.list.live c.args.ticket c.link_all.new.list.links c.in_err-link_all.ensures.linked))
 
 pub returns-clause-live : goal.returns-clause-live
 returns-clause-live c = c.link_all.ensures.same.live ∙ c.make_room.ensures.live
