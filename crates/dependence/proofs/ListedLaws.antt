@@ -1,5 +1,5 @@
 -- The live events of what is kept at places: which stands where, and what an edit of one place leaves.
-use Rattle.std.proofs.Common.{◌≡◌, inl, inr, ℕ, zero, suc, ◌+◌, ◌-◌, ◌*◌, ◌<◌, ◌≤◌, List, [], ◌∷◌, ◌++◌, length, map, drop, take, Option, Some, None, refl, sym, ◌∙◌, ap, subst, arith, length-append}
+use Rattle.std.proofs.Common.{◌≡◌, inl, inr, ℕ, zero, suc, ◌+◌, ◌-◌, ◌*◌, ◌<◌, ◌≤◌, List, [], ◌∷◌, ◌++◌, length, map, drop, take, Option, Some, None, refl, sym, ◌∙◌, ap, subst, arith, length-append, Bool, true, false}
 use Rattle.std.specs.Prelude.{slice_get, slice_set, nat_lt, if◌then◌else◌}
 use Rattle.std.specs.List.{remove}
 use Rattle.indexmap.specs.IndexMap.{set_value_at}
@@ -13,6 +13,9 @@ use Rattle.slots.proofs.public.CountLaws.{counted-changed}
 use Rattle.std.proofs.lemmas.List.{map-append, length-map}
 use Rattle.runs.specs.Live.{Live, Rising, LiveAt, NoneAt, IsLive}
 use Rattle.runs.specs.declared.event.Event.{Event}
+use Rattle.std.proofs.lemmas.Bool.{cases_lt}
+use Rattle.dependence.specs.Shown.{tickets_marked}
+use Rattle.dependence.proofs.public.ListPlaces.{at-within, drop-next, drop-all}
 use Rattle.dependence.specs.declared.kept.Kept.{Kept}
 use Rattle.dependence.specs.declared.links.Links.{Links}
 use Rattle.dependence.specs.internal.Listed.{Listed, IsListed, events_kept, links_kept, room_in, LinksOf, SameLive}
@@ -266,3 +269,31 @@ same-self s = record { live = refl; room = refl }
 
 pub same-then : (a b c : Listed) → SameLive a b → SameLive b c → SameLive a c
 same-then a b c one two = record { live = two.live ∙ one.live; room = two.room ∙ one.room }
+
+-- ---- the marked tickets from an index on
+pub tickets-none : (l : Live) (marks : List Bool) → marks ≡ [] → tickets_marked l marks ≡ []
+tickets-none [] marks is = refl
+tickets-none (x ∷ l) marks is = ap (tickets_marked (x ∷ l)) is
+
+pub tickets-on : (l : Live) (marks : List Bool) (i : ℕ) (x : ℕ × Event) → slice_get l i ≡ Some x → slice_get marks i ≡ Some true →
+    tickets_marked (drop i l) (drop i marks) ≡ x.0 ∷ tickets_marked (drop (i + 1) l) (drop (i + 1) marks)
+tickets-on l marks i x at on =
+    let more : suc i ≡ i + 1 = omega arith in
+    ap (λ (k : Live). tickets_marked k (drop i marks)) (drop-next l i x at) ∙ ap (tickets_marked (x ∷ drop (suc i) l)) (drop-next marks i true on)
+    ∙ ap (λ (n : ℕ). x.0 ∷ tickets_marked (drop n l) (drop n marks)) more
+
+pub tickets-off : (l : Live) (marks : List Bool) (i : ℕ) → slice_get marks i ≡ Some false →
+    tickets_marked (drop i l) (drop i marks) ≡ tickets_marked (drop (i + 1) l) (drop (i + 1) marks)
+tickets-off l marks i off =
+    let more : suc i ≡ i + 1 = omega arith in
+    let next = drop-next marks i false off in
+    elim (cases_lt i (length l)) [
+      | inl less ↦
+          let here = at-within l i less in
+          ap (λ (k : Live). tickets_marked k (drop i marks)) (drop-next l i here.0 here.1) ∙ ap (tickets_marked (here.0 ∷ drop (suc i) l)) next
+          ∙ ap (λ (n : ℕ). tickets_marked (drop n l) (drop n marks)) more
+      | inr past ↦
+          let one : tickets_marked (drop i l) (drop i marks) ≡ [] = ap (λ (k : Live). tickets_marked k (drop i marks)) (drop-all l i past) in
+          let two : tickets_marked (drop (i + 1) l) (drop (i + 1) marks) ≡ [] = ap (λ (k : Live). tickets_marked k (drop (i + 1) marks)) (drop-all l (i + 1) (omega arith)) in
+          one ∙ sym two
+    ]

@@ -44,6 +44,8 @@ pub(crate) fn mark_dependents(list: &LiveList, base: usize, marks: &mut [bool], 
     ensures marked { ConsequencesList list.now.live ticket (tickets_marked (drop base list.now.live) marks.new) }
     ensures lower { NoneLess (drop base list.now.live) marks.new ticket }
 {
+    // The length is what says that indexes fit.
+    let _len = list.len();
     let first = list.index_of_live(ticket) - base;
     marks[first] = true;
     for index in first..marks.len() {
@@ -181,6 +183,8 @@ pub(crate) fn copy_each(
     requires { base + length marks.now ≡ length list.now.live }
     ensures { IfOk result (λ tickets. tickets.items ≡ tickets_marked (drop base list.now.live) marks.now) }
 {
+    // The length is what says that indexes fit.
+    let _len = list.len();
     let mut tickets = Vec::new(alloc);
     for index in 0..marks.len() {
         if marks[index] {

@@ -56,6 +56,8 @@ pub(crate) fn span(list: &LiveList, tickets: &[u64]) -> (usize, usize)
     ensures size { result.1 ≤ length list.now.live }
     ensures stand { StandWithin list.now.live tickets.now result.0 result.1 }
 {
+    // The length is what says that the index behind the last fits.
+    let _len = list.len();
     let low = list.index_of_live(tickets[0]);
     let last = list.index_of_live(tickets[tickets.len() - 1]);
     (low, last + 1)

@@ -43,6 +43,14 @@ loop-index-init c =
     let r = rising-drop l c.args.base c.requires.rising in
     marked-first 0 r.0 (drop c.args.base l) l c.args.marks.now c.args.ticket (c.index_of_live.result - c.args.base) at.1.0 r.1 size at.1.1 c.requires.none
 
+pub overflow_add-base : goal.overflow_add-base
+overflow_add-base c =
+    let all : c.args.base + length c.args.marks.now ≡ length c.args.list.now.live = c.requires.size in
+    let test = c.loop-index-test.true in
+    let len = c.len-len.ensures.events in
+    let fits = c.len-len.type_inv in
+    omega (arith, length-set {A = Bool})
+
 pub links_at-requires : goal.links_at-requires
 links_at-requires c =
     let all : c.args.base + length c.args.marks.now ≡ length c.args.list.now.live = c.requires.size in

@@ -16,6 +16,14 @@ overflow_sub-high-in-loop-ticket c =
     c.ticket_at-last.ensures.1 at.1 c.if-ticket-last.false in
     omega arith
 
+pub overflow_sub-high-in-loop-ticket-2 : goal.overflow_sub-high-in-loop-ticket-2
+overflow_sub-high-in-loop-ticket-2 c =
+    let at = c.index_of_live-index.ensures in
+    let below : c.index_of_live-index.result < c.args.high =
+    stands-below 0 c.requires.rising.0 c.args.list.now.live c.args.high c.index_of_live-index.result _ at.0 _ c.requires.rising.1 c.requires.some
+    c.ticket_at-last.ensures.1 at.1 c.if-ticket-last.false in
+    omega arith
+
 pub bounds-flags-high : goal.bounds-flags-high
 bounds-flags-high c =
     let at = c.index_of_live-index.ensures in

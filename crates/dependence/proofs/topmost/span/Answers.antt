@@ -10,6 +10,14 @@ index_of_live-low-requires c = c.requires.live _ (in-read c.args.tickets.now 0 c
 pub index_of_live-last-requires : goal.index_of_live-last-requires
 index_of_live-last-requires c = c.requires.live _ (in-read c.args.tickets.now (length c.args.tickets.now - 1) (omega (arith, c.requires.some)))
 
+pub overflow_add-result : goal.overflow_add-result
+overflow_add-result c =
+    let on = c.index_of_live-last.ensures in
+    let within : c.index_of_live-last.result < length c.args.list.now.live = slice_get_within c.args.list.now.live c.index_of_live-last.result _ on.1 in
+    let len = c.len-len.ensures.events in
+    let fits = c.len-len.type_inv in
+    omega arith
+
 pub returns : goal.returns
 returns c =
     let at = c.index_of_live-low.ensures in
