@@ -185,7 +185,7 @@ ends-rest p ps h = λ place t up at. h (suc place) t (ap suc up) at
 pub places-below : (low high : ℕ) (ps : Places Kept) → RiseFrom low ps → EndsFilled ps → ((t : ℕ) (k : Kept) → In (t, k) (filled ps) → t < high) →
     (t : ℕ) (o : Option Kept) → In (t, o) ps → t < high
 places-below low high [] r ends below t o i = absurd i
-places-below low high (p ∷ []) r ends below t o i = one p.0 p.1 (λ u e. ends 0 u refl e) (λ k j. below p.0 k j) (elim i [ | inl is ↦ ap (λ (q : ℕ × _). q.0) is | inr none ↦ absurd none ])
+places-below low high (p ∷ []) r ends below t o i = one p.0 p.1 (λ u e. ends 0 u refl e) (λ k j. below p.0 k j) (elim i [ inl is ↦ ap (λ (q : ℕ × _). q.0) is | inr none ↦ absurd none ])
   where
     one : (u : ℕ) (b : Option Kept) → ((v : ℕ) → ◌≡◌ {A = Option (ℕ × Option Kept)} (Some (u, b)) (Some (v, None)) → ⊥) → ((k : Kept) → In (u, k) (put_before u b []) → u < high) → t ≡ u → t < high
     one u None ends_here below_here is = absurd (ends_here u refl)
@@ -211,7 +211,7 @@ live-kept ps t k i = into (filled ps) i
   where
     into : (ks : List (ℕ × Kept)) → In (t, k) ks → LiveAt (events_kept ks) t k.event
     into [] i = absurd i
-    into (x ∷ ks) i = elim i [ | inl is ↦ inl (ap (λ (z : ℕ × Kept). (z.0, z.1.event)) is) | inr later ↦ inr (into ks later) ]
+    into (x ∷ ks) i = elim i [ inl is ↦ inl (ap (λ (z : ℕ × Kept). (z.0, z.1.event)) is) | inr later ↦ inr (into ks later) ]
 
 ends-pushed : (ps : Places Kept) (t : ℕ) (k : Kept) → EndsFilled (ps ++ (t, Some k) ∷ [])
 ends-pushed [] t k = λ place u up at. first place u up at

@@ -76,4 +76,3 @@ returns-clause-changed c =
     let new : List Links = links_kept (filled (set_value_at c.self.inside.slots.entries place (Some m))) in
     subst (λ (s : Listed). FollowersChanged s.live c.args.lead (λ (b : List ℕ) (a : List ℕ). a ≡ b ++ c.args.ticket ∷ []) s.links new) c.self.view_is
     (changed-kept c.self.inside.slots.entries place c.args.lead k m (λ (b : List ℕ) (a : List ℕ). a ≡ b ++ c.args.ticket ∷ []) at c.in_ok-push-in-Some.ensures.ok refl)
-

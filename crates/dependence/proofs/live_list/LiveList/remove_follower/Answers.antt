@@ -54,4 +54,3 @@ returns-clause-changed c =
     let new : List Links = links_kept (filled (set_value_at c.self.inside.slots.entries place (Some m))) in
     subst (λ (s : Listed). FollowersChanged s.live c.args.lead (Removed c.args.ticket) s.links new) c.self.view_is
     (changed-kept c.self.inside.slots.entries place c.args.lead k m (Removed c.args.ticket) at c.remove.ensures refl)
-

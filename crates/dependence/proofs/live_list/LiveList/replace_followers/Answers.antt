@@ -45,4 +45,3 @@ returns-clause-changed c =
     let new : List Links = links_kept (filled (set_value_at c.self.inside.slots.entries place (Some m))) in
     subst (λ (s : Listed). FollowersChanged s.live c.args.lead (λ (b : List ℕ) (a : List ℕ). (b ≡ c.replace.result.items) × (a ≡ c.args.followers.items)) s.links new) c.self.view_is
     (changed-kept c.self.inside.slots.entries place c.args.lead k m (λ (b : List ℕ) (a : List ℕ). (b ≡ c.replace.result.items) × (a ≡ c.args.followers.items)) at (ap (λ f. f.items) (sym c.replace.ensures.value), ap (λ f. f.items) c.replace.ensures.after) refl)
-
