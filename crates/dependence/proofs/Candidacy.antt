@@ -120,13 +120,12 @@ leads-reader l f x w below last read =
     (read.ticket, (read.event, read.live, read.before), later last.event read.event same last.live read.live read.behind (inr (inr (inl (x, last.writes, inl read.reads)))))
 
 -- whether the live event at an index has a place before one of f
-pub one-before : (new : NewEvent) → IsNewEvent new → (t index : ℕ) (e : Event) (b : Bool) → slice_get new.live.now index ≡ Some (t, e) → IsTrue b ↔ SomeBefore e new.event.now →
-    IsTrue b ↔ IsBefore new.live.now new.event.now t
-one-before new h t index e b at told =
-    let here : LiveAt new.live.now t e = in-at new.live.now index (t, e) at in (
-      (λ on. (e, here, told.0 on)),
-      (λ k. told.1 (subst (λ (g : Event). SomeBefore g new.event.now) (rising-one 0 new.ticket new.live.now t k.0 e h.rising k.1 here) k.2)),
-    )
+pub one-before : (new : NewEvent) → IsNewEvent new → (t : ℕ) (e : Event) (b : Bool) → LiveAt new.list.now.live t e → IsTrue b ↔ SomeBefore e new.event.now →
+    IsTrue b ↔ IsBefore new.list.now.live new.event.now t
+one-before new h t e b here told = (
+  (λ on. (e, here, told.0 on)),
+  (λ k. told.1 (subst (λ (g : Event). SomeBefore g new.event.now) (rising-one 0 new.ticket new.list.now.live t k.0 e h.rising k.1 here) k.2)),
+)
 
 -- behind no tickets
 pub behind-none : FirstBehind [] 0
@@ -160,14 +159,14 @@ behind-next ts index old end more low full next near passed =
 
 -- from the ticket `end` on and below `below` no event that reads x has a place before one of f
 abbrev pub NoneBetween : NewEvent → ℕ → ℕ → ℕ → Type 0
-NoneBetween new x end below = (u : ℕ) (g : Event) → LiveAt new.live.now u g → In x g.read → end ≤ u → u < below → SomeBefore g new.event.now → ⊥
+NoneBetween new x end below = (u : ℕ) (g : Event) → LiveAt new.list.now.live u g → In x g.read → end ≤ u → u < below → SomeBefore g new.event.now → ⊥
 
 pub none-yet : (new : NewEvent) (x below : ℕ) → NoneBetween new x below below
 none-yet new x below u g i reads high low before = omega arith
 
 module _ (new : NewEvent) (h : IsNewEvent new) (x : ℕ) where
   abbrev pub l : Live
-  l = new.live.now
+  l = new.list.now.live
 
   below-new : (t : ℕ) (e : Event) → LiveAt l t e → t < new.ticket
   below-new t e i = (rising-in 0 new.ticket l t e h.rising i).1

@@ -8,6 +8,7 @@ mod Edges
 mod FromIndex
 mod Keeping
 mod LastWriters
+mod ListedLaws
 mod ShownStates
 mod Sweeps
 mod TakenMarked

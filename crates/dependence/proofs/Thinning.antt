@@ -13,7 +13,8 @@ use Rattle.runs.specs.declared.event.Event.{Event}
 use Rattle.runs.proofs.public.Lists.{every-in, every-of, in-parts}
 use Rattle.runs.proofs.public.ReadTests.{is-in, in-is}
 use Rattle.dependence.specs.declared.links.Links.{Links}
-use Rattle.dependence.specs.internal.Tables.{StandsAt, Linked}
+use Rattle.dependence.specs.internal.Tables.{StandsAt, Linked, IsRising, FollowersChanged}
+use Rattle.std.proofs.lemmas.List.{set-set}
 use Rattle.dependence.specs.internal.Unmarked.{Thinned, AllThinned, NotBehind, IsLoose}
 use Rattle.dependence.proofs.public.ListPlaces.{at-one, at-within, set-here, set-other, take-next, take-all}
 use Rattle.dependence.proofs.public.Linking.{one-index, linked-part, lists-ascend}
@@ -246,3 +247,38 @@ lead-live D l old new index linked h less m t is inside =
     let at = at-within l index less in
     let f = (linked.leads index at.0.0 at.0.1 n.0 at.1 n.1 t).0 (subst (λ (ts : List ℕ). In t ts) (h.leads index n.0 m n.1 is) inside) in
     (f.dependent.event, f.dependent.live)
+
+-- followers that were taken out of one place and put back there
+pub replaced-twice : (l : Live) (lead : ℕ) (old mid new : List Links) (held none thin : List ℕ) → IsRising l → length old ≡ length l →
+    FollowersChanged l lead (λ (b : List ℕ) (a : List ℕ). (b ≡ held) × (a ≡ none)) old mid → FollowersChanged l lead (λ (b : List ℕ) (a : List ℕ). a ≡ thin) mid new →
+    FollowersChanged l lead (λ (b : List ℕ) (a : List ℕ). (b ≡ held) × (a ≡ thin)) old new
+replaced-twice l lead old mid new held none thin r size one two =
+    let same : two.index ≡ one.index = one-index 0 r.0 l lead two.event one.event two.index one.index r.1 two.stands one.stands in
+    let inside : one.index < length old = slice_get_within old one.index one.before one.was in
+    let there : slice_get mid one.index ≡ Some one.after = ap (λ (ls : List Links). slice_get ls one.index) one.is ∙ set-here old one.index one.after inside in
+    let before : two.before ≡ one.after = at-one mid one.index two.before one.after (subst (λ (j : ℕ). slice_get mid j ≡ Some two.before) same two.was) there in
+    record {
+      index = one.index;
+      event = one.event;
+      before = one.before;
+      after = two.after;
+      stands = one.stands;
+      was = one.was;
+      is = two.is ∙ ap (λ (j : ℕ). slice_set mid j two.after) same ∙ ap (λ (ls : List Links). slice_set ls one.index two.after) one.is ∙ set-set old one.index one.after two.after;
+      followers = (one.followers.0, two.followers);
+      leads = two.leads ∙ ap (λ (m : Links). m.leads.items) before ∙ one.leads;
+    }
+
+-- what is thinned at the place of one event
+pub thinned-there : (D : ℕ → Type 0) (l : Live) (lead t : ℕ) (old new : List Links) (held thin : List ℕ) → IsRising l →
+    FollowersChanged l lead (λ (b : List ℕ) (a : List ℕ). (b ≡ held) × (a ≡ thin)) old new → Thinned D held thin → (In t thin → ⊥) →
+    AllThinned D old new × NotBehind l new t lead
+thinned-there D l lead t old new held thin r c thinned gone =
+    let inside : c.index < length old = slice_get_within old c.index c.before c.was in
+    let both : Thinned D c.before.followers.items c.after.followers.items =
+    subst (λ (ts : List ℕ). Thinned D ts c.after.followers.items) (sym c.followers.0) (subst (λ (ts : List ℕ). Thinned D held ts) (sym c.followers.1) thinned) in (
+      subst (λ (ls : List Links). AllThinned D old ls) (sym c.is) (one-thinned D old c.index c.before c.after c.was both c.leads),
+      subst (λ (ls : List Links). NotBehind l ls t lead) (sym c.is)
+          (out-now 0 r.0 l (slice_set old c.index c.after) c.index lead t c.after r.1 (c.event, c.stands) (set-here old c.index c.after inside)
+          (λ i. gone (subst (λ (ts : List ℕ). In t ts) c.followers.1 i))),
+    )

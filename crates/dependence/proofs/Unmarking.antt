@@ -1,5 +1,6 @@
 -- What is left of the live events, and of what stands beside them, without those that are marked.
 use Rattle.std.proofs.Common.{◌≡◌, inl, inr, ℕ, zero, suc, ◌<◌, ◌≤◌, List, [], ◌∷◌, Bool, true, false, length, take, get_or, Some, refl, sym, ◌∙◌, ap, subst, arith}
+use Rattle.std.specs.List.{remove}
 use Rattle.std.specs.Prelude.{slice_get}
 use Rattle.std.proofs.lemmas.Option.{slice_get_within, slice_get-get_or}
 use Rattle.syntax.specs.Lists.{In}
@@ -217,3 +218,18 @@ unmarked-here l marks index r size less off_here e h =
 
 pub past-marks : (l : Live) (marks : List Bool) (index : ℕ) → length marks ≡ length l → length marks ≤ index → NoneMarkedAt l (tickets_marked l marks) index
 past-marks l marks index size past e h = let inside : index < length l = slice_get_within l index (h.0, e) h.1 in omega arith
+
+-- one more index as a list: what stands there leaves where it is marked
+pub removed-at : {X : Type 0} (marks : List Bool) (xs : List X) (i : ℕ) → slice_get marks i ≡ Some true → i < length xs →
+    unmarked (marked_from i marks) xs ≡ remove (unmarked (marked_from (suc i) marks) xs) i
+removed-at [] xs i on h = none-some true on
+removed-at (m ∷ marks) [] i on h = absurd (omega arith)
+removed-at (true ∷ marks) (x ∷ xs) zero on h = refl
+removed-at (false ∷ marks) (x ∷ xs) zero on h = cc
+removed-at (m ∷ marks) (x ∷ xs) (suc i) on h = let less : i < length xs = omega arith in ap (λ ys. x ∷ ys) (removed-at marks xs i on less)
+
+pub long-still : {X : Type 0} (marks : List Bool) (xs : List X) (i : ℕ) → i < length xs → i < length (unmarked (marked_from (suc i) marks) xs)
+long-still [] xs i h = h
+long-still (m ∷ marks) [] i h = absurd (omega arith)
+long-still (m ∷ marks) (x ∷ xs) zero h = omega arith
+long-still (m ∷ marks) (x ∷ xs) (suc i) h = let less : i < length xs = omega arith in let rest = long-still marks xs i less in omega arith

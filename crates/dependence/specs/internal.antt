@@ -1,4 +1,5 @@
 pub mod Found
+pub mod Listed
 pub mod Marking
 pub mod Sweeping
 pub mod Tabled

@@ -6,8 +6,7 @@ ghost use Rattle.syntax.specs.Lists.{In};
 ghost use Rattle.runs.specs.Live.{IsLive, LastWriter};
 ghost use Rattle.dependence.specs.internal.Found.{AccessesFound, FirstBehind, IsBefore, IsDirect, IsReadBefore, ReaderSince, WritesOneRead, UsesWritten, IsNewEvent};
 
-use crate::indexes::index_of_live;
-use crate::live::LiveEvent;
+use crate::live_list::LiveList;
 use crate::tables::Tables;
 use runs::{Event, some_before};
 use std::alloc::{AllocError, Global};
@@ -15,7 +14,7 @@ use std::alloc::{AllocError, Global};
 /// A new event, of a ticket greater than the live ones, and the live events with their tables.
 #[derive(Clone, Copy)]
 pub(crate) struct NewEvent<'a> {
-    pub(crate) live: &'a [LiveEvent],
+    pub(crate) list: &'a LiveList,
     pub(crate) tables: &'a Tables,
     pub(crate) ticket: u64,
     pub(crate) event: &'a Event,
@@ -30,9 +29,9 @@ impl NewEvent<'_> {
     ) -> Result<(), AllocError>
         requires { IsNewEvent self.now }
         ensures { IfOk result (λ _.
-            AccessesFound self.now.live.now self.now.event.now
-            (λ t. WritesOneRead self.now.live.now self.now.event.now.read t
-            ⊎ UsesWritten self.now.live.now self.now.event.now t) found.old.items found.new.items) }
+            AccessesFound self.now.list.now.live self.now.event.now
+            (λ t. WritesOneRead self.now.list.now.live self.now.event.now.read t
+            ⊎ UsesWritten self.now.list.now.live self.now.event.now t) found.old.items found.new.items) }
     {
         self.add_by_reads(found)?;
         self.add_by_write(alloc, found)
@@ -42,7 +41,7 @@ impl NewEvent<'_> {
     fn add_by_reads(&self, found: &mut Vec<u64>) -> Result<(), AllocError>
         requires { IsNewEvent self.now }
         ensures { IfOk result (λ _.
-            AccessesFound self.now.live.now self.now.event.now (WritesOneRead self.now.live.now self.now.event.now.read)
+            AccessesFound self.now.list.now.live self.now.event.now (WritesOneRead self.now.list.now.live self.now.event.now.read)
             found.old.items found.new.items) }
     {
         for variable in self.event.read.as_slice() {
@@ -55,7 +54,7 @@ impl NewEvent<'_> {
     fn add_by_write(&self, alloc: Global, found: &mut Vec<u64>) -> Result<(), AllocError>
         requires { IsNewEvent self.now }
         ensures { IfOk result (λ _.
-            AccessesFound self.now.live.now self.now.event.now (UsesWritten self.now.live.now self.now.event.now)
+            AccessesFound self.now.list.now.live self.now.event.now (UsesWritten self.now.list.now.live self.now.event.now)
             found.old.items found.new.items) }
     {
         match self.event.written {
@@ -73,7 +72,7 @@ impl NewEvent<'_> {
         requires new { IsNewEvent self.now }
         requires uses { In variable self.now.event.now.read ⊎ (self.now.event.now.written ≡ Some variable) }
         ensures { IfOk result (λ _.
-            AccessesFound self.now.live.now self.now.event.now (LastWriter self.now.live.now variable) found.old.items
+            AccessesFound self.now.list.now.live self.now.event.now (LastWriter self.now.list.now.live variable) found.old.items
             found.new.items) }
     {
         match self.tables.writers.last(variable, self.ticket) {
@@ -91,7 +90,7 @@ impl NewEvent<'_> {
     /// one of the new event. It looks at the last one first, so in a loop no further back than the loop's own read.
     fn is_read_before(&self, variable: u32, writer: u64, below: u64) -> bool
         requires { IsNewEvent self.now }
-        ensures { IsTrue result ↔ IsReadBefore self.now.live.now self.now.event.now variable writer below }
+        ensures { IsTrue result ↔ IsReadBefore self.now.list.now.live self.now.event.now variable writer below }
     {
         let mut end = below;
         while let Some(reader) = self.tables.readers.last(variable, end) {
@@ -109,11 +108,10 @@ impl NewEvent<'_> {
     /// Whether the live event has a place before one of the new event.
     fn is_before(&self, ticket: u64) -> bool
         requires new { IsNewEvent self.now }
-        requires live { IsLive self.now.live.now ticket }
-        ensures { IsTrue result ↔ IsBefore self.now.live.now self.now.event.now ticket }
+        requires live { IsLive self.now.list.now.live ticket }
+        ensures { IsTrue result ↔ IsBefore self.now.list.now.live self.now.event.now ticket }
     {
-        let index = index_of_live(self.live, ticket);
-        some_before(self.live[index].1.get(), self.event)
+        some_before(self.list.event_of(ticket), self.event)
     }
 
     /// Adds those that read the variable since it was written last.
@@ -126,7 +124,7 @@ impl NewEvent<'_> {
         requires new { IsNewEvent self.now }
         requires writes { self.now.event.now.written ≡ Some variable }
         ensures { IfOk result (λ _.
-            AccessesFound self.now.live.now self.now.event.now (ReaderSince self.now.live.now variable) found.old.items
+            AccessesFound self.now.list.now.live self.now.event.now (ReaderSince self.now.list.now.live variable) found.old.items
             found.new.items) }
     {
         let from = self.last_write(variable);
@@ -141,7 +139,7 @@ impl NewEvent<'_> {
     fn last_write(&self, variable: u32) -> u64
         requires { IsNewEvent self.now }
         ensures below { result ≤ self.now.ticket }
-        ensures last { (t : ℕ) → (result ≤ t) ↔ ((w : ℕ) → LastWriter self.now.live.now variable w → w ≤ t) }
+        ensures last { (t : ℕ) → (result ≤ t) ↔ ((w : ℕ) → LastWriter self.now.list.now.live variable w → w ≤ t) }
     {
         match self.tables.writers.last(variable, self.ticket) {
             Some(writer) => writer,
@@ -152,9 +150,9 @@ impl NewEvent<'_> {
     /// Adds these live events, but for those that have a place before one of the new event.
     fn add_accesses(&self, tickets: &[u64], found: &mut Vec<u64>) -> Result<(), AllocError>
         requires new { IsNewEvent self.now }
-        requires direct { (t : ℕ) → In t tickets.now → IsDirect self.now.live.now self.now.event.now t }
+        requires direct { (t : ℕ) → In t tickets.now → IsDirect self.now.list.now.live self.now.event.now t }
         ensures { IfOk result (λ _.
-            AccessesFound self.now.live.now self.now.event.now
+            AccessesFound self.now.list.now.live self.now.event.now
             (λ t. In t tickets.now) found.old.items found.new.items) }
     {
         for ticket in tickets {
@@ -166,9 +164,9 @@ impl NewEvent<'_> {
     /// Adds the live event, unless it has a place before one of the new event.
     fn add_access(&self, ticket: u64, found: &mut Vec<u64>) -> Result<(), AllocError>
         requires new { IsNewEvent self.now }
-        requires direct { IsDirect self.now.live.now self.now.event.now ticket }
+        requires direct { IsDirect self.now.list.now.live self.now.event.now ticket }
         ensures { IfOk result (λ _.
-            AccessesFound self.now.live.now self.now.event.now (λ t. t ≡ ticket) found.old.items found.new.items) }
+            AccessesFound self.now.list.now.live self.now.event.now (λ t. t ≡ ticket) found.old.items found.new.items) }
     {
         let by_place = self.is_before(ticket);
         add_if(!by_place, ticket, found)

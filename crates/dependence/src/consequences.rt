@@ -3,9 +3,7 @@ ghost use Rattle.std.specs.Prelude.{◌≡◌, ◌+◌, ℕ, length, drop, true,
 ghost use Rattle.runs.specs.Live.{ConsequencesList, IsLive};
 ghost use Rattle.dependence.specs.internal.Tables.{IsRising, Linked};
 
-use crate::boxed_links::BoxedLinks;
-use crate::indexes::index_of_live;
-use crate::live::LiveEvent;
+use crate::live_list::LiveList;
 use crate::marks::{copy_each, mark_dependents};
 use std::alloc::{AllocError, Global};
 
@@ -13,18 +11,17 @@ use std::alloc::{AllocError, Global};
 /// as to go through the live events from that event on.
 pub(crate) fn consequences(
     alloc: Global,
-    live: &[LiveEvent],
-    links: &[BoxedLinks],
+    list: &LiveList,
     ticket: u64,
 ) -> Result<Vec<u64>, AllocError>
-    requires rising { IsRising live.now }
-    requires linked { Linked live.now links.now }
-    requires live { IsLive live.now ticket }
-    ensures { IfOk result (λ tickets. ConsequencesList live.now ticket tickets.items) }
+    requires rising { IsRising list.now.live }
+    requires linked { Linked list.now.live list.now.links }
+    requires live { IsLive list.now.live ticket }
+    ensures { IfOk result (λ tickets. ConsequencesList list.now.live ticket tickets.items) }
 {
-    let base = index_of_live(live, ticket);
-    let mut marks = no_marks(alloc, live.len() - base)?;
-    tickets_from(alloc, live, links, base, marks.as_mut_slice(), ticket)
+    let base = list.index_of_live(ticket);
+    let mut marks = no_marks(alloc, list.len() - base)?;
+    tickets_from(alloc, list, base, marks.as_mut_slice(), ticket)
 }
 
 /// So many marks, of which none is set.
@@ -38,19 +35,18 @@ fn no_marks(alloc: Global, count: usize) -> Result<Vec<bool>, AllocError>
 /// The same; the marks are those of the live events from the index `base` on, and none is set yet.
 fn tickets_from(
     alloc: Global,
-    live: &[LiveEvent],
-    links: &[BoxedLinks],
+    list: &LiveList,
     base: usize,
     marks: &mut [bool],
     ticket: u64,
 ) -> Result<Vec<u64>, AllocError>
-    requires rising { IsRising live.now }
-    requires linked { Linked live.now links.now }
-    requires size { base + length marks.old ≡ length live.now }
-    requires live { IsLive (drop base live.now) ticket }
+    requires rising { IsRising list.now.live }
+    requires linked { Linked list.now.live list.now.links }
+    requires size { base + length marks.old ≡ length list.now.live }
+    requires live { IsLive (drop base list.now.live) ticket }
     requires none { (i : ℕ) → slice_get marks.old i ≡ Some true → ⊥ }
-    ensures { IfOk result (λ tickets. ConsequencesList live.now ticket tickets.items) }
+    ensures { IfOk result (λ tickets. ConsequencesList list.now.live ticket tickets.items) }
 {
-    mark_dependents(live, links, base, marks, ticket);
-    copy_each(alloc, &live[base..], marks)
+    mark_dependents(list, base, marks, ticket);
+    copy_each(alloc, list, base, marks)
 }

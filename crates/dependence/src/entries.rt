@@ -1,20 +1,17 @@
 // A new event in the tables, and one taken out of them.
-ghost use Rattle.std.specs.Prelude.{◌≡◌, ◌<◌, ◌++◌, ◌∷◌, [], ℕ, List, false, length, vec_len, ◌↔◌, IfOk, OnOk, OnErr};
+ghost use Rattle.std.specs.Prelude.{◌≡◌, ◌<◌, ◌++◌, ◌∷◌, [], ℕ, List, false, length, vec_len, ◌↔◌, Some, slice_get, IfOk, OnOk};
 ghost use Rattle.std.specs.List.{remove};
 ghost use Rattle.std.specs.List.Sorted.{IsNonDecreasing};
 ghost use Rattle.std.specs.Vec.{vec_capacity};
 ghost use Rattle.syntax.specs.Lists.{In};
-ghost use Rattle.runs.specs.Live.{Rising, LiveAt, NoDependent, IsLive};
-ghost use Rattle.dependence.specs.declared.links.Links.{Links};
+ghost use Rattle.runs.specs.Live.{Rising, NoDependent, IsLive};
 ghost use Rattle.dependence.specs.Behind.{ComesBehind};
 ghost use Rattle.dependence.specs.internal.Found.{IsNewEvent, PlacesFound};
-ghost use Rattle.dependence.specs.internal.Tables.{IsRising, StandsAt, Falling, Linked, PartLinked, Candidates, Topmost, LinkedBehind};
+ghost use Rattle.dependence.specs.internal.Tables.{IsRising, Falling, Linked, PartLinked, Candidates, Topmost, LinkedBehind};
 
 use crate::accesses::NewEvent;
-use crate::boxed_links::BoxedLinks;
-use crate::indexes::index_of_live;
-use crate::links::{link_all, unlink_all};
-use crate::live::LiveEvent;
+use crate::links::unlink_all;
+use crate::live_list::LiveList;
 use crate::topmost::{span, topmost};
 use crate::unreached::{are_unreached, falling};
 use runs::Event;
@@ -24,17 +21,16 @@ use syntax::Boxed;
 /// The tickets of the live events that a new event follows, falling. `found` are those that its places give.
 pub(crate) fn leads_of(
     alloc: Global,
-    links: &[BoxedLinks],
     new: &NewEvent<'_>,
     mut found: Vec<u64>,
 ) -> Result<Vec<u64>, AllocError>
     requires new { IsNewEvent new.now }
-    requires found { PlacesFound new.now.live.now new.now.event.now found.items }
-    requires behind { ComesBehind new.now.live.now new.now.event.now }
-    requires linked { Linked new.now.live.now links.now }
+    requires found { PlacesFound new.now.list.now.live new.now.event.now found.items }
+    requires behind { ComesBehind new.now.list.now.live new.now.event.now }
+    requires linked { Linked new.now.list.now.live new.now.list.now.links }
     ensures falling { IfOk result (λ leads. Falling leads.items) }
-    ensures topmost { IfOk result (λ leads. (all : List ℕ) × Candidates new.now.live.now new.now.event.now all
-        × ((t : ℕ) → In t leads.items ↔ Topmost new.now.live.now all t)) }
+    ensures topmost { IfOk result (λ leads. (all : List ℕ) × Candidates new.now.list.now.live new.now.event.now all
+        × ((t : ℕ) → In t leads.items ↔ Topmost new.now.list.now.live all t)) }
 {
     new.add_by_variables(alloc, &mut found)?;
     if found.len() <= 1 {
@@ -42,11 +38,11 @@ pub(crate) fn leads_of(
     }
     let sorted = ascending(found);
     let tickets = sorted.as_slice();
-    if are_unreached(new.live, links, tickets) {
+    if are_unreached(new.list, tickets) {
         return falling(alloc, tickets);
     }
-    let (low, high) = span(new.live, tickets);
-    topmost(alloc, new.live, links, tickets, low, high)
+    let (low, high) = span(new.list, tickets);
+    topmost(alloc, new.list, tickets, low, high)
 }
 
 /// The same tickets in ascending order.
@@ -60,86 +56,47 @@ fn ascending(mut tickets: Vec<u64>) -> Vec<u64>
 }
 
 /// Room for one more event with its links and its mark.
-pub(crate) fn make_room(
-    pairs: &mut Vec<LiveEvent>,
-    links: &mut Vec<BoxedLinks>,
-    marks: &mut Vec<bool>,
-) -> Result<(), AllocError>
-    ensures pairs { pairs.new.items ≡ pairs.old.items }
-    ensures links { links.new.items ≡ links.old.items }
+pub(crate) fn make_room(list: &mut LiveList, marks: &mut Vec<bool>) -> Result<(), AllocError>
+    ensures live { list.new.live ≡ list.old.live }
+    ensures links { list.new.links ≡ list.old.links }
     ensures marks { marks.new.items ≡ marks.old.items }
-    ensures room { OnOk result ((vec_len pairs.new < vec_capacity pairs.new)
-        × (vec_len links.new < vec_capacity links.new) × (vec_len marks.new < vec_capacity marks.new)) }
+    ensures room { OnOk result ((0 < list.new.room) × (vec_len marks.new < vec_capacity marks.new)) }
 {
-    pairs.reserve(1)?;
-    links.reserve(1)?;
+    list.make_room()?;
     marks.reserve(1)
 }
 
-/// Links a new event to those that it follows, where there is room for its own links. Without memory for the others the
-/// tables are as before.
-pub(crate) fn link_new(
-    alloc: Global,
-    live: &[LiveEvent],
-    links: &mut Vec<BoxedLinks>,
-    leads: Vec<u64>,
-    ticket: u64,
-) -> Result<(), AllocError>
-    requires rising { Rising 0 live.now ticket }
-    requires live { (t : ℕ) → In t leads.items → IsLive live.now t }
-    requires falling { Falling leads.items }
-    requires linked { PartLinked live.now ticket (λ t. In t []) links.old.items }
-    requires room { vec_len links.old < vec_capacity links.old }
-    ensures ok { OnOk result (LinkedBehind live.now ticket leads.items links.new.items) }
-    ensures err { OnErr result (PartLinked live.now ticket (λ t. In t []) links.new.items) }
-{
-    let entry = BoxedLinks::new(alloc, leads)?;
-    link_all(
-        live,
-        links.as_mut_slice(),
-        entry.get().leads.as_slice(),
-        ticket,
-    )?;
-    links.push_reserved(entry);
-    Ok(())
-}
-
-/// Puts the event and its mark behind the others, where there is room for them.
-pub(crate) fn push_pair(
-    pairs: &mut Vec<LiveEvent>,
+/// Puts the event, which follows those of these tickets, and its mark behind the others, where there is room for them.
+pub(crate) fn push_event(
+    list: &mut LiveList,
     marks: &mut Vec<bool>,
     ticket: u64,
     event: Boxed<Event>,
+    leads: Vec<u64>,
 )
-    requires pairs { vec_len pairs.old < vec_capacity pairs.old }
+    requires rising { Rising 0 list.old.live ticket }
+    requires linked { PartLinked list.old.live ticket (λ t. In t leads.items) list.old.links }
+    requires room { 0 < list.old.room }
     requires marks { vec_len marks.old < vec_capacity marks.old }
-    ensures pairs { pairs.new.items ≡ pairs.old.items ++ (ticket, event) ∷ [] }
+    ensures live { list.new.live ≡ list.old.live ++ (ticket, event) ∷ [] }
+    ensures links { LinkedBehind list.old.live ticket leads.items list.new.links }
     ensures marks { marks.new.items ≡ marks.old.items ++ false ∷ [] }
 {
-    pairs.push_reserved((ticket, event));
+    list.push(ticket, event, leads);
     marks.push_reserved(false);
 }
 
-/// Takes the event at this index, on which no other depends, out of the tables.
-pub(crate) fn take_out(
-    pairs: &mut Vec<LiveEvent>,
-    links: &mut Vec<BoxedLinks>,
-    index: usize,
-) -> Event
-    requires rising { IsRising pairs.old.items }
-    requires linked { Linked pairs.old.items links.old.items }
-    requires alone { (t : ℕ) × StandsAt pairs.old.items t index × NoDependent pairs.old.items t }
-    ensures pairs { pairs.new.items ≡ remove pairs.old.items index }
-    ensures linked { Linked pairs.new.items links.new.items }
-    ensures event { (t : ℕ) → StandsAt pairs.old.items t index → LiveAt pairs.old.items t result }
+/// Takes the live event of this ticket, on which no other depends, out of the list, and says at which index it stood.
+pub(crate) fn take_out(list: &mut LiveList, ticket: u64) -> (usize, Event)
+    requires rising { IsRising list.old.live }
+    requires linked { Linked list.old.live list.old.links }
+    requires live { IsLive list.old.live ticket }
+    requires alone { NoDependent list.old.live ticket }
+    ensures live { list.new.live ≡ remove list.old.live result.0 }
+    ensures linked { Linked list.new.live list.new.links }
+    ensures event { slice_get list.old.live result.0 ≡ Some (ticket, result.1) }
 {
-    let (ticket, event) = pairs.remove(index);
-    let taken = links.remove(index);
-    unlink_all(
-        pairs.as_slice(),
-        links.as_mut_slice(),
-        taken.get().leads.as_slice(),
-        ticket,
-    );
-    event.into_inner()
+    let (index, kept) = list.take(ticket);
+    unlink_all(list, kept.links.leads.as_slice(), ticket);
+    (index, kept.event.into_inner())
 }

@@ -3,15 +3,16 @@
 
 mod accesses;
 mod acting_event;
-mod boxed_links;
 mod consequences;
 mod count;
 mod entries;
 mod indexes;
+mod kept;
 mod laws;
 mod links;
 mod live;
 mod live_events;
+mod live_list;
 mod marks;
 mod puts;
 mod tables;
@@ -21,5 +22,5 @@ mod unreached;
 mod whole;
 
 pub use laws::{last_comes_behind, least_is_follower, no_new_follower, reached_through_followers};
-pub use live::{Live, LiveEvent};
+pub use live::Live;
 pub use live_events::LiveEvents;

@@ -10,11 +10,10 @@ ghost use Rattle.dependence.specs.Taking.{MarksAllDependents, OneMarkedAt, NoneM
 ghost use Rattle.syntax.specs.Lists.{In};
 
 use crate::acting_event::acting_at_first_child;
-use crate::boxed_links::BoxedLinks;
 use crate::consequences::consequences;
 use crate::count::count_direct;
-use crate::indexes::index_of;
 use crate::live_events::LiveEvents;
+use crate::live_list::LiveList;
 use crate::marks::{copy_marked, last_marked, mark_and_count, marked_at, unmarked_below};
 use crate::tables::Tables;
 use crate::take::{keep_unmarked, take_marked};
@@ -25,16 +24,11 @@ use std::alloc::{AllocError, Global};
 use std::marker::Model;
 use syntax::Boxed;
 
-/// A live event with its ticket. The event stands on the heap, so that little moves where one is taken out from the
-/// middle.
-pub type LiveEvent = (u64, Boxed<Event>);
-
 /// The live events of an execution with their tickets, in order of tickets, the followers of each, and marks.
 #[derive(Drop)]
 pub struct Live {
     alloc: Global,
-    pairs: Vec<LiveEvent>,
-    links: Vec<BoxedLinks>,
+    list: LiveList,
     marks: Vec<bool>,
     /// no event of a lesser ticket is marked
     first_marked: u64,
@@ -51,10 +45,10 @@ impl Model for Live {
     ghost use Rattle.dependence.specs.internal.Whole.{IsWhole};
 
     ghost view = { λ live.
-        record { live = live.pairs.items; marked = tickets_marked live.pairs.items live.marks.items } };
+        record { live = live.list.live; marked = tickets_marked live.list.live live.marks.items } };
 
-    ghost invariant = { λ live. IsWhole live.pairs.items live.links.items live.marks.items
-        × IsTabled live.pairs.items live.tables × NoneLess live.pairs.items live.marks.items live.first_marked };
+    ghost invariant = { λ live. IsWhole live.list.live live.list.links live.marks.items
+        × IsTabled live.list.live live.tables × NoneLess live.list.live live.marks.items live.first_marked };
 }
 
 impl Live {
@@ -64,8 +58,7 @@ impl Live {
     {
         Live {
             alloc,
-            pairs: Vec::new(alloc),
-            links: Vec::new(alloc),
+            list: LiveList::new(alloc),
             marks: Vec::new(alloc),
             first_marked: 0,
             tables: Tables::new(alloc),
@@ -76,14 +69,14 @@ impl Live {
     pub fn is_sound(&self)
         ensures { IsSound self.now }
     {
-        let _pairs = &self.pairs;
+        let _list = &self.list;
     }
 
     /// How many events are live.
     pub fn len(&self) -> usize
         ensures { result ≡ length self.now.live }
     {
-        self.pairs.len()
+        self.list.len()
     }
 
     /// The live events with their tickets, in order of tickets.
@@ -91,14 +84,7 @@ impl Live {
         ensures events { result ≡ self.now.live }
         ensures fits { length result < 2 ^ 64 }
     {
-        LiveEvents::of(self.pairs.as_slice())
-    }
-
-    /// The live events with their tickets, in order of tickets, as they stand.
-    pub fn as_slice(&self) -> &[LiveEvent]
-        ensures { result.now ≡ self.now.live }
-    {
-        self.pairs.as_slice()
+        self.list.iter()
     }
 
     /// The index, counted from 0 in order of tickets, of the live event of this ticket.
@@ -106,7 +92,7 @@ impl Live {
         ensures { MatchOption result (NoneAt self.now.live ticket) (λ i. (e : Event)
             × (slice_get self.now.live i ≡ Some (ticket, e))) }
     {
-        index_of(self.pairs.as_slice(), ticket)
+        self.list.index_of(ticket)
     }
 
     /// The ticket and the event at an index, counted from 0 in order of tickets; `None` past the last.
@@ -114,9 +100,11 @@ impl Live {
         ensures { MatchOption result (slice_get self.now.live index ≡ None) (λ entry.
             slice_get self.now.live index ≡ Some (entry.0, entry.1.now)) }
     {
-        match self.pairs.get(index as usize) {
-            Some(entry) => Some((entry.0, entry.1.get())),
-            None => None,
+        if index < self.list.len() as u64 {
+            let place = index as usize;
+            Some((self.list.ticket_at(place), self.list.event_at(place)))
+        } else {
+            None
         }
     }
 
@@ -126,7 +114,7 @@ impl Live {
         requires { IsLive self.now.live ticket }
         ensures { ListsFollowers self.now.live ticket result.now }
     {
-        followers_of(self.pairs.as_slice(), self.links.as_slice(), ticket)
+        followers_of(&self.list, ticket)
     }
 
     /// The tickets of the live events that the live event of this ticket follows: of those on which it depends directly
@@ -135,7 +123,7 @@ impl Live {
         requires { IsLive self.now.live ticket }
         ensures { ListsLeads self.now.live ticket result.now }
     {
-        leads_at(self.pairs.as_slice(), self.links.as_slice(), ticket)
+        leads_at(&self.list, ticket)
     }
 
     /// The least ticket of another live event that depends on the live event of this ticket.
@@ -143,14 +131,14 @@ impl Live {
         requires { IsLive self.now.live ticket }
         ensures { MatchOption result (NoDependent self.now.live ticket) (λ u. FirstDependent self.now.live ticket u) }
     {
-        least_dependent(self.pairs.as_slice(), self.links.as_slice(), ticket)
+        least_dependent(&self.list, ticket)
     }
 
     /// The ticket of the last live event that writes the variable.
     pub fn last_writer(&self, variable: u32) -> Option<u64>
         ensures { MatchOption result (NoWriter self.now.live variable) (λ t. LastWriter self.now.live variable t) }
     {
-        last_writer(self.pairs.as_slice(), &self.tables, variable)
+        last_writer(&self.list, &self.tables, variable)
     }
 
     /// The live event that acts at the first child of the place. It takes no memory, and as long as to look for the
@@ -159,7 +147,7 @@ impl Live {
         ensures { MatchOption result (NoneActs self.now.live (first_child place.now)) (λ e.
             ActsAlone self.now.live (first_child place.now) e.now) }
     {
-        acting_at_first_child(self.pairs.as_slice(), &self.tables, place)
+        acting_at_first_child(&self.list, &self.tables, place)
     }
 
     /// How many live events depend directly on the live event of this ticket. It takes as long as to go through the
@@ -168,7 +156,7 @@ impl Live {
         requires { IsLive self.now.live ticket }
         ensures { CountsDirect self.now.live ticket result }
     {
-        count_direct(self.pairs.as_slice(), self.links.as_slice(), ticket) as u64
+        count_direct(&self.list, ticket) as u64
     }
 
     /// The tickets of the live event of this ticket and of all live events that depend on it, ascending. It marks
@@ -181,12 +169,7 @@ impl Live {
         requires { IsLive self.now.live ticket }
         ensures { IfOk result (λ tickets. ConsequencesList self.now.live ticket tickets.items) }
     {
-        consequences(
-            self.alloc,
-            self.pairs.as_slice(),
-            self.links.as_slice(),
-            ticket,
-        )
+        consequences(self.alloc, &self.list, ticket)
     }
 
     /// Marks the live event of this ticket and all live events that depend on it, and no others; how many they are. The
@@ -198,8 +181,7 @@ impl Live {
         ensures counted { result ≡ length self.new.marked }
     {
         let count = mark_and_count(
-            self.pairs.as_slice(),
-            self.links.as_slice(),
+            &self.list,
             self.marks.as_mut_slice(),
             self.first_marked,
             ticket,
@@ -212,7 +194,7 @@ impl Live {
     pub fn last_marked(&self) -> Option<u64>
         ensures { MatchOption result (self.now.marked ≡ []) (λ t. Greatest self.now.marked t) }
     {
-        last_marked(self.pairs.as_slice(), self.marks.as_slice())
+        last_marked(&self.list, self.marks.as_slice())
     }
 
     /// The live event at an index, counted from 0 in order of tickets, where it is marked.
@@ -220,7 +202,7 @@ impl Live {
         ensures { MatchOption result (NoneMarkedAt self.now.live self.now.marked index) (λ found.
             OneMarkedAt self.now.live self.now.marked index found.now) }
     {
-        marked_at(self.pairs.as_slice(), self.marks.as_slice(), index)
+        marked_at(&self.list, self.marks.as_slice(), index)
     }
 
     /// An index, counted from 0 in order of tickets, below which no live event is marked. It is less than 1,024 before
@@ -239,7 +221,7 @@ impl Live {
     {
         copy_marked(
             self.alloc,
-            self.pairs.as_slice(),
+            &self.list,
             self.marks.as_slice(),
             self.first_marked,
         )
@@ -256,8 +238,7 @@ impl Live {
     {
         add_event(
             self.alloc,
-            &mut self.pairs,
-            &mut self.links,
+            &mut self.list,
             &mut self.marks,
             &mut self.tables,
             ticket,
@@ -273,13 +254,7 @@ impl Live {
         ensures live { WithoutTickets (λ t. t ≡ ticket) self.old.live self.new.live }
         ensures marked { Without (λ t. t ≡ ticket) self.old.marked self.new.marked }
     {
-        take_event(
-            &mut self.pairs,
-            &mut self.links,
-            &mut self.marks,
-            &mut self.tables,
-            ticket,
-        )
+        take_event(&mut self.list, &mut self.marks, &mut self.tables, ticket)
     }
 
     /// Takes out what stands beside a marked event, of items that stand beside the live events at the same indexes.
@@ -298,8 +273,8 @@ impl Live {
         ensures marked { self.new.marked ≡ [] }
     {
         take_marked(
-            &mut self.pairs,
-            &mut self.links,
+            self.alloc,
+            &mut self.list,
             &mut self.marks,
             &mut self.tables,
         )

@@ -8,9 +8,7 @@ ghost use Rattle.dependence.specs.Taking.{OneMarkedAt, NoneMarkedAt};
 ghost use Rattle.dependence.specs.internal.Tables.{IsRising, Linked};
 ghost use Rattle.dependence.specs.internal.Marking.{MarkedAt, UnmarkedTo, SomeMarked, MarkedNear, NoneLess};
 
-use crate::boxed_links::BoxedLinks;
-use crate::indexes::{index_of, index_of_live};
-use crate::live::LiveEvent;
+use crate::live_list::LiveList;
 use runs::Event;
 use std::alloc::{AllocError, Global};
 
@@ -19,51 +17,41 @@ const STRIDE: usize = 1_024;
 
 /// Marks the event of this ticket and all that depend on it, and no others; how many they are. No event of a ticket
 /// less than `first` was marked.
-pub(crate) fn mark_and_count(
-    live: &[LiveEvent],
-    links: &[BoxedLinks],
-    marks: &mut [bool],
-    first: u64,
-    ticket: u64,
-) -> usize
-    requires rising { IsRising live.now }
-    requires linked { Linked live.now links.now }
-    requires live { IsLive live.now ticket }
-    requires size { length marks.old ≡ length live.now }
-    requires lower { NoneLess live.now marks.old first }
-    ensures marked { ConsequencesList live.now ticket (tickets_marked live.now marks.new) }
-    ensures lower { NoneLess live.now marks.new ticket }
-    ensures counted { result ≡ length (tickets_marked live.now marks.new) }
+pub(crate) fn mark_and_count(list: &LiveList, marks: &mut [bool], first: u64, ticket: u64) -> usize
+    requires rising { IsRising list.now.live }
+    requires linked { Linked list.now.live list.now.links }
+    requires live { IsLive list.now.live ticket }
+    requires size { length marks.old ≡ length list.now.live }
+    requires lower { NoneLess list.now.live marks.old first }
+    ensures marked { ConsequencesList list.now.live ticket (tickets_marked list.now.live marks.new) }
+    ensures lower { NoneLess list.now.live marks.new ticket }
+    ensures counted { result ≡ length (tickets_marked list.now.live marks.new) }
 {
-    let from = first_index(live, marks, first);
+    let from = first_index(list, marks, first);
     clear(marks, from);
-    mark_dependents(live, links, 0, marks, ticket);
-    count_marked(live, marks, ticket)
+    mark_dependents(list, 0, marks, ticket);
+    count_marked(list, marks, ticket)
 }
 
 /// Marks the event of this ticket and all that depend on it, where nothing is marked. The marks are those of the live
 /// events from the index `base` on, and the event is one of these.
-pub(crate) fn mark_dependents(
-    live: &[LiveEvent],
-    links: &[BoxedLinks],
-    base: usize,
-    marks: &mut [bool],
-    ticket: u64,
-)
-    requires rising { IsRising live.now }
-    requires linked { Linked live.now links.now }
-    requires size { base + length marks.old ≡ length live.now }
-    requires live { IsLive (drop base live.now) ticket }
+pub(crate) fn mark_dependents(list: &LiveList, base: usize, marks: &mut [bool], ticket: u64)
+    requires rising { IsRising list.now.live }
+    requires linked { Linked list.now.live list.now.links }
+    requires size { base + length marks.old ≡ length list.now.live }
+    requires live { IsLive (drop base list.now.live) ticket }
     requires none { (i : ℕ) → slice_get marks.old i ≡ Some true → ⊥ }
-    ensures marked { ConsequencesList live.now ticket (tickets_marked (drop base live.now) marks.new) }
-    ensures lower { NoneLess (drop base live.now) marks.new ticket }
+    ensures marked { ConsequencesList list.now.live ticket (tickets_marked (drop base list.now.live) marks.new) }
+    ensures lower { NoneLess (drop base list.now.live) marks.new ticket }
 {
-    let rest = &live[base..];
-    let first = index_of_live(rest, ticket);
+    // The length is what says that indexes fit.
+    let _len = list.len();
+    let first = list.index_of_live(ticket) - base;
     marks[first] = true;
-    for index in first..rest.len() {
+    for index in first..marks.len() {
         if marks[index] {
-            mark_all(rest, marks, links[base + index].get().followers.as_slice());
+            let followers = list.links_at(base + index).followers.as_slice();
+            mark_all(list, base, marks, followers);
         }
     }
 }
@@ -81,14 +69,14 @@ pub(crate) fn clear(marks: &mut [bool], from: usize)
 
 /// An index below which none is marked: where no event of a ticket less than `first` is, that of the event of this
 /// ticket, and where there is no such event one that is looked for.
-fn first_index(live: &[LiveEvent], marks: &[bool], first: u64) -> usize
-    requires rising { IsRising live.now }
-    requires size { length marks.now ≡ length live.now }
-    requires lower { NoneLess live.now marks.now first }
+fn first_index(list: &LiveList, marks: &[bool], first: u64) -> usize
+    requires rising { IsRising list.now.live }
+    requires size { length marks.now ≡ length list.now.live }
+    requires lower { NoneLess list.now.live marks.now first }
     ensures within { result ≤ length marks.now }
     ensures none { UnmarkedTo marks.now result }
 {
-    match index_of(live, first) {
+    match list.index_of(first) {
         Some(index) => index,
         None => unmarked_below(marks),
     }
@@ -118,105 +106,106 @@ fn is_any(marks: &[bool]) -> bool
     marks.contains(&true)
 }
 
-/// Marks the events of these tickets beside those that are marked.
-fn mark_all(live: &[LiveEvent], marks: &mut [bool], tickets: &[u64])
-    requires rising { IsRising live.now }
-    requires live { (t : ℕ) → In t tickets.now → IsLive live.now t }
-    requires size { length marks.old ≡ length live.now }
-    ensures { (u : ℕ) → MarkedAt live.now marks.new u ↔ (MarkedAt live.now marks.old u ⊎ In u tickets.now) }
+/// Marks the events of these tickets beside those that are marked. The marks are those of the live events from the index
+/// `base` on.
+fn mark_all(list: &LiveList, base: usize, marks: &mut [bool], tickets: &[u64])
+    requires rising { IsRising list.now.live }
+    requires live { (t : ℕ) → In t tickets.now → IsLive (drop base list.now.live) t }
+    requires size { base + length marks.old ≡ length list.now.live }
+    ensures { (u : ℕ) → MarkedAt (drop base list.now.live) marks.new u
+        ↔ (MarkedAt (drop base list.now.live) marks.old u ⊎ In u tickets.now) }
 {
     for ticket in tickets {
-        let index = index_of_live(live, *ticket);
+        let index = list.index_of_live(*ticket) - base;
         marks[index] = true;
     }
 }
 
 /// Whether the event of this ticket is live and marked.
-pub(crate) fn is_marked(live: &[LiveEvent], marks: &[bool], ticket: u64) -> bool
-    requires rising { IsRising live.now }
-    requires size { length marks.now ≡ length live.now }
-    ensures { result ≡ is_in ticket (tickets_marked live.now marks.now) }
+pub(crate) fn is_marked(list: &LiveList, marks: &[bool], ticket: u64) -> bool
+    requires rising { IsRising list.now.live }
+    requires size { length marks.now ≡ length list.now.live }
+    ensures { result ≡ is_in ticket (tickets_marked list.now.live marks.now) }
 {
-    match index_of(live, ticket) {
+    match list.index_of(ticket) {
         Some(index) => marks[index],
         None => false,
     }
 }
 
 /// The event at this index where it is marked.
-pub(crate) fn marked_at<'a>(
-    live: &'a [LiveEvent],
-    marks: &[bool],
-    index: usize,
-) -> Option<&'a Event>
-    requires rising { IsRising live.now }
-    requires size { length marks.now ≡ length live.now }
-    ensures { MatchOption result (NoneMarkedAt live.now (tickets_marked live.now marks.now) index) (λ found.
-        OneMarkedAt live.now (tickets_marked live.now marks.now) index found.now) }
+pub(crate) fn marked_at<'a>(list: &'a LiveList, marks: &[bool], index: usize) -> Option<&'a Event>
+    requires rising { IsRising list.now.live }
+    requires size { length marks.now ≡ length list.now.live }
+    ensures { MatchOption result (NoneMarkedAt list.now.live (tickets_marked list.now.live marks.now) index) (λ found.
+        OneMarkedAt list.now.live (tickets_marked list.now.live marks.now) index found.now) }
 {
     if index < marks.len() && marks[index] {
-        return Some(live[index].1.get());
+        return Some(list.event_at(index));
     }
     None
 }
 
 /// How many events are marked. None of a ticket less than `first` is.
-fn count_marked(live: &[LiveEvent], marks: &[bool], first: u64) -> usize
-    requires rising { IsRising live.now }
-    requires size { length marks.now ≡ length live.now }
-    requires lower { NoneLess live.now marks.now first }
-    ensures { result ≡ length (tickets_marked live.now marks.now) }
+fn count_marked(list: &LiveList, marks: &[bool], first: u64) -> usize
+    requires rising { IsRising list.now.live }
+    requires size { length marks.now ≡ length list.now.live }
+    requires lower { NoneLess list.now.live marks.now first }
+    ensures { result ≡ length (tickets_marked list.now.live marks.now) }
 {
-    let from = first_index(live, marks, first);
+    let from = first_index(list, marks, first);
     marks[from..].iter().filter(|mark| **mark).count()
 }
 
 /// The tickets of the marked events, ascending. None is less than `first`.
 pub(crate) fn copy_marked(
     alloc: Global,
-    live: &[LiveEvent],
+    list: &LiveList,
     marks: &[bool],
     first: u64,
 ) -> Result<Vec<u64>, AllocError>
-    requires rising { IsRising live.now }
-    requires size { length marks.now ≡ length live.now }
-    requires lower { NoneLess live.now marks.now first }
-    ensures { IfOk result (λ tickets. tickets.items ≡ tickets_marked live.now marks.now) }
+    requires rising { IsRising list.now.live }
+    requires size { length marks.now ≡ length list.now.live }
+    requires lower { NoneLess list.now.live marks.now first }
+    ensures { IfOk result (λ tickets. tickets.items ≡ tickets_marked list.now.live marks.now) }
 {
-    let from = first_index(live, marks, first);
-    copy_each(alloc, &live[from..], &marks[from..])
+    let from = first_index(list, marks, first);
+    copy_each(alloc, list, from, &marks[from..])
 }
 
-/// The same; each of the events is looked at.
+/// The tickets of the marked events. The marks are those of the live events from the index `base` on.
 pub(crate) fn copy_each(
     alloc: Global,
-    live: &[LiveEvent],
+    list: &LiveList,
+    base: usize,
     marks: &[bool],
 ) -> Result<Vec<u64>, AllocError>
-    requires { length marks.now ≡ length live.now }
-    ensures { IfOk result (λ tickets. tickets.items ≡ tickets_marked live.now marks.now) }
+    requires { base + length marks.now ≡ length list.now.live }
+    ensures { IfOk result (λ tickets. tickets.items ≡ tickets_marked (drop base list.now.live) marks.now) }
 {
+    // The length is what says that indexes fit.
+    let _len = list.len();
     let mut tickets = Vec::new(alloc);
-    for (index, entry) in live.iter().enumerate() {
+    for index in 0..marks.len() {
         if marks[index] {
-            tickets.push(entry.0)?;
+            tickets.push(list.ticket_at(base + index))?;
         }
     }
     Ok(tickets)
 }
 
 /// The greatest ticket of a marked event.
-pub(crate) fn last_marked(live: &[LiveEvent], marks: &[bool]) -> Option<u64>
-    requires rising { IsRising live.now }
-    requires size { length marks.now ≡ length live.now }
-    ensures { MatchOption result (tickets_marked live.now marks.now ≡ []) (λ t.
-        Greatest (tickets_marked live.now marks.now) t) }
+pub(crate) fn last_marked(list: &LiveList, marks: &[bool]) -> Option<u64>
+    requires rising { IsRising list.now.live }
+    requires size { length marks.now ≡ length list.now.live }
+    ensures { MatchOption result (tickets_marked list.now.live marks.now ≡ []) (λ t.
+        Greatest (tickets_marked list.now.live marks.now) t) }
 {
-    let mut index = live.len();
+    let mut index = marks.len();
     while index > 0 {
         index -= 1;
         if marks[index] {
-            return Some(live[index].0);
+            return Some(list.ticket_at(index));
         }
     }
     None

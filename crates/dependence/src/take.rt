@@ -6,39 +6,40 @@ ghost use Rattle.runs.specs.Live.{IsLive, WithoutTickets};
 ghost use Rattle.dependence.specs.declared.links.Links.{Links};
 ghost use Rattle.dependence.specs.Shown.{tickets_marked};
 ghost use Rattle.dependence.specs.Taking.{HasDependents};
+ghost use Rattle.dependence.specs.internal.Listed.{SameLive};
 ghost use Rattle.dependence.specs.internal.Tables.{IsRising, Linked};
 ghost use Rattle.dependence.specs.internal.Tabled.{IsTabled};
 ghost use Rattle.dependence.specs.internal.Unmarked.{unmarked, Thinned, AllThinned, NotBehind, IsLoose};
 ghost use Rattle.dependence.specs.internal.Whole.{IsWhole};
 
-use crate::boxed_links::BoxedLinks;
-use crate::indexes::{index_in, index_of_live};
+use crate::indexes::index_in;
 use crate::links::Followers;
-use crate::live::LiveEvent;
+use crate::live_list::LiveList;
 use crate::marks::{clear, is_marked, unmarked_below};
 use crate::tables::Tables;
+use smallvec::SmallVec;
+use std::alloc::Global;
 
 /// Takes the marked events out with their marks. What depends on a marked one is marked.
 pub(crate) fn take_marked(
-    pairs: &mut Vec<LiveEvent>,
-    links: &mut Vec<BoxedLinks>,
+    alloc: Global,
+    list: &mut LiveList,
     marks: &mut Vec<bool>,
     tables: &mut Tables,
 )
-    requires whole { IsWhole pairs.old.items links.old.items marks.old.items }
-    requires tabled { IsTabled pairs.old.items tables.old }
-    requires closed { HasDependents pairs.old.items (tickets_marked pairs.old.items marks.old.items) }
-    ensures whole { IsWhole pairs.new.items links.new.items marks.new.items }
-    ensures tabled { IsTabled pairs.new.items tables.new }
+    requires whole { IsWhole list.old.live list.old.links marks.old.items }
+    requires tabled { IsTabled list.old.live tables.old }
+    requires closed { HasDependents list.old.live (tickets_marked list.old.live marks.old.items) }
+    ensures whole { IsWhole list.new.live list.new.links marks.new.items }
+    ensures tabled { IsTabled list.new.live tables.new }
     ensures live { WithoutTickets
-        (λ t. In t (tickets_marked pairs.old.items marks.old.items)) pairs.old.items pairs.new.items }
-    ensures marked { tickets_marked pairs.new.items marks.new.items ≡ [] }
+        (λ t. In t (tickets_marked list.old.live marks.old.items)) list.old.live list.new.live }
+    ensures marked { tickets_marked list.new.live marks.new.items ≡ [] }
 {
-    remove_marked(pairs.as_slice(), marks.as_slice(), tables);
-    unlink_marked(pairs.as_slice(), links.as_mut_slice(), marks.as_slice());
-    keep_unmarked(pairs, marks.as_slice());
-    keep_unmarked(links, marks.as_slice());
-    keep_no_marks(marks, pairs.len());
+    remove_marked(list, marks.as_slice(), tables);
+    unlink_marked(alloc, list, marks.as_slice());
+    take_each(list, marks.as_slice());
+    keep_no_marks(marks, list.len());
 }
 
 /// Leaves so many marks, of which none is set.
@@ -52,83 +53,104 @@ fn keep_no_marks(marks: &mut Vec<bool>, count: usize)
 }
 
 /// Takes the marked events out of the tables, the last first: in its branch each is the last of those that are left.
-fn remove_marked(live: &[LiveEvent], marks: &[bool], tables: &mut Tables)
-    requires rising { IsRising live.now }
-    requires size { length marks.now ≡ length live.now }
-    requires tabled { IsTabled live.now tables.old }
-    ensures { IsTabled (unmarked marks.now live.now) tables.new }
+fn remove_marked(list: &LiveList, marks: &[bool], tables: &mut Tables)
+    requires rising { IsRising list.now.live }
+    requires size { length marks.now ≡ length list.now.live }
+    requires tabled { IsTabled list.now.live tables.old }
+    ensures { IsTabled (unmarked marks.now list.now.live) tables.new }
 {
     let first = unmarked_below(marks);
-    let mut index = live.len();
+    let mut index = marks.len();
     while index > first {
         index -= 1;
         if marks[index] {
-            let entry = &live[index];
-            tables.remove(entry.0, entry.1.get());
+            tables.remove(list.ticket_at(index), list.event_at(index));
+        }
+    }
+}
+
+/// Takes the marked events out of the list, the last first.
+fn take_each(list: &mut LiveList, marks: &[bool])
+    requires live { length marks.now ≡ length list.old.live }
+    requires links { length marks.now ≡ length list.old.links }
+    ensures live { list.new.live ≡ unmarked marks.now list.old.live }
+    ensures links { list.new.links ≡ unmarked marks.now list.old.links }
+{
+    let first = unmarked_below(marks);
+    let mut index = marks.len();
+    while index > first {
+        index -= 1;
+        if marks[index] {
+            list.take_at(index);
         }
     }
 }
 
 /// Takes the marked events out of the followers of those that they follow.
-fn unlink_marked(live: &[LiveEvent], links: &mut [BoxedLinks], marks: &[bool])
-    requires rising { IsRising live.now }
-    requires size { length marks.now ≡ length live.now }
-    requires linked { Linked live.now links.old }
-    ensures thinned { AllThinned (λ t. In t (tickets_marked live.now marks.now)) links.old links.new }
-    ensures loose { (index : ℕ) → slice_get marks.now index ≡ Some true → IsLoose live.now links.old links.new index }
+fn unlink_marked(alloc: Global, list: &mut LiveList, marks: &[bool])
+    requires rising { IsRising list.old.live }
+    requires size { length marks.now ≡ length list.old.live }
+    requires linked { Linked list.old.live list.old.links }
+    ensures same { SameLive list.old list.new }
+    ensures thinned { AllThinned (λ t. In t (tickets_marked list.old.live marks.now)) list.old.links list.new.links }
+    ensures loose { (index : ℕ) → slice_get marks.now index ≡ Some true → IsLoose list.old.live list.old.links list.new.links index }
 {
-    for index in unmarked_below(marks)..live.len() {
+    for index in unmarked_below(marks)..marks.len() {
         if marks[index] {
-            unlink_at(live, links, marks, index);
+            unlink_at(alloc, list, marks, index);
         }
     }
 }
 
 /// Takes the event at this index, which is marked, out of the followers of those that it follows, and other marked ones
 /// with it.
-fn unlink_at(live: &[LiveEvent], links: &mut [BoxedLinks], marks: &[bool], index: usize)
-    requires rising { IsRising live.now }
-    requires size { length marks.now ≡ length live.now }
-    requires long { length links.old ≡ length live.now }
-    requires ordered { (i : ℕ) (m : Links) → slice_get links.old i ≡ Some m → InOrder ◌<◌ m.followers.items }
-    requires live { (m : Links) (t : ℕ) → slice_get links.old index ≡ Some m → In t m.leads.items → IsLive live.now t }
+fn unlink_at(alloc: Global, list: &mut LiveList, marks: &[bool], index: usize)
+    requires rising { IsRising list.old.live }
+    requires size { length marks.now ≡ length list.old.live }
+    requires long { length list.old.links ≡ length list.old.live }
+    requires ordered { (i : ℕ) (m : Links) → slice_get list.old.links i ≡ Some m → InOrder ◌<◌ m.followers.items }
+    requires live { (m : Links) (t : ℕ) → slice_get list.old.links index ≡ Some m → In t m.leads.items → IsLive list.old.live t }
     requires marked { slice_get marks.now index ≡ Some true }
-    ensures thinned { AllThinned (λ t. In t (tickets_marked live.now marks.now)) links.old links.new }
-    ensures loose { IsLoose live.now links.old links.new index }
+    ensures same { SameLive list.old list.new }
+    ensures thinned { AllThinned (λ t. In t (tickets_marked list.old.live marks.now)) list.old.links list.new.links }
+    ensures loose { IsLoose list.old.live list.old.links list.new.links index }
 {
-    let ticket = live[index].0;
-    for lead_index in 0..links[index].get().leads.len() {
-        let lead = links[index].get().leads[lead_index];
-        unlink_from(live, links, marks, lead, ticket);
+    let ticket = list.ticket_at(index);
+    for lead_index in 0..list.links_at(index).leads.len() {
+        let lead = list.links_at(index).leads[lead_index];
+        unlink_from(alloc, list, marks, lead, ticket);
     }
 }
 
 /// Takes the ticket, which is marked, out of the followers of the live event `lead`, and other marked ones with it.
-fn unlink_from(live: &[LiveEvent], links: &mut [BoxedLinks], marks: &[bool], lead: u64, ticket: u64)
-    requires rising { IsRising live.now }
-    requires size { length marks.now ≡ length live.now }
-    requires long { length links.old ≡ length live.now }
-    requires ordered { (i : ℕ) (m : Links) → slice_get links.old i ≡ Some m → InOrder ◌<◌ m.followers.items }
-    requires live { IsLive live.now lead }
-    requires marked { In ticket (tickets_marked live.now marks.now) }
-    ensures thinned { AllThinned (λ t. In t (tickets_marked live.now marks.now)) links.old links.new }
-    ensures out { NotBehind live.now links.new ticket lead }
+fn unlink_from(alloc: Global, list: &mut LiveList, marks: &[bool], lead: u64, ticket: u64)
+    requires rising { IsRising list.old.live }
+    requires size { length marks.now ≡ length list.old.live }
+    requires long { length list.old.links ≡ length list.old.live }
+    requires ordered { (i : ℕ) (m : Links) → slice_get list.old.links i ≡ Some m → InOrder ◌<◌ m.followers.items }
+    requires live { IsLive list.old.live lead }
+    requires marked { In ticket (tickets_marked list.old.live marks.now) }
+    ensures same { SameLive list.old list.new }
+    ensures thinned { AllThinned (λ t. In t (tickets_marked list.old.live marks.now)) list.old.links list.new.links }
+    ensures out { NotBehind list.old.live list.new.links ticket lead }
 {
-    let index = index_of_live(live, lead);
-    links[index].thin_followers(live, marks, ticket);
+    let none = SmallVec::new(alloc);
+    let mut followers = list.replace_followers(lead, none);
+    thin(list, marks, &mut followers, ticket);
+    list.replace_followers(lead, followers);
 }
 
 /// Takes the marked tickets out of these, which ascend, where this one is among them. Else they are out already.
-pub(crate) fn thin(live: &[LiveEvent], marks: &[bool], tickets: &mut Followers, ticket: u64)
-    requires rising { IsRising live.now }
-    requires size { length marks.now ≡ length live.now }
+pub(crate) fn thin(list: &LiveList, marks: &[bool], tickets: &mut Followers, ticket: u64)
+    requires rising { IsRising list.now.live }
+    requires size { length marks.now ≡ length list.now.live }
     requires ordered { InOrder ◌<◌ tickets.old.items }
-    requires marked { In ticket (tickets_marked live.now marks.now) }
-    ensures thinned { Thinned (λ t. In t (tickets_marked live.now marks.now)) tickets.old.items tickets.new.items }
+    requires marked { In ticket (tickets_marked list.now.live marks.now) }
+    ensures thinned { Thinned (λ t. In t (tickets_marked list.now.live marks.now)) tickets.old.items tickets.new.items }
     ensures gone { In ticket tickets.new.items → ⊥ }
 {
     if index_in(tickets.as_slice(), ticket).is_some() {
-        tickets.retain(|other| !is_marked(live, marks, *other));
+        tickets.retain(|other| !is_marked(list, marks, *other));
     }
 }
 

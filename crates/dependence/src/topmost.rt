@@ -9,9 +9,7 @@ ghost use Rattle.dependence.specs.internal.Tables.{IsRising, StandsAt, Falling, 
 ghost use Rattle.dependence.specs.internal.Sweeping.{StandWithin, FlagAt};
 
 use crate::accesses::add_if;
-use crate::boxed_links::BoxedLinks;
-use crate::indexes::index_of_live;
-use crate::live::LiveEvent;
+use crate::live_list::LiveList;
 use std::alloc::{AllocError, Global};
 
 /// Of these events, whose tickets ascend and which stand from the index `low` on and below `high`, those on which no
@@ -19,71 +17,69 @@ use std::alloc::{AllocError, Global};
 /// reached.
 pub(crate) fn topmost(
     alloc: Global,
-    live: &[LiveEvent],
-    links: &[BoxedLinks],
+    list: &LiveList,
     candidates: &[u64],
     low: usize,
     high: usize,
 ) -> Result<Vec<u64>, AllocError>
-    requires rising { IsRising live.now }
-    requires linked { Linked live.now links.now }
+    requires rising { IsRising list.now.live }
+    requires linked { Linked list.now.live list.now.links }
     requires order { low ≤ high }
-    requires size { high ≤ length live.now }
-    requires stand { StandWithin live.now candidates.now low high }
+    requires size { high ≤ length list.now.live }
+    requires stand { StandWithin list.now.live candidates.now low high }
     requires ascending { IsNonDecreasing candidates.now }
     ensures falling { IfOk result (λ kept. Falling kept.items) }
-    ensures topmost { IfOk result (λ kept. (t : ℕ) → In t kept.items ↔ Topmost live.now candidates.now t) }
+    ensures topmost { IfOk result (λ kept. (t : ℕ) → In t kept.items ↔ Topmost list.now.live candidates.now t) }
 {
     let mut kept = Vec::new(alloc);
     let mut flags = Vec::new(alloc);
     let mut index = high;
     while index > low {
         index -= 1;
-        let below = is_flagged(
-            live,
-            high,
-            flags.as_slice(),
-            links[index].get().followers.as_slice(),
-        );
-        let is_one = is_among(candidates, live[index].0);
+        let ticket = list.ticket_at(index);
+        let followers = list.links_at(index).followers.as_slice();
+        let below = is_flagged(list, high, flags.as_slice(), followers);
+        let is_one = is_among(candidates, ticket);
         flags.push(either(is_one, below))?;
-        add_if(alone(is_one, below), live[index].0, &mut kept)?;
+        add_if(alone(is_one, below), ticket, &mut kept)?;
     }
     Ok(kept)
 }
 
 /// From which index on and below which one these live events stand, whose tickets ascend.
-pub(crate) fn span(live: &[LiveEvent], tickets: &[u64]) -> (usize, usize)
-    requires rising { IsRising live.now }
-    requires live { (t : ℕ) → In t tickets.now → IsLive live.now t }
+pub(crate) fn span(list: &LiveList, tickets: &[u64]) -> (usize, usize)
+    requires rising { IsRising list.now.live }
+    requires live { (t : ℕ) → In t tickets.now → IsLive list.now.live t }
     requires some { 0 < length tickets.now }
     requires ascending { IsNonDecreasing tickets.now }
     ensures order { result.0 ≤ result.1 }
-    ensures size { result.1 ≤ length live.now }
-    ensures stand { StandWithin live.now tickets.now result.0 result.1 }
+    ensures size { result.1 ≤ length list.now.live }
+    ensures stand { StandWithin list.now.live tickets.now result.0 result.1 }
 {
-    let low = index_of_live(live, tickets[0]);
-    let last = index_of_live(live, tickets[tickets.len() - 1]);
+    // The length is what says that the index behind the last fits.
+    let _len = list.len();
+    let low = list.index_of_live(tickets[0]);
+    let last = list.index_of_live(tickets[tickets.len() - 1]);
     (low, last + 1)
 }
 
 /// Whether one of these live events, whose tickets ascend, stands below `high` at an index that is flagged. The flags
 /// begin at the last index. None behind the first that stands above is looked at.
-fn is_flagged(live: &[LiveEvent], high: usize, flags: &[bool], tickets: &[u64]) -> bool
-    requires rising { IsRising live.now }
-    requires live { (t : ℕ) → In t tickets.now → IsLive live.now t }
-    requires passed { (t i : ℕ) → In t tickets.now → StandsAt live.now t i → high ≤ i + length flags.now }
+fn is_flagged(list: &LiveList, high: usize, flags: &[bool], tickets: &[u64]) -> bool
+    requires rising { IsRising list.now.live }
+    requires live { (t : ℕ) → In t tickets.now → IsLive list.now.live t }
+    requires passed { (t i : ℕ) → In t tickets.now → StandsAt list.now.live t i → high ≤ i + length flags.now }
     requires ascending { InOrder ◌<◌ tickets.now }
     requires some { 0 < high }
-    requires size { high ≤ length live.now }
-    ensures { IsTrue result ↔ ((t : ℕ) × In t tickets.now × FlagAt live.now high flags.now t) }
+    requires size { high ≤ length list.now.live }
+    ensures { IsTrue result ↔ ((t : ℕ) × In t tickets.now × FlagAt list.now.live high flags.now t) }
 {
-    let last = live[high - 1].0;
+    let last = list.ticket_at(high - 1);
     for ticket in tickets {
         if *ticket > last {
             return false;
         }
-        let index = index_of_live(live, *ticket);
+        let index = list.index_of_live(*ticket);
         if flags[high - 1 - index] {
             return true;
         }

@@ -8,24 +8,23 @@ ghost use Rattle.dependence.specs.internal.Tables.{IsRising, Falling, Linked, To
 ghost use Rattle.dependence.specs.internal.Sweeping.{IsUnreached};
 
 use crate::accesses::add_if;
-use crate::boxed_links::BoxedLinks;
-use crate::live::LiveEvent;
+use crate::live_list::LiveList;
 use crate::whole::least_dependent;
 use std::alloc::{AllocError, Global};
 
 /// Whether the first dependent of each of these events, if it has one, stands behind all of them. Then none of them
 /// depends on another.
-pub(crate) fn are_unreached(live: &[LiveEvent], links: &[BoxedLinks], tickets: &[u64]) -> bool
-    requires rising { IsRising live.now }
-    requires linked { Linked live.now links.now }
-    requires live { (t : ℕ) → In t tickets.now → IsLive live.now t }
+pub(crate) fn are_unreached(list: &LiveList, tickets: &[u64]) -> bool
+    requires rising { IsRising list.now.live }
+    requires linked { Linked list.now.live list.now.links }
+    requires live { (t : ℕ) → In t tickets.now → IsLive list.now.live t }
     requires some { 0 < length tickets.now }
     requires ascending { IsNonDecreasing tickets.now }
-    ensures { result ≡ true → (t : ℕ) → In t tickets.now → Topmost live.now tickets.now t }
+    ensures { result ≡ true → (t : ℕ) → In t tickets.now → Topmost list.now.live tickets.now t }
 {
     let last = tickets[tickets.len() - 1];
     for ticket in tickets {
-        if !is_unreached(live, links, *ticket, last) {
+        if !is_unreached(list, *ticket, last) {
             return false;
         }
     }
@@ -33,13 +32,13 @@ pub(crate) fn are_unreached(live: &[LiveEvent], links: &[BoxedLinks], tickets: &
 }
 
 /// Whether the first dependent of the live event, if it has one, has a greater ticket than `last`.
-fn is_unreached(live: &[LiveEvent], links: &[BoxedLinks], ticket: u64, last: u64) -> bool
-    requires rising { IsRising live.now }
-    requires linked { Linked live.now links.now }
-    requires live { IsLive live.now ticket }
-    ensures { result ≡ true → IsUnreached live.now last ticket }
+fn is_unreached(list: &LiveList, ticket: u64, last: u64) -> bool
+    requires rising { IsRising list.now.live }
+    requires linked { Linked list.now.live list.now.links }
+    requires live { IsLive list.now.live ticket }
+    ensures { result ≡ true → IsUnreached list.now.live last ticket }
 {
-    match least_dependent(live, links, ticket) {
+    match least_dependent(list, ticket) {
         Some(first) => is_less(last, first),
         None => true,
     }

@@ -1,5 +1,5 @@
 // The tables as one: what is asked of them, an event more, an event less.
-ghost use Rattle.std.specs.Prelude.{◌≡◌, ◌<◌, ◌++◌, ◌∷◌, [], ℕ, vec_len, MatchOption, IfErr, OnOk, OnErr};
+ghost use Rattle.std.specs.Prelude.{◌≡◌, ◌<◌, ◌++◌, ◌∷◌, [], ℕ, vec_len, MatchOption, IfOk, IfErr, OnOk, OnErr};
 ghost use Rattle.std.specs.Vec.{vec_capacity};
 ghost use Rattle.runs.specs.Dependence.{Without};
 ghost use Rattle.runs.specs.Live.{Rising, LiveAt, NoDependent, FirstDependent, WithoutTickets, IsLive, LastWriter, NoWriter};
@@ -11,10 +11,9 @@ ghost use Rattle.dependence.specs.internal.Tabled.{IsTabled, TablesOf, MoreTable
 ghost use Rattle.dependence.specs.internal.Whole.{IsWhole, IsEntered};
 
 use crate::accesses::NewEvent;
-use crate::boxed_links::BoxedLinks;
-use crate::entries::{leads_of, link_new, make_room, push_pair, take_out};
-use crate::indexes::index_of_live;
-use crate::live::LiveEvent;
+use crate::entries::{leads_of, make_room, push_event, take_out};
+use crate::links::link_all;
+use crate::live_list::LiveList;
 use crate::puts::put_places;
 use crate::tables::Tables;
 use runs::{Event, writes};
@@ -22,52 +21,46 @@ use std::alloc::{AllocError, Global};
 use syntax::Boxed;
 
 /// The tickets of the followers of the live event of this ticket.
-pub(crate) fn followers_of<'a>(
-    live: &[LiveEvent],
-    links: &'a [BoxedLinks],
-    ticket: u64,
-) -> &'a [u64]
-    requires rising { IsRising live.now }
-    requires linked { Linked live.now links.now }
-    requires live { IsLive live.now ticket }
-    ensures { ListsFollowers live.now ticket result.now }
+pub(crate) fn followers_of<'a>(list: &'a LiveList, ticket: u64) -> &'a [u64]
+    requires rising { IsRising list.now.live }
+    requires linked { Linked list.now.live list.now.links }
+    requires live { IsLive list.now.live ticket }
+    ensures { ListsFollowers list.now.live ticket result.now }
 {
-    let index = index_of_live(live, ticket);
-    links[index].get().followers.as_slice()
+    list.links_of(ticket).followers.as_slice()
 }
 
 /// The tickets of the live events that the one of this ticket follows.
-pub(crate) fn leads_at<'a>(live: &[LiveEvent], links: &'a [BoxedLinks], ticket: u64) -> &'a [u64]
-    requires rising { IsRising live.now }
-    requires linked { Linked live.now links.now }
-    requires live { IsLive live.now ticket }
-    ensures { ListsLeads live.now ticket result.now }
+pub(crate) fn leads_at<'a>(list: &'a LiveList, ticket: u64) -> &'a [u64]
+    requires rising { IsRising list.now.live }
+    requires linked { Linked list.now.live list.now.links }
+    requires live { IsLive list.now.live ticket }
+    ensures { ListsLeads list.now.live ticket result.now }
 {
-    let index = index_of_live(live, ticket);
-    links[index].get().leads.as_slice()
+    list.links_of(ticket).leads.as_slice()
 }
 
 /// The least ticket of another live event that depends on the one of this ticket.
-pub(crate) fn least_dependent(live: &[LiveEvent], links: &[BoxedLinks], ticket: u64) -> Option<u64>
-    requires rising { IsRising live.now }
-    requires linked { Linked live.now links.now }
-    requires live { IsLive live.now ticket }
-    ensures { MatchOption result (NoDependent live.now ticket) (λ u. FirstDependent live.now ticket u) }
+pub(crate) fn least_dependent(list: &LiveList, ticket: u64) -> Option<u64>
+    requires rising { IsRising list.now.live }
+    requires linked { Linked list.now.live list.now.links }
+    requires live { IsLive list.now.live ticket }
+    ensures { MatchOption result (NoDependent list.now.live ticket) (λ u. FirstDependent list.now.live ticket u) }
 {
-    followers_of(live, links, ticket).first().copied()
+    followers_of(list, ticket).first().copied()
 }
 
 /// The ticket of the last live event that writes the variable. The last of all is looked at itself, since the table is
 /// asked below a ticket, and none may be above the greatest.
-pub(crate) fn last_writer(live: &[LiveEvent], tables: &Tables, variable: u32) -> Option<u64>
-    requires rising { IsRising live.now }
-    requires tables { TablesOf live.now tables.now }
-    ensures { MatchOption result (NoWriter live.now variable) (λ t. LastWriter live.now variable t) }
+pub(crate) fn last_writer(list: &LiveList, tables: &Tables, variable: u32) -> Option<u64>
+    requires rising { IsRising list.now.live }
+    requires tables { TablesOf list.now.live tables.now }
+    ensures { MatchOption result (NoWriter list.now.live variable) (λ t. LastWriter list.now.live variable t) }
 {
-    let Some(last) = live.last() else {
+    let Some(last) = list.last() else {
         return None;
     };
-    if writes(last.1.get(), variable) {
+    if writes(last.1, variable) {
         return Some(last.0);
     }
     tables.writers.last(variable, last.0)
@@ -76,92 +69,92 @@ pub(crate) fn last_writer(live: &[LiveEvent], tables: &Tables, variable: u32) ->
 /// Adds an event under a ticket that is greater than every live one. Without memory for it nothing has changed.
 pub(crate) fn add_event(
     alloc: Global,
-    pairs: &mut Vec<LiveEvent>,
-    links: &mut Vec<BoxedLinks>,
+    list: &mut LiveList,
     marks: &mut Vec<bool>,
     tables: &mut Tables,
     ticket: u64,
     event: Boxed<Event>,
 ) -> Result<(), Boxed<Event>>
-    requires whole { IsWhole pairs.old.items links.old.items marks.old.items }
-    requires tabled { IsTabled pairs.old.items tables.old }
-    requires above { (t : ℕ) (e : Event) → LiveAt pairs.old.items t e → t < ticket }
-    requires behind { ComesBehind pairs.old.items event }
-    ensures whole { IsWhole pairs.new.items links.new.items marks.new.items }
-    ensures tabled { IsTabled pairs.new.items tables.new }
-    ensures added { OnOk result ((pairs.new.items ≡ pairs.old.items ++ (ticket, event) ∷ [])
-        × (tickets_marked pairs.new.items marks.new.items ≡ tickets_marked pairs.old.items marks.old.items)) }
-    ensures refused { IfErr result (λ back. (back ≡ event) × (pairs.new.items ≡ pairs.old.items)
+    requires whole { IsWhole list.old.live list.old.links marks.old.items }
+    requires tabled { IsTabled list.old.live tables.old }
+    requires above { (t : ℕ) (e : Event) → LiveAt list.old.live t e → t < ticket }
+    requires behind { ComesBehind list.old.live event }
+    ensures whole { IsWhole list.new.live list.new.links marks.new.items }
+    ensures tabled { IsTabled list.new.live tables.new }
+    ensures added { OnOk result ((list.new.live ≡ list.old.live ++ (ticket, event) ∷ [])
+        × (tickets_marked list.new.live marks.new.items ≡ tickets_marked list.old.live marks.old.items)) }
+    ensures refused { IfErr result (λ back. (back ≡ event) × (list.new.live ≡ list.old.live)
         × (marks.new.items ≡ marks.old.items)) }
 {
-    let entered = enter(alloc, pairs, links, marks, tables, ticket, event.get());
-    if entered.is_err() {
-        tables.remove(ticket, event.get());
-        return Err(event);
+    match enter(alloc, list, marks, tables, ticket, event.get()) {
+        Ok(leads) => {
+            push_event(list, marks, ticket, event, leads);
+            Ok(())
+        }
+        Err(_) => {
+            tables.remove(ticket, event.get());
+            Err(event)
+        }
     }
-    push_pair(pairs, marks, ticket, event);
-    Ok(())
 }
 
-/// Puts an event into the tables and links it to those that it follows, and makes room for it and its mark. Without
-/// memory for all that, what there is memory for is in the tables, and nothing is linked.
+/// Puts an event into the tables and the followers of those that it follows, and makes room for it and its mark; what it
+/// follows. Without memory for all that, what there is memory for is in the tables, and nothing is linked.
 fn enter(
     alloc: Global,
-    pairs: &mut Vec<LiveEvent>,
-    links: &mut Vec<BoxedLinks>,
+    list: &mut LiveList,
     marks: &mut Vec<bool>,
     tables: &mut Tables,
     ticket: u64,
     event: &Event,
-) -> Result<(), AllocError>
-    requires rising { Rising 0 pairs.old.items ticket }
-    requires linked { Linked pairs.old.items links.old.items }
-    requires tabled { IsTabled pairs.old.items tables.old }
-    requires behind { ComesBehind pairs.old.items event.now }
-    ensures pairs { pairs.new.items ≡ pairs.old.items }
+) -> Result<Vec<u64>, AllocError>
+    requires rising { Rising 0 list.old.live ticket }
+    requires linked { Linked list.old.live list.old.links }
+    requires tabled { IsTabled list.old.live tables.old }
+    requires behind { ComesBehind list.old.live event.now }
+    ensures live { list.new.live ≡ list.old.live }
     ensures marks { marks.new.items ≡ marks.old.items }
     ensures more { MoreTables tables.old ticket event.now tables.new }
-    ensures entered { OnOk result (IsEntered pairs.old.items ticket event.now links.new.items tables.new) }
-    ensures room { OnOk result ((vec_len pairs.new < vec_capacity pairs.new)
-        × (vec_len marks.new < vec_capacity marks.new)) }
-    ensures refused { OnErr result (Linked pairs.old.items links.new.items) }
+    ensures entered { IfOk result (λ leads.
+        IsEntered list.old.live ticket event.now leads.items list.new.links tables.new) }
+    ensures room { OnOk result ((0 < list.new.room) × (vec_len marks.new < vec_capacity marks.new)) }
+    ensures refused { OnErr result (Linked list.old.live list.new.links) }
 {
     let mut found = Vec::new(alloc);
     put_places(&mut tables.places, ticket, event, &mut found)?;
     let new = NewEvent {
-        live: pairs.as_slice(),
+        list,
         tables,
         ticket,
         event,
     };
-    let leads = leads_of(alloc, links.as_slice(), &new, found)?;
-    make_room(pairs, links, marks)?;
+    let leads = leads_of(alloc, &new, found)?;
+    make_room(list, marks)?;
     tables.put_uses(ticket, event)?;
-    link_new(alloc, pairs.as_slice(), links, leads, ticket)
+    link_all(list, leads.as_slice(), ticket)?;
+    Ok(leads)
 }
 
 /// Takes out the live event of this ticket, on which no other live event depends, with its mark.
 pub(crate) fn take_event(
-    pairs: &mut Vec<LiveEvent>,
-    links: &mut Vec<BoxedLinks>,
+    list: &mut LiveList,
     marks: &mut Vec<bool>,
     tables: &mut Tables,
     ticket: u64,
 ) -> Event
-    requires whole { IsWhole pairs.old.items links.old.items marks.old.items }
-    requires tabled { IsTabled pairs.old.items tables.old }
-    requires live { IsLive pairs.old.items ticket }
-    requires alone { NoDependent pairs.old.items ticket }
-    ensures whole { IsWhole pairs.new.items links.new.items marks.new.items }
-    ensures tabled { IsTabled pairs.new.items tables.new }
-    ensures event { LiveAt pairs.old.items ticket result }
-    ensures live { WithoutTickets (λ t. t ≡ ticket) pairs.old.items pairs.new.items }
+    requires whole { IsWhole list.old.live list.old.links marks.old.items }
+    requires tabled { IsTabled list.old.live tables.old }
+    requires live { IsLive list.old.live ticket }
+    requires alone { NoDependent list.old.live ticket }
+    ensures whole { IsWhole list.new.live list.new.links marks.new.items }
+    ensures tabled { IsTabled list.new.live tables.new }
+    ensures event { LiveAt list.old.live ticket result }
+    ensures live { WithoutTickets (λ t. t ≡ ticket) list.old.live list.new.live }
     ensures marked { Without
         (λ t. t
-        ≡ ticket) (tickets_marked pairs.old.items marks.old.items) (tickets_marked pairs.new.items marks.new.items) }
+        ≡ ticket) (tickets_marked list.old.live marks.old.items) (tickets_marked list.new.live marks.new.items) }
 {
-    let index = index_of_live(pairs.as_slice(), ticket);
-    let event = take_out(pairs, links, index);
+    let (index, event) = take_out(list, ticket);
     tables.remove(ticket, &event);
     marks.remove(index);
     event

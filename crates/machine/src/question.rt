@@ -6,7 +6,7 @@ ghost use Rattle.machine.specs.Results.{live_reply, value_reply};
 ghost use Rattle.machine.specs.internal.Histories.{execution, Holds};
 
 use crate::history::History;
-use dependence::LiveEvent;
+use dependence::Live;
 use runs::{Command, Event};
 use std::alloc::{AllocError, Global};
 use syntax::Items;
@@ -19,7 +19,7 @@ impl History {
             IfOk result (λ live.
             Does (execution system self.now) Command.Live (live_reply (Ok live)) (execution system self.now)) }
     {
-        copy_live(alloc, self.live.as_slice())
+        copy_live(alloc, &self.live)
     }
 
     /// The value of the variable now, `None` where there is no such variable.
@@ -35,12 +35,12 @@ impl History {
 }
 
 /// Copies of the live events.
-fn copy_live(alloc: Global, live: &[LiveEvent]) -> Result<Items<(u64, Event)>, AllocError>
-    ensures { IfOk result (λ copies. copies ≡ live.now) }
+fn copy_live(alloc: Global, live: &Live) -> Result<Items<(u64, Event)>, AllocError>
+    ensures { IfOk result (λ copies. copies ≡ live.now.live) }
 {
     let mut copies = Items::with_capacity(alloc, live.len())?;
-    for entry in live {
-        copies.push((entry.0, entry.1.get().copy(alloc)?))?;
+    for (ticket, event) in live.iter() {
+        copies.push((ticket, event.copy(alloc)?))?;
     }
     Ok(copies)
 }

@@ -38,8 +38,7 @@ fn bars_of(alloc: Global, figure: &Figure<'_>) -> Result<Vec<Bar>, AllocError> {
     let mut bars = Vec::new(alloc);
     let mut open_bars = vec![in alloc; None; figure.scene.system.channels.len()]?;
     let mut levels = vec![in alloc; 0; figure.columns.len()]?;
-    for (index, entry) in figure.scene.live.as_slice().iter().enumerate() {
-        let event = entry.1.get();
+    for (index, (_, event)) in figure.scene.live.iter().enumerate() {
         let ends = ends_of(figure.columns, figure.scene.actions(index), event);
         match event.kind {
             Kind::Open => {

@@ -130,13 +130,12 @@ pub(crate) fn set_apart(
     let mut needs = vec![in alloc; 420; columns.len()]?;
     let mut spans = Vec::new(alloc);
     let mut words = Words::new(alloc);
-    for (index, entry) in scene.live.as_slice().iter().enumerate() {
-        let event = entry.1.get();
+    for (index, (ticket, event)) in scene.live.iter().enumerate() {
         if scene.shows(event) {
             let actions = scene.actions(index);
             words.tell(scene, event, actions)?;
             if let Some(ends) = ends_of(columns, actions, event) {
-                let number = digits_width(entry.0);
+                let number = digits_width(ticket);
                 want(
                     needs.as_mut_slice(),
                     &mut spans,

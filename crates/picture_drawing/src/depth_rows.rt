@@ -63,10 +63,9 @@ pub(crate) fn rows_of(
 /// The row of each event: the length of the longest chain of events that are drawn and led to it.
 fn seen_depths(alloc: Global, scene: &Scene<'_>) -> Result<Vec<usize>, AllocError> {
     let mut rows = vec![in alloc; 0; scene.live.len()]?;
-    for (index, entry) in scene.live.as_slice().iter().enumerate() {
-        let behind = own_depth(rows.as_slice(), index).saturating_add(usize::from(scene.shows(
-            entry.1.get(),
-        )));
+    for (index, (_, event)) in scene.live.iter().enumerate() {
+        let drawn = usize::from(scene.shows(event));
+        let behind = own_depth(rows.as_slice(), index).saturating_add(drawn);
         push_down(rows.as_mut_slice(), index, scene.ahead(index), behind);
     }
     Ok(rows)
@@ -95,12 +94,11 @@ fn reaches_of(
 ) -> Result<Vec<(u64, u64)>, AllocError> {
     let mut reaches = Vec::with_capacity(alloc, scene.live.len())?;
     let mut words = Words::new(alloc);
-    for (index, entry) in scene.live.as_slice().iter().enumerate() {
-        let event = entry.1.get();
+    for (index, (ticket, event)) in scene.live.iter().enumerate() {
         let actions = scene.actions(index);
         words.tell(scene, event, actions)?;
         let reach = match ends_of(columns, actions, event) {
-            Some(ends) => reach_of(columns, ends, event, &words, digits_width(entry.0)),
+            Some(ends) => reach_of(columns, ends, event, &words, digits_width(ticket)),
             None => (0, 0),
         };
         reaches.push(reach)?;
@@ -148,8 +146,7 @@ fn placed_of(
     reaches: &[(u64, u64)],
 ) -> Result<Vec<Placed>, AllocError> {
     let mut placed = Vec::new(alloc);
-    for (index, entry) in scene.live.as_slice().iter().enumerate() {
-        let event = entry.1.get();
+    for (index, (_, event)) in scene.live.iter().enumerate() {
         if scene.shows(event) {
             let (low, high) = reaches.get(index).copied().unwrap_or((0, 0));
             placed.push(Placed {

@@ -29,8 +29,8 @@ pub(crate) fn draw_links(
     let mut seen = vec![in alloc; 0; figure.scene.live.len()]?;
     let mut work = Vec::new(alloc);
     let mut found = Vec::new(alloc);
-    for (index, entry) in figure.scene.live.as_slice().iter().enumerate() {
-        if figure.scene.shows(entry.1.get()) {
+    for (index, (_, event)) in figure.scene.live.iter().enumerate() {
+        if figure.scene.shows(event) {
             find_followers(figure, index, seen.as_mut_slice(), &mut work, &mut found)?;
             draw_found(sheet, figure, index, found.as_slice())?;
         }

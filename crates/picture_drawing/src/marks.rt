@@ -36,10 +36,9 @@ pub(crate) fn draw_marks(
         number: Vec::new(alloc),
         text: Vec::new(alloc),
     };
-    for (index, entry) in figure.scene.live.as_slice().iter().enumerate() {
-        let event = entry.1.get();
+    for (index, (ticket, event)) in figure.scene.live.iter().enumerate() {
         if figure.scene.shows(event) {
-            draw_event(sheet, figure, &mut scratch, index, entry.0, event)?;
+            draw_event(sheet, figure, &mut scratch, index, ticket, event)?;
         }
     }
     Ok(())

@@ -34,8 +34,7 @@ pub(crate) fn draw_trails(
         is_joined: true,
     };
     let mut trails = vec![in alloc; start; figure.columns.len()]?;
-    for (index, entry) in figure.scene.live.as_slice().iter().enumerate() {
-        let event = entry.1.get();
+    for (index, (_, event)) in figure.scene.live.iter().enumerate() {
         if let Some(ends) = ends_of(figure.columns, figure.scene.actions(index), event) {
             follow(
                 sheet,

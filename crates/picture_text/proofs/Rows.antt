@@ -19,12 +19,15 @@ all-rows {X} f xs ys k e b same past is =
     subst (λ (left : List X). with_values e (map f left) ≡ with_values b (map f ys)) (drop-all ys k past) is
     ∙ ap (λ (all : List X). with_values b (map f all)) same
 
-pub all-event-rows : (system : System) (steps : Steps) (l m : Live) (k : ℕ) (e b : Growing) → m ≡ l → length m ≤ k →
-    with_values e (event_rows system steps k (drop k m)) ≡ with_values b (event_rows system steps 0 m) →
-    e ≡ with_values b (event_rows system steps 0 l)
-all-event-rows system steps l m k e b same past is =
-    subst (λ (left : Live). with_values e (event_rows system steps k left) ≡ with_values b (event_rows system steps 0 m)) (drop-all m k past) is
-    ∙ ap (λ (all : Live). with_values b (event_rows system steps 0 all)) same
+-- where no element is left they are
+pub none-left : {X : Type 0} (f : X → List ℕ) (xs left : List X) (e b : Growing) → left ≡ [] →
+    with_values e (map f left) ≡ with_values b (map f xs) → e ≡ with_values b (map f xs)
+none-left {X} f xs left e b none is = subst (λ (rest : List X). with_values e (map f rest) ≡ with_values b (map f xs)) none is
+
+pub all-event-rows : (system : System) (steps : Steps) (l left : Live) (k : ℕ) (e b : Growing) → left ≡ [] →
+    with_values e (event_rows system steps k left) ≡ with_values b (event_rows system steps 0 l) → e ≡ with_values b (event_rows system steps 0 l)
+all-event-rows system steps l left k e b none is =
+    subst (λ (rest : Live). with_values e (event_rows system steps k rest) ≡ with_values b (event_rows system steps 0 l)) none is
 
 pub all-ready-rows : (system : System) (actions : List Actions) (es fs : List Event) (k : ℕ) (e b : Growing) → fs ≡ es → length fs ≤ k →
     with_values e (ready_rows system actions k (drop k fs)) ≡ with_values b (ready_rows system actions 0 fs) →

@@ -36,8 +36,8 @@ fn add_all_tickets(json: &mut Json, live: &Live) -> Result<(), AllocError>
     ensures { OnOk result (json.new ≡ with_value json.old (list_text (model.ticket_texts live.now.live))) }
 {
     json.open_list()?;
-    for entry in live.as_slice() {
-        json.number(entry.0)?;
+    for (ticket, _) in live.iter() {
+        json.number(ticket)?;
     }
     json.close_list()
 }
@@ -46,8 +46,8 @@ fn add_all_tickets(json: &mut Json, live: &Live) -> Result<(), AllocError>
 fn are_counted(live: &Live) -> bool
     ensures { result ≡ model.are_counted 1 live.now.live }
 {
-    for (index, entry) in live.as_slice().iter().enumerate() {
-        if entry.0 != index as u64 + 1 {
+    for (index, (ticket, _)) in live.iter().enumerate() {
+        if ticket != index as u64 + 1 {
             return false;
         }
     }
@@ -67,8 +67,8 @@ pub(crate) fn add_events(
 {
     json.name("events")?;
     json.open_list()?;
-    for (index, entry) in live.as_slice().iter().enumerate() {
-        add_row(json, system, steps, index, entry.1.get(), scratch)?;
+    for (index, (_, event)) in live.iter().enumerate() {
+        add_row(json, system, steps, index, event, scratch)?;
     }
     json.close_list()
 }

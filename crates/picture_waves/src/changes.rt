@@ -55,10 +55,10 @@ pub(crate) fn changes_of(
     places: &[Place],
 ) -> Result<Vec<Change>, AllocError> {
     let mut changes = Vec::new(alloc);
-    for (index, entry) in live.as_slice().iter().enumerate() {
+    for (index, (_, event)) in live.iter().enumerate() {
         let depth = steps.depths.get(index).copied().unwrap_or(0);
         let since = steps.since.get(index).copied().unwrap_or((0, 0));
-        add_event(&mut changes, system, entry.1.get(), depth, since)?;
+        add_event(&mut changes, system, event, depth, since)?;
     }
     for place in places {
         add_place(&mut changes, system, place)?;

@@ -17,7 +17,7 @@ use crate::Fault;
 use crate::version::SECOND;
 use address::{Address, Entry};
 use canonical_order::canonical_order;
-use dependence::{Live, LiveEvent};
+use dependence::Live;
 use devices::{CountedWrite, write_out};
 use itoa::Buffer;
 use machine::Machine;
@@ -64,22 +64,24 @@ fn write_events(alloc: Global, live: &Live) -> Result<Vec<u8>, AllocError>
     ensures lines { OnOk result (Every (λ e. IsWritable (choice_of e)) (events live.now.live)) }
 {
     let order = canonical_order(alloc, live)?;
-    let entries = live.as_slice();
     let mut out = Vec::new(alloc);
     add_bytes(&mut out, SECOND)?;
     add_bytes(&mut out, b"\n")?;
     for index in order.as_slice() {
-        add_line(&mut out, event_at(entries, *index))?;
+        add_line(&mut out, event_at(live, *index))?;
     }
     Ok(out)
 }
 
 /// The event at an index.
-fn event_at(live: &[LiveEvent], index: usize) -> &Event
-    requires { index < length live.now }
-    ensures { (t : ℕ) × (slice_get live.now index ≡ Some (t, result.now)) }
+fn event_at(live: &Live, index: usize) -> &Event
+    requires { index < length live.now.live }
+    ensures { (t : ℕ) × (slice_get live.now.live index ≡ Some (t, result.now)) }
 {
-    live[index].1.get()
+    match live.pair_at(index as u64) {
+        Some((_, event)) => event,
+        None => unreachable!(),
+    }
 }
 
 /// Adds the line of the event behind what is there.

@@ -91,9 +91,8 @@ impl Session {
         }
         let left = self.tickets()?;
         self.expect(beside.as_slice() == left.as_slice(), "keep_unmarked", ticket)?;
-        let shown = self.live.as_slice();
-        let is_left = shown.len() == left.len() && (0..left.len()).all(|k| shown[k].0 == left[k]);
-        self.expect(is_left, "take_marked", ticket)?;
+        let shown = self.listed()?;
+        self.expect(shown.as_slice() == left.as_slice(), "take_marked", ticket)?;
         self.expect(self.live.last_marked().is_none(), "take_marked", ticket)
     }
 
@@ -105,8 +104,19 @@ impl Session {
         Ok(tickets)
     }
 
+    /// The tickets of the live events, as `iter` gives them.
+    fn listed(&self) -> io::Result<Vec<u64>> {
+        let mut tickets = Vec::new(self.alloc);
+        for (ticket, _) in self.live.iter() {
+            tickets.push(ticket)?;
+        }
+        Ok(tickets)
+    }
+
     /// Compares all answers.
     pub fn look_at_all(&mut self) -> io::Result<()> {
+        let is_listed = self.listed()?.as_slice() == self.tickets()?.as_slice();
+        self.expect(is_listed, "iter", self.last)?;
         for place in 0..self.plain.len() {
             self.look_at(place)?;
         }

@@ -88,14 +88,11 @@ fn each_round_of_a_loop_has_the_line_of_its_own_arm(rt: HostRuntime) -> Result<(
     for _ in 0..3 * ROUNDS {
         reply_to(&mut desk, 0, &Command::Branch(0))?;
     }
-    let live = desk.machine().live_events().as_slice();
+    let live = desk.machine().live_events();
     assert_eq!(rt; live.len() as u64, 3 * ROUNDS);
-    for (index, entry) in live.iter().enumerate() {
+    for (index, (_, event)) in live.iter().enumerate() {
         let line = TWO_ROUNDS[index % TWO_ROUNDS.len()];
-        assert_eq!(rt;
-            desk.machine().line(entry.1.get().acting_place()),
-            Some(line)
-        );
+        assert_eq!(rt; desk.machine().line(event.acting_place()), Some(line));
     }
     let earlier = place(rt.alloc(), b"/0.397.1")?;
     let last = place(rt.alloc(), b"/0.399.1")?;

@@ -3,7 +3,7 @@ use Rattle.std.proofs.Common.{◌≡◌, ◌≢◌, ◌↔◌, inl, inr, ℕ, ze
 use Rattle.std.specs.Prelude.{slice_get, slice_set}
 use Rattle.std.specs.List.{remove}
 use Rattle.std.proofs.lemmas.Bool.{cases_eq}
-use Rattle.std.proofs.lemmas.Option.{slice_get_within, slice_get-get_or}
+use Rattle.std.proofs.lemmas.Option.{get_or_from_slice_get, slice_get_within, slice_get-get_or}
 use Rattle.syntax.specs.Lists.{In}
 use Rattle.runs.specs.InOrder.{InOrder}
 use Rattle.runs.specs.Live.{Live, Rising, LiveAt, NoneAt}
@@ -296,6 +296,9 @@ linked-here l links index r p less =
     }
 
 -- what the tables list at the index of a ticket
+pub linked-there : (l : Live) (links : List Links) (index : ℕ) (m : Links) → Linked l links → index < length l → slice_get links index ≡ Some m → LinkedHere l index m
+linked-there l links index m p less on = subst (λ (k : Links). LinkedHere l index k) (get_or_from_slice_get links index m m on) (linked-here l links index m p less)
+
 pub followers-at : (l : Live) (links : List Links) (t index : ℕ) (e : Event) (m : Links) → Linked l links → slice_get l index ≡ Some (t, e) → m ≡ get_or links index m →
     ListsFollowers l t m.followers.items
 followers-at l links t index e m p at is =

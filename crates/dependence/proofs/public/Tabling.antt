@@ -451,3 +451,7 @@ err-weaker (Err e) f p = f p
 pub on-ok-of : {A E : Type 0} (r : Result A E) (P : Type 0) → P → OnOk r P
 on-ok-of (Ok x) P p = p
 on-ok-of (Err e) P p = tt
+
+pub on-err-of : {A E : Type 0} (r : Result A E) (P : Type 0) → P → OnErr r P
+on-err-of (Ok x) P p = tt
+on-err-of (Err e) P p = p

@@ -73,8 +73,8 @@ UsesWritten l f t = (x : ℕ) × (f.written ≡ Some x) × (LastWriter l x t ⊎
 
 -- the new event's ticket is greater than the live ones, and the tables hold their uses
 pub record IsNewEvent (new : NewEvent) : Type 0 where
-  pub rising : Rising 0 new.live.now new.ticket
-  pub tables : UsesOf new.live.now new.tables.now
+  pub rising : Rising 0 new.list.now.live new.ticket
+  pub tables : UsesOf new.list.now.live new.tables.now
 
 -- the event of ticket t is live, and f depends directly on it
 abbrev pub IsDirect : Live → Event → ℕ → Type 0

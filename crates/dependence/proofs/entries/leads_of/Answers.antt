@@ -15,9 +15,9 @@ returns-then-len-le1 c =
       falling = few-falling c.add_by_variables.new.found.items few;
       topmost = (
         c.add_by_variables.new.found.items,
-        (candidates-found c.args.new.now.live.now c.args.new.now.ticket c.args.new.now.event.now c.requires.found.0 c.requires.new.rising c.requires.found.1 c.requires.behind
+        (candidates-found c.args.new.now.list.now.live c.args.new.now.ticket c.args.new.now.event.now c.requires.found.0 c.requires.new.rising c.requires.found.1 c.requires.behind
             c.args.found.items c.add_by_variables.new.found.items c.requires.found.2 c.in_ok-add_by_variables.ensures),
-        few-topmost c.args.new.now.live.now c.add_by_variables.new.found.items few,
+        few-topmost c.args.new.now.list.now.live c.add_by_variables.new.found.items few,
       );
     }
 
@@ -30,8 +30,8 @@ are_unreached-requires c =
     record {
       rising = (new.ticket, c.requires.new.rising);
       linked = c.requires.linked;
-      live = candidates-live new.live.now new.event.now c.as_slice-tickets.result.now sorted c.as_slice-tickets.ensures.value
-          (candidates-alike new.live.now new.event.now c.add_by_variables.new.found.items sorted c.ascending-sorted.ensures.same (candidates-found c.args.new.now.live.now c.args.new.now.ticket c.args.new.now.event.now c.requires.found.0 c.requires.new.rising c.requires.found.1 c.requires.behind
+      live = candidates-live new.list.now.live new.event.now c.as_slice-tickets.result.now sorted c.as_slice-tickets.ensures.value
+          (candidates-alike new.list.now.live new.event.now c.add_by_variables.new.found.items sorted c.ascending-sorted.ensures.same (candidates-found c.args.new.now.list.now.live c.args.new.now.ticket c.args.new.now.event.now c.requires.found.0 c.requires.new.rising c.requires.found.1 c.requires.behind
           c.args.found.items c.add_by_variables.new.found.items c.requires.found.2 c.in_ok-add_by_variables.ensures));
       some = omega (arith, c.add_by_variables.new.found.ok);
       ascending = subst (λ (k : List ℕ). IsNonDecreasing k) (sym c.as_slice-tickets.ensures.value) c.ascending-sorted.ensures.ascending;
@@ -49,9 +49,9 @@ returns-then-are_unreached c =
       falling = c.falling.ensures.falling;
       topmost = IfOk-weaker c.falling.result _ _ (λ kept same. (
         sorted,
-        candidates-alike new.live.now new.event.now c.add_by_variables.new.found.items sorted c.ascending-sorted.ensures.same (candidates-found c.args.new.now.live.now c.args.new.now.ticket c.args.new.now.event.now c.requires.found.0 c.requires.new.rising c.requires.found.1 c.requires.behind
+        candidates-alike new.list.now.live new.event.now c.add_by_variables.new.found.items sorted c.ascending-sorted.ensures.same (candidates-found c.args.new.now.list.now.live c.args.new.now.ticket c.args.new.now.event.now c.requires.found.0 c.requires.new.rising c.requires.found.1 c.requires.behind
             c.args.found.items c.add_by_variables.new.found.items c.requires.found.2 c.in_ok-add_by_variables.ensures),
-        λ t. subst (λ (k : List ℕ). In t kept.items ↔ Topmost new.live.now k t) c.as_slice-tickets.ensures.value (
+        λ t. subst (λ (k : List ℕ). In t kept.items ↔ Topmost new.list.now.live k t) c.as_slice-tickets.ensures.value (
           (λ i. tops t ((same t).0 i)),
           (λ top. (same t).1 top.0),
         ),
@@ -66,8 +66,8 @@ span-low-requires c =
     let size : length sorted ≡ length c.add_by_variables.new.found.items = c.ascending-sorted.ensures.length in
     record {
       rising = (new.ticket, c.requires.new.rising);
-      live = candidates-live new.live.now new.event.now c.as_slice-tickets.result.now sorted c.as_slice-tickets.ensures.value
-          (candidates-alike new.live.now new.event.now c.add_by_variables.new.found.items sorted c.ascending-sorted.ensures.same (candidates-found c.args.new.now.live.now c.args.new.now.ticket c.args.new.now.event.now c.requires.found.0 c.requires.new.rising c.requires.found.1 c.requires.behind
+      live = candidates-live new.list.now.live new.event.now c.as_slice-tickets.result.now sorted c.as_slice-tickets.ensures.value
+          (candidates-alike new.list.now.live new.event.now c.add_by_variables.new.found.items sorted c.ascending-sorted.ensures.same (candidates-found c.args.new.now.list.now.live c.args.new.now.ticket c.args.new.now.event.now c.requires.found.0 c.requires.new.rising c.requires.found.1 c.requires.behind
           c.args.found.items c.add_by_variables.new.found.items c.requires.found.2 c.in_ok-add_by_variables.ensures));
       some = omega (arith, c.add_by_variables.new.found.ok);
       ascending = subst (λ (k : List ℕ). IsNonDecreasing k) (sym c.as_slice-tickets.ensures.value) c.ascending-sorted.ensures.ascending;
@@ -93,8 +93,8 @@ returns c =
       falling = c.topmost.ensures.falling;
       topmost = IfOk-weaker c.topmost.result _ _ (λ kept tops. (
         sorted,
-        candidates-alike new.live.now new.event.now c.add_by_variables.new.found.items sorted c.ascending-sorted.ensures.same (candidates-found c.args.new.now.live.now c.args.new.now.ticket c.args.new.now.event.now c.requires.found.0 c.requires.new.rising c.requires.found.1 c.requires.behind
+        candidates-alike new.list.now.live new.event.now c.add_by_variables.new.found.items sorted c.ascending-sorted.ensures.same (candidates-found c.args.new.now.list.now.live c.args.new.now.ticket c.args.new.now.event.now c.requires.found.0 c.requires.new.rising c.requires.found.1 c.requires.behind
             c.args.found.items c.add_by_variables.new.found.items c.requires.found.2 c.in_ok-add_by_variables.ensures),
-        λ t. subst (λ (k : List ℕ). In t kept.items ↔ Topmost new.live.now k t) c.as_slice-tickets.ensures.value (tops t),
+        λ t. subst (λ (k : List ℕ). In t kept.items ↔ Topmost new.list.now.live k t) c.as_slice-tickets.ensures.value (tops t),
       )) c.topmost.ensures.topmost;
     }

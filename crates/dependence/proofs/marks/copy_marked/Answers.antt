@@ -8,10 +8,9 @@ use Rattle.dependence.proofs.marks.copy_marked.Goals as goal
 
 pub returns : goal.returns
 returns c =
-    let l : Live = c.args.live.now in
+    let l : Live = c.args.list.now.live in
     let marks : List Bool = c.args.marks.now in
     let from : ℕ = c.first_index-from.result in
-    let left : tickets_marked (take (length l - from) (drop from l)) (take (length marks - from) (drop from marks)) ≡ tickets_marked l marks =
-    ap (λ (k : Live). tickets_marked k (take (length marks - from) (drop from marks))) (take_rest l from)
-    ∙ ap (λ (ms : List Bool). tickets_marked (drop from l) ms) (take_rest marks from) ∙ tickets-passed l marks from c.first_index-from.ensures.none in
+    let left : tickets_marked (drop from l) (take (length marks - from) (drop from marks)) ≡ tickets_marked l marks =
+    ap (λ (ms : List Bool). tickets_marked (drop from l) ms) (take_rest marks from) ∙ tickets-passed l marks from c.first_index-from.ensures.none in
     subst (λ (ts : List ℕ). IfOk c.copy_each.result (λ tickets. tickets.items ≡ ts)) left c.copy_each.ensures

@@ -6,8 +6,8 @@ use Rattle.dependence.proofs.marks.first_index.Goals as goal
 pub returns-in-Some : goal.returns-in-Some
 returns-in-Some c =
     let at = c.in-Some.ensures in
-    let inside : c.in-Some.index < length c.args.live.now = slice_get_within c.args.live.now c.in-Some.index _ at.1 in
+    let inside : c.in-Some.index < length c.args.list.now.live = slice_get_within c.args.list.now.live c.in-Some.index _ at.1 in
     record {
       within = omega (arith, c.requires.size);
-      none = unmarked-before c.args.live.now c.args.marks.now c.args.first c.in-Some.index c.requires.rising c.requires.size at c.requires.lower;
+      none = unmarked-before c.args.list.now.live c.args.marks.now c.args.first c.in-Some.index c.requires.rising c.requires.size at c.requires.lower;
     }

@@ -6,9 +6,9 @@ use Rattle.dependence.proofs.marks.last_marked.Goals as goal
 pub returns-then-marks-index : goal.returns-then-marks-index
 returns-then-marks-index c =
     let p : ℕ = c.loop-index.index - 1 in
-    let less : p < length c.args.live.now = omega arith in
+    let less : p < length c.args.list.now.live = omega arith in
     let within : p < length c.args.marks.now = omega arith in
-    last-greatest c.args.live.now c.args.marks.now p _ c.requires.rising (slice_get-get_or c.args.live.now p c.index-live-index.result less)
+    last-greatest c.args.list.now.live c.args.marks.now p (c.ticket_at.result, c.ticket_at.ensures.0) c.requires.rising c.ticket_at.ensures.1
     (slice_get-get_or c.args.marks.now p _ within ∙ ap (λ (b : Bool). Some b) c.if-marks-index.true)
     (λ k up on. c.loop-index.invariant.none k (omega arith) on)
 
@@ -22,4 +22,4 @@ loop-index-preserved c =
     }
 
 pub returns : goal.returns
-returns c = none-at-all c.args.live.now c.args.marks.now (λ k up on. c.loop-index.invariant.none k (omega arith) on)
+returns c = none-at-all c.args.list.now.live c.args.marks.now (λ k up on. c.loop-index.invariant.none k (omega arith) on)

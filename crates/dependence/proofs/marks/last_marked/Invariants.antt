@@ -4,7 +4,7 @@ use Rattle.dependence.proofs.marks.last_marked.Given as goal
 
 abbrev pub invariant-loop-index : goal.invariant-loop-index
 invariant-loop-index l = record {
-  range : l.index ≤ length l.live;
+  range : l.index ≤ length l.list.live;
   none : (k : ℕ) → l.index ≤ k → slice_get l.marks k ≡ Some true → ⊥;
 }
 

@@ -6,9 +6,9 @@ use Rattle.dependence.proofs.take.remove_marked.Given as goal
 
 abbrev pub invariant-loop-index : goal.invariant-loop-index
 invariant-loop-index l = record {
-  within : l.index ≤ length l.live;
+  within : l.index ≤ length l.list.live;
   from : l.first ≤ l.index;
-  tabled : IsTabled (unmarked (marked_from l.index l.marks) l.live) l.tables;
+  tabled : IsTabled (unmarked (marked_from l.index l.marks) l.list.live) l.tables;
 }
 
 abbrev pub decreases-loop-index : goal.decreases-loop-index

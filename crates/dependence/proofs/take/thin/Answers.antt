@@ -9,7 +9,7 @@ use Rattle.dependence.proofs.take.thin.Goals as goal
 
 pub returns-then-is_some : goal.returns-then-is_some
 returns-then-is_some c =
-    let tickets = tickets_marked c.args.live.now c.args.marks.now in
+    let tickets = tickets_marked c.args.list.now.live c.args.marks.now in
     let ts = c.args.tickets.now.items in
     let us = c.retain.new.self.items in
     let left : us ≡ filter (λ (u : ℕ). not (is_in u tickets)) ts =

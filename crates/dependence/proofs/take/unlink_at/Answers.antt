@@ -1,96 +1,92 @@
-use Rattle.std.proofs.Common.{◌≡◌, ◌∙◌, ℕ, ◌+◌, ◌<◌, ◌≤◌, length, get_or, take, true, Some, ap, subst, arith}
-use Rattle.std.specs.Prelude.{slice_get, vec_len}
-use Rattle.std.proofs.lemmas.Option.{slice_get_within, slice_get-get_or}
+use Rattle.std.proofs.Common.{◌≡◌, ◌∙◌, ◌+◌, ◌<◌, ◌≤◌, ℕ, List, length, take, get_or, Some, true, sym, ap, subst, arith}
+use Rattle.std.specs.Prelude.{slice_get}
+use Rattle.std.proofs.lemmas.Option.{slice_get_within}
 use Rattle.syntax.specs.Lists.{In}
-use Rattle.runs.specs.declared.event.Event.{Event}
+use Rattle.runs.specs.Live.{Live, IsLive}
+use Rattle.dependence.specs.Shown.{tickets_marked}
 use Rattle.dependence.specs.declared.links.Links.{Links}
-use Rattle.dependence.specs.internal.Unmarked.{NotBehind}
+use Rattle.dependence.specs.internal.Tables.{IsRising}
+use Rattle.dependence.specs.internal.Unmarked.{AllThinned, NotBehind}
 use Rattle.dependence.proofs.public.ListPlaces.{in-at, at-one}
 use Rattle.dependence.proofs.public.Markings.{is-marked}
-use Rattle.dependence.proofs.Thinning.{was-at, all-then, lead-at, loose-next, all-loose}
+use Rattle.dependence.proofs.ListedLaws.{same-self, same-then}
+use Rattle.dependence.proofs.Thinning.{all-same, was-at, all-then, lead-at, loose-next, all-loose}
 use Rattle.dependence.proofs.take.unlink_at.Goals as goal
 
-pub unlink_from-requires-clause-ordered : goal.unlink_from-requires-clause-ordered
-unlink_from-requires-clause-ordered c = λ i m is.
-    let n = was-at _ c.args.links.now c.loop-lead_index.links i m c.loop-lead_index.invariant.thinned is in
-    (c.loop-lead_index.invariant.thinned.followers i n.0 m n.1 is).ascending (c.requires.ordered i n.0 n.1)
+pub loop-lead_index-init : goal.loop-lead_index-init
+loop-lead_index-init c = record { same = same-self c.args.list.now; thinned = all-same _ c.args.list.now.links; loose = λ n at u i. absurd i }
 
-pub unlink_from-requires-clause-live : goal.unlink_from-requires-clause-live
-unlink_from-requires-clause-live c =
-    let index : ℕ = c.args.index in
-    let less : index < length c.args.marks.now = slice_get_within c.args.marks.now index true c.requires.marked in
-    let size : length c.args.marks.now ≡ length c.args.live.now = c.requires.size in
-    let long : length c.args.links.now ≡ length c.args.live.now = c.requires.long in
+pub unlink_from-requires : goal.unlink_from-requires
+unlink_from-requires c =
+    let l : Live = c.args.list.now.live in
+    let links : List Links = c.args.list.now.links in
     let thinned = c.loop-lead_index.invariant.thinned in
-    let kept : length c.loop-lead_index.links ≡ length c.args.links.now = thinned.size in
-    let n : Links = get_or c.args.links.now index c.index-links-index.result in
-    let was : slice_get c.args.links.now index ≡ Some n = slice_get-get_or c.args.links.now index c.index-links-index.result (omega arith) in
-    let m : Links = get_or c.loop-lead_index.links index c.index-links-index-in-loop-lead_index.result in
-    let is : slice_get c.loop-lead_index.links index ≡ Some m = slice_get-get_or c.loop-lead_index.links index c.index-links-index-in-loop-lead_index.result (omega arith) in
+    let live : c.loop-lead_index.list.live ≡ l = c.loop-lead_index.invariant.same.live in
+    let n : Links = c.links_at.result.now in
+    let was = c.links_at.ensures in
+    let m : Links = c.links_at-in-loop-lead_index.result.now in
+    let is = c.links_at-in-loop-lead_index.ensures in
     let ok = n.leads.ok.0 in
-    let same_count : vec_len c.get.result.now.leads ≡ vec_len n.leads = ap (λ (k : Links). vec_len k.leads) c.get.ensures in
     let count = c.len-lead_index-end.ensures in
     let test = c.loop-lead_index-test.true in
     let within : c.loop-lead_index.lead_index < length n.leads.items = omega arith in
     let lead : slice_get n.leads.items c.loop-lead_index.lead_index ≡ Some c.index-lead.result.now =
-    lead-at _ c.args.links.now c.loop-lead_index.links index c.loop-lead_index.lead_index c.index-lead.result.now n m thinned was is within
-    (c.index-lead.ensures ∙ ap (λ (k : Links). get_or k.leads.items c.loop-lead_index.lead_index c.index-lead.result.now) c.get-in-loop-lead_index.ensures) in
-    c.requires.live n c.index-lead.result.now was (in-at n.leads.items c.loop-lead_index.lead_index c.index-lead.result.now lead)
-
-pub unlink_from-requires-clause-marked : goal.unlink_from-requires-clause-marked
-unlink_from-requires-clause-marked c =
-    let index : ℕ = c.args.index in
-    let less : index < length c.args.marks.now = slice_get_within c.args.marks.now index true c.requires.marked in
-    let size : length c.args.marks.now ≡ length c.args.live.now = c.requires.size in
-    let x : ℕ × Event = get_or c.args.live.now index c.index-live-index.result in
-    let at : slice_get c.args.live.now index ≡ Some x = slice_get-get_or c.args.live.now index c.index-live-index.result (omega arith) in
-    (is-marked c.args.live.now c.args.marks.now x.0).1 (index, (x.1, at), c.requires.marked)
+    lead-at _ links c.loop-lead_index.list.links c.args.index c.loop-lead_index.lead_index c.index-lead.result.now n m thinned was is within c.index-lead.ensures in
+    record {
+      rising = subst (λ (k : Live). IsRising k) (sym live) c.requires.rising;
+      size = c.requires.size ∙ sym (ap length live);
+      long = thinned.size ∙ c.requires.long ∙ sym (ap length live);
+      ordered = λ i q at.
+          let p = was-at _ links c.loop-lead_index.list.links i q thinned at in
+          (thinned.followers i p.0 q p.1 at).ascending (c.requires.ordered i p.0 p.1);
+      live = subst (λ (k : Live). IsLive k c.index-lead.result.now) (sym live)
+          (c.requires.live n c.index-lead.result.now was (in-at n.leads.items c.loop-lead_index.lead_index c.index-lead.result.now lead));
+      marked = subst (λ (k : Live). In c.ticket_at-ticket.result (tickets_marked k c.args.marks.now)) (sym live)
+          ((is-marked l c.args.marks.now c.ticket_at-ticket.result).1 (c.args.index, c.ticket_at-ticket.ensures, c.requires.marked));
+    }
 
 pub loop-lead_index-preserved : goal.loop-lead_index-preserved
 loop-lead_index-preserved c =
-    let index : ℕ = c.args.index in
-    let less : index < length c.args.marks.now = slice_get_within c.args.marks.now index true c.requires.marked in
-    let size : length c.args.marks.now ≡ length c.args.live.now = c.requires.size in
-    let long : length c.args.links.now ≡ length c.args.live.now = c.requires.long in
+    let l : Live = c.args.list.now.live in
+    let links : List Links = c.args.list.now.links in
     let thinned = c.loop-lead_index.invariant.thinned in
-    let kept : length c.loop-lead_index.links ≡ length c.args.links.now = thinned.size in
-    let n : Links = get_or c.args.links.now index c.index-links-index.result in
-    let was : slice_get c.args.links.now index ≡ Some n = slice_get-get_or c.args.links.now index c.index-links-index.result (omega arith) in
-    let m : Links = get_or c.loop-lead_index.links index c.index-links-index-in-loop-lead_index.result in
-    let is : slice_get c.loop-lead_index.links index ≡ Some m = slice_get-get_or c.loop-lead_index.links index c.index-links-index-in-loop-lead_index.result (omega arith) in
+    let live : c.loop-lead_index.list.live ≡ l = c.loop-lead_index.invariant.same.live in
+    let n : Links = c.links_at.result.now in
+    let was = c.links_at.ensures in
+    let m : Links = c.links_at-in-loop-lead_index.result.now in
+    let is = c.links_at-in-loop-lead_index.ensures in
     let ok = n.leads.ok.0 in
-    let same_count : vec_len c.get.result.now.leads ≡ vec_len n.leads = ap (λ (k : Links). vec_len k.leads) c.get.ensures in
     let count = c.len-lead_index-end.ensures in
     let test = c.loop-lead_index-test.true in
     let within : c.loop-lead_index.lead_index < length n.leads.items = omega arith in
     let lead : slice_get n.leads.items c.loop-lead_index.lead_index ≡ Some c.index-lead.result.now =
-    lead-at _ c.args.links.now c.loop-lead_index.links index c.loop-lead_index.lead_index c.index-lead.result.now n m thinned was is within
-    (c.index-lead.ensures ∙ ap (λ (k : Links). get_or k.leads.items c.loop-lead_index.lead_index c.index-lead.result.now) c.get-in-loop-lead_index.ensures) in
-    let t : ℕ = (get_or c.args.live.now index c.index-live-index.result).0 in
+    lead-at _ links c.loop-lead_index.list.links c.args.index c.loop-lead_index.lead_index c.index-lead.result.now n m thinned was is within c.index-lead.ensures in
+    let t : ℕ = c.ticket_at-ticket.result in
+    let more = subst (λ (k : Live). AllThinned (λ (v : ℕ). In v (tickets_marked k c.args.marks.now)) c.loop-lead_index.list.links c.unlink_from.new.list.links) live
+    c.unlink_from.ensures.thinned in
+    let out = subst (λ (k : Live). NotBehind k c.unlink_from.new.list.links t c.index-lead.result.now) live c.unlink_from.ensures.out in
     record {
-      thinned = all-then _ c.args.links.now c.loop-lead_index.links c.unlink_from.new.links thinned c.unlink_from.ensures.thinned;
+      same = same-then _ _ _ c.loop-lead_index.invariant.same c.unlink_from.ensures.same;
+      thinned = all-then _ links c.loop-lead_index.list.links c.unlink_from.new.list.links thinned more;
       loose = λ k at.
-          let same : n ≡ k = at-one c.args.links.now index n k was at in
-          subst (λ (j : Links). (u : ℕ) → In u (take (c.loop-lead_index.lead_index + 1) j.leads.items) → NotBehind c.args.live.now c.unlink_from.new.links t u) same
-          (loose-next _ c.args.live.now c.loop-lead_index.links c.unlink_from.new.links n.leads.items c.loop-lead_index.lead_index c.index-lead.result.now t lead c.unlink_from.ensures.thinned
-          (c.loop-lead_index.invariant.loose n was) c.unlink_from.ensures.out);
+          let same : n ≡ k = at-one links c.args.index n k was at in
+          subst (λ (j : Links). (u : ℕ) → In u (take (c.loop-lead_index.lead_index + 1) j.leads.items) → NotBehind l c.unlink_from.new.list.links t u) same
+          (loose-next _ l c.loop-lead_index.list.links c.unlink_from.new.list.links n.leads.items c.loop-lead_index.lead_index c.index-lead.result.now t lead more
+          (c.loop-lead_index.invariant.loose n was) out);
     }
 
-pub returns-clause-loose : goal.returns-clause-loose
-returns-clause-loose c =
-    let index : ℕ = c.args.index in
-    let less : index < length c.args.marks.now = slice_get_within c.args.marks.now index true c.requires.marked in
-    let size : length c.args.marks.now ≡ length c.args.live.now = c.requires.size in
-    let long : length c.args.links.now ≡ length c.args.live.now = c.requires.long in
-    let thinned = c.loop-lead_index.invariant.thinned in
-    let kept : length c.loop-lead_index.links ≡ length c.args.links.now = thinned.size in
-    let n : Links = get_or c.args.links.now index c.index-links-index.result in
-    let was : slice_get c.args.links.now index ≡ Some n = slice_get-get_or c.args.links.now index c.index-links-index.result (omega arith) in
-    let x : ℕ × Event = get_or c.args.live.now index c.index-live-index.result in
-    let at : slice_get c.args.live.now index ≡ Some x = slice_get-get_or c.args.live.now index c.index-live-index.result (omega arith) in
+pub returns : goal.returns
+returns c =
+    let l : Live = c.args.list.now.live in
+    let n : Links = c.links_at.result.now in
+    let was = c.links_at.ensures in
     let ok = n.leads.ok.0 in
-    let same_count : vec_len c.get.result.now.leads ≡ vec_len n.leads = ap (λ (k : Links). vec_len k.leads) c.get.ensures in
     let count = c.len-lead_index-end.ensures in
     let test = c.loop-lead_index-test.false in
     let past : length n.leads.items ≤ c.loop-lead_index.lead_index = omega arith in
-    all-loose c.args.live.now c.args.links.now c.loop-lead_index.links index c.loop-lead_index.lead_index x.0 x.1 n at was past (c.loop-lead_index.invariant.loose n was)
+    record {
+      same = c.loop-lead_index.invariant.same;
+      thinned = c.loop-lead_index.invariant.thinned;
+      loose = all-loose l c.args.list.now.links c.loop-lead_index.list.links c.args.index c.loop-lead_index.lead_index c.ticket_at-ticket.result c.ticket_at-ticket.ensures.0 n
+          c.ticket_at-ticket.ensures.1 was past (c.loop-lead_index.invariant.loose n was);
+    }

@@ -1,24 +1,52 @@
-use Rattle.std.proofs.Common.{◌<◌, length, arith}
-use Rattle.std.proofs.lemmas.Option.{slice_get_within, slice_get-get_or}
-use Rattle.dependence.proofs.public.ListPlaces.{set-here}
-use Rattle.dependence.proofs.Thinning.{one-thinned, out-now}
+use Rattle.std.proofs.Common.{◌≡◌, ◌∙◌, ◌<◌, ℕ, List, length, sym, ap, subst}
+use Rattle.syntax.specs.Lists.{In}
+use Rattle.runs.specs.InOrder.{InOrder}
+use Rattle.runs.specs.Live.{Live, IsLive}
+use Rattle.dependence.specs.Shown.{tickets_marked}
+use Rattle.dependence.specs.declared.links.Links.{Links}
+use Rattle.dependence.specs.internal.Tables.{IsRising, FollowersChanged}
+use Rattle.dependence.specs.internal.Unmarked.{Thinned}
+use Rattle.dependence.proofs.ListedLaws.{same-then}
+use Rattle.dependence.proofs.Thinning.{replaced-twice, thinned-there}
 use Rattle.dependence.proofs.take.unlink_from.Goals as goal
 
-pub thin_followers-requires-clause-ordered : goal.thin_followers-requires-clause-ordered
-thin_followers-requires-clause-ordered c =
-    let at = c.index_of_live-index.ensures in
-    let inside : c.index_of_live-index.result < length c.args.live.now = slice_get_within c.args.live.now c.index_of_live-index.result _ at.1 in
-    let long = c.requires.long in
-    c.requires.ordered c.index_of_live-index.result _ (slice_get-get_or c.args.links.now c.index_of_live-index.result c.index-links-index.result (omega arith))
+pub thin-requires : goal.thin-requires
+thin-requires c =
+    let first = c.replace_followers-followers.ensures in
+    let live = first.same.live in
+    let changed = first.changed in
+    record {
+      rising = subst (λ (k : Live). IsRising k) (sym live) c.requires.rising;
+      size = c.requires.size ∙ sym (ap length live);
+      ordered = subst (λ (ts : List ℕ). InOrder ◌<◌ ts) changed.followers.0 (c.requires.ordered changed.index changed.before changed.was);
+      marked = subst (λ (k : Live). In c.args.ticket (tickets_marked k c.args.marks.now)) (sym live) c.requires.marked;
+    }
+
+pub replace_followers-requires : goal.replace_followers-requires
+replace_followers-requires c = subst (λ (k : Live). IsLive k c.args.lead) (sym c.replace_followers-followers.ensures.same.live) c.requires.live
 
 pub returns : goal.returns
 returns c =
-    let at = c.index_of_live-index.ensures in
-    let index = c.index_of_live-index.result in
-    let inside : index < length c.args.live.now = slice_get_within c.args.live.now index _ at.1 in
-    let long = c.requires.long in
-    let within : index < length c.args.links.now = omega arith in
-    record {
-      thinned = one-thinned _ c.args.links.now index _ _ (slice_get-get_or c.args.links.now index c.index-links-index.result within) c.thin_followers.ensures.thinned c.thin_followers.ensures.leads;
-      out = out-now 0 c.requires.rising.0 c.args.live.now _ index c.args.lead c.args.ticket _ c.requires.rising.1 at (set-here c.args.links.now index _ within) c.thin_followers.ensures.gone;
-    }
+    let l : Live = c.args.list.now.live in
+    let first = c.replace_followers-followers.ensures in
+    let second = c.replace_followers.ensures in
+    let live = first.same.live in
+    let again : FollowersChanged l c.args.lead (λ (b : List ℕ) (a : List ℕ). a ≡ c.thin.new.tickets.items) c.replace_followers-followers.new.self.links c.replace_followers.new.self.links =
+    subst (λ (k : Live). FollowersChanged k c.args.lead (λ (b : List ℕ) (a : List ℕ). a ≡ c.thin.new.tickets.items) c.replace_followers-followers.new.self.links c.replace_followers.new.self.links) live
+    (record {
+      index = second.changed.index;
+      event = second.changed.event;
+      before = second.changed.before;
+      after = second.changed.after;
+      stands = second.changed.stands;
+      was = second.changed.was;
+      is = second.changed.is;
+      followers = second.changed.followers.1;
+      leads = second.changed.leads;
+    }) in
+    let whole = replaced-twice l c.args.lead c.args.list.now.links c.replace_followers-followers.new.self.links c.replace_followers.new.self.links _ _ _ c.requires.rising c.requires.long
+    first.changed again in
+    let thinned = subst (λ (k : Live). Thinned (λ t. In t (tickets_marked k c.args.marks.now)) c.replace_followers-followers.result.items c.thin.new.tickets.items) live c.thin.ensures.thinned in
+    let both = thinned-there (λ (t : ℕ). In t (tickets_marked l c.args.marks.now)) l c.args.lead c.args.ticket c.args.list.now.links c.replace_followers.new.self.links _ _ c.requires.rising
+    whole thinned c.thin.ensures.gone in
+    record { same = same-then _ _ _ first.same second.same; thinned = both.0; out = both.1 }

@@ -1,57 +1,76 @@
-use Rattle.std.proofs.Common.{◌≡◌, ◌∙◌, ◌<◌, ℕ, Bool, length, true, false, Some, ap, arith}
+use Rattle.std.proofs.Common.{◌≡◌, ◌∙◌, ◌<◌, ℕ, Bool, List, length, true, false, Some, sym, ap, subst, arith}
 use Rattle.std.proofs.lemmas.Option.{slice_get_within, slice_get-get_or}
 use Rattle.syntax.specs.Lists.{In}
+use Rattle.runs.specs.Live.{Live, IsLive}
 use Rattle.dependence.specs.Shown.{tickets_marked}
+use Rattle.dependence.specs.declared.links.Links.{Links}
+use Rattle.dependence.specs.internal.Tables.{IsRising}
+use Rattle.dependence.specs.internal.Unmarked.{AllThinned, IsLoose}
+use Rattle.dependence.proofs.ListedLaws.{same-self, same-then}
 use Rattle.dependence.proofs.Thinning.{all-same, ascend-still, lead-live, all-then, pass-marked, pass-unmarked}
 use Rattle.dependence.proofs.take.unlink_marked.Goals as goal
 use Rattle.dependence.proofs.take.unlink_marked.Goals.{then-marks-index, else-marks-index}
 
-pub unlink_at-requires-clause-ordered : goal.unlink_at-requires-clause-ordered
-unlink_at-requires-clause-ordered c = ascend-still _ c.args.live.now c.args.links.now c.loop-index.links c.requires.linked c.loop-index.invariant.thinned
-
-pub unlink_at-requires-clause-live : goal.unlink_at-requires-clause-live
-unlink_at-requires-clause-live c =
-    lead-live _ c.args.live.now c.args.links.now c.loop-index.links c.loop-index.index c.requires.linked c.loop-index.invariant.thinned c.loop-index-test.true
-
-pub unlink_at-requires-clause-marked : goal.unlink_at-requires-clause-marked
-unlink_at-requires-clause-marked c =
-    let inside : c.loop-index.index < length c.args.live.now = c.loop-index-test.true in
-    let size : length c.args.marks.now ≡ length c.args.live.now = c.requires.size in
-    slice_get-get_or c.args.marks.now c.loop-index.index false (omega arith) ∙ ap (λ (b : Bool). Some b) c.if-marks-index.true
+pub unlink_at-requires : goal.unlink_at-requires
+unlink_at-requires c =
+    let l : Live = c.args.list.now.live in
+    let h = c.loop-index.invariant in
+    let live : c.loop-index.list.live ≡ l = h.same.live in
+    let size : length c.args.marks.now ≡ length l = c.requires.size in
+    let within : c.loop-index.index < length c.args.marks.now = c.loop-index-test.true in
+    let inside : c.loop-index.index < length l = omega arith in
+    record {
+      rising = subst (λ (k : Live). IsRising k) (sym live) c.requires.rising;
+      size = c.requires.size ∙ sym (ap length live);
+      long = h.thinned.size ∙ c.requires.linked.size ∙ sym (ap length live);
+      ordered = ascend-still _ l c.args.list.now.links c.loop-index.list.links c.requires.linked h.thinned;
+      live = λ m t at i. subst (λ (k : Live). IsLive k t) (sym live)
+          (lead-live _ l c.args.list.now.links c.loop-index.list.links c.loop-index.index c.requires.linked h.thinned inside m t at i);
+      marked = slice_get-get_or c.args.marks.now c.loop-index.index false within ∙ ap (λ (b : Bool). Some b) c.if-marks-index.true;
+    }
 
 pub loop-index-init : goal.loop-index-init
 loop-index-init c = record {
-  thinned = all-same _ c.args.links.now;
+  same = same-self c.args.list.now;
+  thinned = all-same _ c.args.list.now.links;
   loose = λ j less on. absurd (c.unmarked_below-index.ensures.none j less on);
 }
 
 pub loop-index-preserved : goal.loop-index-preserved
 loop-index-preserved c =
+    let l : Live = c.args.list.now.live in
+    let links : List Links = c.args.list.now.links in
+    let marks : List Bool = c.args.marks.now in
     let index : ℕ = c.loop-index.index in
-    let inside : index < length c.args.live.now = c.loop-index-test.true in
-    let size : length c.args.marks.now ≡ length c.args.live.now = c.requires.size in
-    let within : index < length c.args.marks.now = omega arith in
+    let within : index < length marks = c.loop-index-test.true in
     let h = c.loop-index.invariant in
+    let live : c.loop-index.list.live ≡ l = h.same.live in
     elim c.if-marks-index.branch [
       | then-marks-index w ↦
-          rw (w.links-is)
+          let more = subst (λ (k : Live). AllThinned (λ (t : ℕ). In t (tickets_marked k marks)) c.loop-index.list.links w.unlink_at.new.list.links) live w.unlink_at.ensures.thinned in
+          let loose = subst (λ (k : Live). IsLoose k c.loop-index.list.links w.unlink_at.new.list.links index) live w.unlink_at.ensures.loose in
+          rw (w.list-is)
           (record {
-            thinned = all-then _ c.args.links.now c.loop-index.links w.unlink_at.new.links h.thinned w.unlink_at.ensures.thinned;
-            loose = pass-marked (λ (t : ℕ). In t (tickets_marked c.args.live.now c.args.marks.now)) c.args.live.now c.args.marks.now c.args.links.now c.loop-index.links index h.loose
-                w.unlink_at.new.links h.thinned w.unlink_at.ensures.thinned w.unlink_at.ensures.loose;
+            same = same-then _ _ _ h.same w.unlink_at.ensures.same;
+            thinned = all-then _ links c.loop-index.list.links w.unlink_at.new.list.links h.thinned more;
+            loose = pass-marked (λ (t : ℕ). In t (tickets_marked l marks)) l marks links c.loop-index.list.links index h.loose
+                w.unlink_at.new.list.links h.thinned more loose;
           })
       | else-marks-index w ↦
-          rw (w.links-is)
+          rw (w.list-is)
           (record {
+            same = h.same;
             thinned = h.thinned;
-            loose = pass-unmarked (λ (t : ℕ). In t (tickets_marked c.args.live.now c.args.marks.now)) c.args.live.now c.args.marks.now c.args.links.now c.loop-index.links index h.loose
-                within w.if-marks-index.false;
+            loose = pass-unmarked (λ (t : ℕ). In t (tickets_marked l marks)) l marks links c.loop-index.list.links index h.loose within w.if-marks-index.false;
           })
     ]
 
-pub returns-clause-loose : goal.returns-clause-loose
-returns-clause-loose c = λ index on.
-    let less : index < length c.args.marks.now = slice_get_within c.args.marks.now index true on in
-    let size : length c.args.marks.now ≡ length c.args.live.now = c.requires.size in
-    let past = c.loop-index-test.false in
-    c.loop-index.invariant.loose index (omega arith) on
+pub returns : goal.returns
+returns c = record {
+  same = c.loop-index.invariant.same;
+  thinned = c.loop-index.invariant.thinned;
+  loose = λ index on.
+      let less : index < length c.args.marks.now = slice_get_within c.args.marks.now index true on in
+      let past = c.loop-index-test.false in
+      c.loop-index.invariant.loose index (omega arith) on;
+}

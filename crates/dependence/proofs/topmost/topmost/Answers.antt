@@ -6,8 +6,8 @@ use Rattle.syntax.specs.Lists.{In}
 use Rattle.dependence.specs.Followers.{ListsFollowers}
 use Rattle.dependence.specs.declared.links.Links.{Links}
 use Rattle.dependence.specs.internal.Sweeping.{FlagAt, Swept}
-use Rattle.dependence.proofs.public.Linking.{linked-here}
-use Rattle.dependence.proofs.public.ListPlaces.{got-here}
+use Rattle.dependence.proofs.public.Linking.{linked-there}
+use Rattle.dependence.proofs.public.ListPlaces.{at-one}
 use Rattle.dependence.proofs.public.Standing.{lesser-stands}
 use Rattle.dependence.proofs.Sweeps.{swept-none, swept-next, swept-all}
 use Rattle.dependence.proofs.topmost.topmost.Goals as goal
@@ -15,18 +15,18 @@ use Rattle.dependence.proofs.topmost.topmost.Goals as goal
 pub is_flagged-below-requires-clause-live : goal.is_flagged-below-requires-clause-live
 is_flagged-below-requires-clause-live c = λ t i.
     let p : ℕ = c.loop-index.index - 1 in
-    let less : p < length c.args.live.now = omega arith in
-    let here = linked-here c.args.live.now c.args.links.now p c.index-links-index.result c.requires.linked less in
-    let f = (here.followers.exactly t).0 (subst (λ (k : List ℕ). In t k) (c.as_slice-in-loop-index.ensures ∙ ap (λ (m : Links). m.followers.items) (c.get.ensures ∙ c.index-links-index.is)) i) in
+    let less : p < length c.args.list.now.live = omega arith in
+    let here = linked-there c.args.list.now.live c.args.list.now.links p c.links_at.result.now c.requires.linked less c.links_at.ensures in
+    let f = (here.followers.exactly t).0 (subst (λ (k : List ℕ). In t k) (c.as_slice-followers.ensures) i) in
     (f.dependent.dependent, f.dependent.dependent_live)
 
 pub is_flagged-below-requires-clause-passed : goal.is_flagged-below-requires-clause-passed
 is_flagged-below-requires-clause-passed c = λ t i j on.
     let p : ℕ = c.loop-index.index - 1 in
-    let less : p < length c.args.live.now = omega arith in
-    let here = linked-here c.args.live.now c.args.links.now p c.index-links-index.result c.requires.linked less in
-    let f = (here.followers.exactly t).0 (subst (λ (k : List ℕ). In t k) (c.as_slice-in-loop-index.ensures ∙ ap (λ (m : Links). m.followers.items) (c.get.ensures ∙ c.index-links-index.is)) j) in
-    let above : p < i = lesser-stands 0 c.requires.rising.0 c.args.live.now p i here.ticket t here.event on.0 c.requires.rising.1 here.stands on.1 f.dependent.less in
+    let less : p < length c.args.list.now.live = omega arith in
+    let here = linked-there c.args.list.now.live c.args.list.now.links p c.links_at.result.now c.requires.linked less c.links_at.ensures in
+    let f = (here.followers.exactly t).0 (subst (λ (k : List ℕ). In t k) (c.as_slice-followers.ensures) j) in
+    let above : p < i = lesser-stands 0 c.requires.rising.0 c.args.list.now.live p i here.ticket t here.event on.0 c.requires.rising.1 here.stands on.1 f.dependent.less in
     let count : c.loop-index.index + length c.loop-index.flags.items ≡ c.args.high = c.loop-index.invariant.swept.count in
     let size : length c.as_slice.result.now ≡ length c.loop-index.flags.items = ap length c.as_slice.ensures.value in
     omega arith
@@ -34,50 +34,48 @@ is_flagged-below-requires-clause-passed c = λ t i j on.
 pub is_flagged-below-requires-clause-ascending : goal.is_flagged-below-requires-clause-ascending
 is_flagged-below-requires-clause-ascending c =
     let p : ℕ = c.loop-index.index - 1 in
-    let less : p < length c.args.live.now = omega arith in
-    let here = linked-here c.args.live.now c.args.links.now p c.index-links-index.result c.requires.linked less in
-    subst (λ (k : List ℕ). InOrder ◌<◌ k) (sym (c.as_slice-in-loop-index.ensures ∙ ap (λ (m : Links). m.followers.items) (c.get.ensures ∙ c.index-links-index.is))) here.followers.ascending
+    let less : p < length c.args.list.now.live = omega arith in
+    let here = linked-there c.args.list.now.live c.args.list.now.links p c.links_at.result.now c.requires.linked less c.links_at.ensures in
+    subst (λ (k : List ℕ). InOrder ◌<◌ k) (sym (c.as_slice-followers.ensures)) here.followers.ascending
 
 pub loop-index-init : goal.loop-index-init
 loop-index-init c =
-    let first = swept-none c.args.live.now c.args.candidates.now c.args.low c.args.high c.requires.stand c.requires.rising.0 0 c.requires.rising.1 in
+    let first = swept-none c.args.list.now.live c.args.candidates.now c.args.low c.args.high c.requires.stand c.requires.rising.0 0 c.requires.rising.1 in
     record {
       low = c.requires.order;
       high = omega arith;
-      swept = subst (λ (k : List Bool). Swept c.args.live.now c.args.candidates.now c.args.high c.args.high k c.new-kept.result.items) (sym c.new-flags.ensures.items)
-          (subst (λ (k : List ℕ). Swept c.args.live.now c.args.candidates.now c.args.high c.args.high [] k) (sym c.new-kept.ensures.items) first);
+      swept = subst (λ (k : List Bool). Swept c.args.list.now.live c.args.candidates.now c.args.high c.args.high k c.new-kept.result.items) (sym c.new-flags.ensures.items)
+          (subst (λ (k : List ℕ). Swept c.args.list.now.live c.args.candidates.now c.args.high c.args.high [] k) (sym c.new-kept.ensures.items) first);
     }
 
 pub loop-index-preserved : goal.loop-index-preserved
 loop-index-preserved c =
     let p : ℕ = c.loop-index.index - 1 in
-    let less : p < length c.args.live.now = omega arith in
+    let less : p < length c.args.list.now.live = omega arith in
     let below : p < c.args.high = omega arith in
     let step : suc p ≡ c.loop-index.index = omega arith in
-    let here = linked-here c.args.live.now c.args.links.now p c.index-links-index.result c.requires.linked less in
-    let ticket : (get_or c.args.live.now p c.index-live-index.result).0 ≡ here.ticket =
-    ap (λ (x : ℕ × Event). x.0) (got-here c.args.live.now p (here.ticket, here.event) c.index-live-index.result here.stands) in
-    let ticket_again : (get_or c.args.live.now p c.index-live-index-in-loop-index.result).0 ≡ here.ticket =
-    ap (λ (x : ℕ × Event). x.0) (got-here c.args.live.now p (here.ticket, here.event) c.index-live-index-in-loop-index.result here.stands) in
+    let here = linked-there c.args.list.now.live c.args.list.now.links p c.links_at.result.now c.requires.linked less c.links_at.ensures in
+    let ticket : c.ticket_at-ticket.result ≡ here.ticket =
+    ap (λ (x : ℕ × Event). x.0) (at-one c.args.list.now.live p (c.ticket_at-ticket.result, c.ticket_at-ticket.ensures.0) (here.ticket, here.event) c.ticket_at-ticket.ensures.1 here.stands) in
     let flags : c.as_slice.result.now ≡ c.loop-index.flags.items = c.as_slice.ensures.value in
-    let told : IsTrue c.is_flagged-below.result ↔ ((v : ℕ) × In v c.as_slice-in-loop-index.result.now × FlagAt c.args.live.now c.args.high c.loop-index.flags.items v) =
-    subst (λ (k : List Bool). IsTrue c.is_flagged-below.result ↔ ((v : ℕ) × In v c.as_slice-in-loop-index.result.now × FlagAt c.args.live.now c.args.high k v)) flags
+    let told : IsTrue c.is_flagged-below.result ↔ ((v : ℕ) × In v c.as_slice-followers.result.now × FlagAt c.args.list.now.live c.args.high c.loop-index.flags.items v) =
+    subst (λ (k : List Bool). IsTrue c.is_flagged-below.result ↔ ((v : ℕ) × In v c.as_slice-followers.result.now × FlagAt c.args.list.now.live c.args.high k v)) flags
     c.is_flagged-below.ensures in
     record {
       low = omega arith;
       high = omega arith;
-      swept = swept-next 0 c.requires.rising.0 c.args.live.now c.args.candidates.now c.args.low c.args.high c.loop-index.index p here.ticket here.event
-          c.loop-index.flags.items c.push.new.self.items c.loop-index.kept.items c.add_if.new.found.items c.as_slice-in-loop-index.result.now
+      swept = swept-next 0 c.requires.rising.0 c.args.list.now.live c.args.candidates.now c.args.low c.args.high c.loop-index.index p here.ticket here.event
+          c.loop-index.flags.items c.push.new.self.items c.loop-index.kept.items c.add_if.new.found.items c.as_slice-followers.result.now
           c.is_among-is_one.result c.is_flagged-below.result c.either.result c.alone.result c.requires.rising.1 c.requires.stand step here.stands below
-          (subst (λ (k : List ℕ). ListsFollowers c.args.live.now here.ticket k) (sym (c.as_slice-in-loop-index.ensures ∙ ap (λ (m : Links). m.followers.items) (c.get.ensures ∙ c.index-links-index.is))) here.followers)
+          (subst (λ (k : List ℕ). ListsFollowers c.args.list.now.live here.ticket k) (sym (c.as_slice-followers.ensures)) here.followers)
           c.loop-index.invariant.swept
           (c.is_among-is_one.ensures ∙ ap (λ (k : ℕ). is_in k c.args.candidates.now) ticket) told c.either.ensures c.alone.ensures c.in_ok-push.ensures.items
-          (c.in_ok-add_if.ensures ∙ ap (λ (k : ℕ). cond c.alone.result (c.loop-index.kept.items ++ k ∷ []) c.loop-index.kept.items) ticket_again);
+          (c.in_ok-add_if.ensures ∙ ap (λ (k : ℕ). cond c.alone.result (c.loop-index.kept.items ++ k ∷ []) c.loop-index.kept.items) ticket);
     }
 
 pub returns : goal.returns
 returns c = record {
   falling = c.loop-index.invariant.swept.falling;
-  topmost = swept-all 0 c.requires.rising.0 c.args.live.now c.args.candidates.now c.args.low c.args.high c.loop-index.index c.loop-index.flags.items
+  topmost = swept-all 0 c.requires.rising.0 c.args.list.now.live c.args.candidates.now c.args.low c.args.high c.loop-index.index c.loop-index.flags.items
       c.loop-index.kept.items c.requires.rising.1 c.requires.stand c.loop-index-test.false c.loop-index.invariant.swept;
 }

@@ -1,11 +1,12 @@
-use Rattle.std.proofs.Common.{◌∙◌, List, ℕ, sym, ap, subst}
+use Rattle.std.proofs.Common.{List, ℕ, sym, subst}
 use Rattle.dependence.specs.Followers.{ListsLeads}
-use Rattle.dependence.specs.declared.links.Links.{Links}
-use Rattle.dependence.proofs.public.Linking.{leads-at}
 use Rattle.dependence.proofs.whole.leads_at.Goals as goal
 
 pub returns : goal.returns
 returns c =
-    let at = c.index_of_live-index.ensures in
-    subst (λ (k : List ℕ). ListsLeads c.args.live.now c.args.ticket k) (sym (c.as_slice.ensures.value ∙ ap (λ (m : Links). m.leads.items) c.get.ensures))
-    (leads-at c.args.live.now c.args.links.now c.args.ticket c.index_of_live-index.result at.0 c.index-links-index.result c.requires.linked at.1 c.index-links-index.is)
+    let of = c.links_of.ensures in
+    subst (λ (k : List ℕ). ListsLeads c.args.list.now.live c.args.ticket k) (sym c.as_slice.ensures.value)
+    (record {
+      exactly = c.requires.linked.leads of.0 c.args.ticket of.1.0 c.links_of.result.now of.1.1 of.2;
+      falling = c.requires.linked.falling of.0 c.links_of.result.now of.2;
+    })

@@ -9,6 +9,6 @@ returns c =
     on_ok_weaker c.close_list.result
     (λ is. listed-member c.args.json.now c.name.new.self c.open_list.new.self c.loop-index.json c.close_list.new.self (codes "events")
     (event_rows c.args.system.now c.args.steps.now 0 c.args.live.now.live) c.in_ok-name.ensures c.in_ok-open_list.ensures
-    (all-event-rows c.args.system.now c.args.steps.now c.args.live.now.live c.as_slice-entry-items.result.now c.loop-index.index
-    c.loop-index.json c.open_list.new.self c.as_slice-entry-items.ensures c.loop-index-test.false c.loop-index.invariant) is)
+    (all-event-rows c.args.system.now c.args.steps.now c.args.live.now.live _ _ c.loop-index.json c.open_list.new.self c.in-None.ensures.steps.0
+    c.loop-index.invariant.rows) is)
     c.close_list.ensures

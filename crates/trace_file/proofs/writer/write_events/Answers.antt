@@ -1,6 +1,4 @@
-use Rattle.std.proofs.Common.{◌≡◌, ◌<◌, ℕ, List, length, get_or, Some, sym, subst}
-use Rattle.std.specs.Prelude.{slice_get}
-use Rattle.runs.specs.Live.{Live}
+use Rattle.std.proofs.Common.{ℕ, List, sym, subst}
 use Rattle.canonical_order.proofs.public.Stands.{stand-within}
 use Rattle.canonical_order.specs.Canonical.{StandAt}
 use Rattle.trace_file.proofs.SaveLemmas.{written-more, written-whole, lines-whole}
@@ -9,16 +7,13 @@ use Rattle.trace_file.proofs.writer.write_events.Goals as goal
 pub event_at-requires : goal.event_at-requires
 event_at-requires c =
     let order = c.in_ok-order.ensures in
-    subst (λ (l : Live). get_or c.as_slice-index-items.result.now c.loop-index.index-index 0 < length l) (sym c.as_slice-entries.ensures)
-    (stand-within c.args.live.now.live c.as_slice-index-items.result.now order.0 c.loop-index.index-index 0
-    (subst (λ (p : List ℕ). StandAt c.args.live.now.live p order.0) (sym c.as_slice-index-items.ensures.value) order.2) c.loop-index-test.true)
+    stand-within c.args.live.now.live c.as_slice-index-items.result.now order.0 c.loop-index.index-index 0
+    (subst (λ (p : List ℕ). StandAt c.args.live.now.live p order.0) (sym c.as_slice-index-items.ensures.value) order.2) c.loop-index-test.true
 
 pub loop-index-preserved : goal.loop-index-preserved
 loop-index-preserved c =
     written-more c.loop-index.out.items c.add_line.new.out.items c.args.live.now.live c.as_slice-index-items.result.now c.loop-index.index-index 0
-    c.event_at.ensures.0 c.event_at.result.now c.loop-index.invariant c.loop-index-test.true
-    (subst (λ (l : Live). slice_get l (get_or c.as_slice-index-items.result.now c.loop-index.index-index 0) ≡ Some (c.event_at.ensures.0, c.event_at.result.now))
-    c.as_slice-entries.ensures c.event_at.ensures.1)
+    c.event_at.ensures.0 c.event_at.result.now c.loop-index.invariant c.loop-index-test.true c.event_at.ensures.1
     c.in_ok-add_line.ensures.text
     (c.in_ok-add_line.ensures.place, c.in_ok-add_line.ensures.arm)
 

@@ -6,5 +6,5 @@ pub returns : goal.returns
 returns c =
     let new = c.args.self.now in
     IfOk-weaker c.add_if.result _ _ (λ _ found.
-    found-one new.live.now new.event.now c.args.ticket c.is_before-by_place.result c.args.found.now.items c.add_if.new.found.items
-    (λ on. leads-itself new.live.now new.event.now c.args.ticket (c.is_before-by_place.ensures.0 on)) c.requires.direct found) c.add_if.ensures
+    found-one new.list.now.live new.event.now c.args.ticket c.is_before-by_place.result c.args.found.now.items c.add_if.new.found.items
+    (λ on. leads-itself new.list.now.live new.event.now c.args.ticket (c.is_before-by_place.ensures.0 on)) c.requires.direct found) c.add_if.ensures

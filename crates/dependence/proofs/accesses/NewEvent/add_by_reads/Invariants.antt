@@ -4,4 +4,4 @@ use Rattle.dependence.proofs.accesses.NewEvent.add_by_reads.Given as goal
 
 abbrev pub invariant-loop-variable : goal.invariant-loop-variable
 invariant-loop-variable l =
-    AccessesFound l.self.live.now l.self.event.now (WritesOneRead l.self.live.now (take l.variable-index l.variable-items)) l.fn.found.items l.found.items
+    AccessesFound l.self.list.now.live l.self.event.now (WritesOneRead l.self.list.now.live (take l.variable-index l.variable-items)) l.fn.found.items l.found.items

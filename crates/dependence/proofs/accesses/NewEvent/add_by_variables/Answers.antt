@@ -7,5 +7,5 @@ pub returns : goal.returns
 returns c =
     let new = c.args.self.now in
     IfOk-weaker c.add_by_write.result _ _ (λ _ found.
-    found-then new.live.now new.event.now (WritesOneRead new.live.now new.event.now.read) (UsesWritten new.live.now new.event.now) c.args.found.now.items
+    found-then new.list.now.live new.event.now (WritesOneRead new.list.now.live new.event.now.read) (UsesWritten new.list.now.live new.event.now) c.args.found.now.items
     c.add_by_reads.new.found.items c.add_by_write.new.found.items c.in_ok-add_by_reads.ensures found) c.add_by_write.ensures

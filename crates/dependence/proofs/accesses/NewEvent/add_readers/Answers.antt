@@ -22,7 +22,7 @@ returns c =
     subst (λ (k : List ℕ). (u : ℕ) → In u c.between.new.found.items ↔ (In u k ⊎ (Uses new.tables.now.readers c.args.variable u × (c.last_write-from.result ≤ u) × (u < new.ticket))))
     c.new-readers.ensures.items c.in_ok-between.ensures in
     IfOk-weaker c.add_accesses.result _ _ (λ _ found.
-    found-some new.live.now new.event.now (λ t. In t c.as_slice.result.now) (ReaderSince new.live.now c.args.variable) c.args.found.now.items c.add_accesses.new.found.items
+    found-some new.list.now.live new.event.now (λ t. In t c.as_slice.result.now) (ReaderSince new.list.now.live c.args.variable) c.args.found.now.items c.add_accesses.new.found.items
     (λ t e i since. subst (λ (k : List ℕ). In t k) (sym c.as_slice.ensures.value)
     (reader-found new c.requires.new c.args.variable c.last_write-from.result c.between.new.found.items c.last_write-from.ensures.last between t since)) found)
     c.add_accesses.ensures

@@ -11,20 +11,20 @@ returns-after-is_before c =
     let new = c.args.self.now in
     let x = c.args.variable in
     let w = c.in-Some.writer in
-    let leads : IsTrue c.if-is_before.by_place → LeadsBefore new.live.now new.event.now w =
+    let leads : IsTrue c.if-is_before.by_place → LeadsBefore new.list.now.live new.event.now w =
     elim c.if-is_before.branch [
-      | then-is_before p ↦ (λ on. leads-itself new.live.now new.event.now w (c.is_before.ensures.0 p.if-is_before.true))
-      | else-is_before p ↦ (λ on. leads-reader new.live.now new.event.now x w c.behind_all-below.result (last-write new c.requires.new x w c.in-Some.ensures)
+      | then-is_before p ↦ (λ on. leads-itself new.list.now.live new.event.now w (c.is_before.ensures.0 p.if-is_before.true))
+      | else-is_before p ↦ (λ on. leads-reader new.list.now.live new.event.now x w c.behind_all-below.result (last-write new c.requires.new x w c.in-Some.ensures)
           (p.is_read_before-by_place.ensures.0 (subst (λ (b : Bool). IsTrue b) p.by_place-is on)))
     ] in
     IfOk-weaker c.add_if.result _ _ (λ _ found.
-    found-some new.live.now new.event.now (λ t. t ≡ w) (LastWriter new.live.now x) c.args.found.now.items c.add_if.new.found.items
+    found-some new.list.now.live new.event.now (λ t. t ≡ w) (LastWriter new.list.now.live x) c.args.found.now.items c.add_if.new.found.items
     (λ t e i last. writer-is new c.requires.new x w t c.in-Some.ensures last)
-    (found-one new.live.now new.event.now w c.if-is_before.by_place c.args.found.now.items c.add_if.new.found.items leads
+    (found-one new.list.now.live new.event.now w c.if-is_before.by_place c.args.found.now.items c.add_if.new.found.items leads
     (writer-direct new c.requires.new x w c.in-Some.ensures c.requires.uses) found)) c.add_if.ensures
 
 pub returns-in-None : goal.returns-in-None
 returns-in-None c =
     let new = c.args.self.now in
-    found-none new.live.now new.event.now (LastWriter new.live.now c.args.variable) c.args.found.now.items
+    found-none new.list.now.live new.event.now (LastWriter new.list.now.live c.args.variable) c.args.found.now.items
     (λ t e i w. no-writer new c.requires.new c.args.variable c.in-None.ensures t w)

@@ -18,17 +18,17 @@ pub invariant_of-self : goal.invariant_of-self
 invariant_of-self c = (
   c.add_event.ensures.whole,
   c.add_event.ensures.tabled,
-  lower-kept c.add_event.result _ _ c.self.inside.pairs.items c.add_event.new.pairs.items c.self.inside.marks.items c.add_event.new.marks.items c.self.inside.first_marked
+  lower-kept c.add_event.result _ _ c.self.inside.list.live c.add_event.new.list.live c.self.inside.marks.items c.add_event.new.marks.items c.self.inside.first_marked
       c.self.invariant.2 c.add_event.ensures.added c.add_event.ensures.refused,
 )
 
 pub returns : goal.returns
 returns c = record {
   added = ok-so c.add_event.result _ _
-      (λ both. shown-added c.args.self.now c.self.inside.pairs.items c.add_event.new.pairs.items _ _ c.args.ticket c.args.event c.self.view_is both.0 both.1)
+      (λ both. shown-added c.args.self.now c.self.inside.list.live c.add_event.new.list.live _ _ c.args.ticket c.args.event c.self.view_is both.0 both.1)
       c.add_event.ensures.added;
   refused = err-so c.add_event.result _ _ (λ back h. (
     h.0,
-    shown-same c.args.self.now c.self.inside.pairs.items c.add_event.new.pairs.items c.self.inside.marks.items c.add_event.new.marks.items c.self.view_is h.1 h.2,
+    shown-same c.args.self.now c.self.inside.list.live c.add_event.new.list.live c.self.inside.marks.items c.add_event.new.marks.items c.self.view_is h.1 h.2,
   )) c.add_event.ensures.refused;
 }

@@ -5,4 +5,4 @@ use Rattle.dependence.proofs.live.Live.is_sound.Goals as goal
 
 pub returns : goal.returns
 returns c =
-    subst (λ (s : Shown). IsSound s) c.self.view_is (all-sound c.self.inside.pairs.items c.self.inside.marks.items c.self.invariant.0.rising)
+    subst (λ (s : Shown). IsSound s) c.self.view_is (all-sound c.self.inside.list.live c.self.inside.marks.items c.self.invariant.0.rising)

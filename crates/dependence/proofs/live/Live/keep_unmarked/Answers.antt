@@ -12,7 +12,7 @@ keep_unmarked-requires g c =
 
 pub returns : goal.returns
 returns g c =
-    let l = c.self.inside.pairs.items in
+    let l = c.self.inside.list.live in
     let marks = c.self.inside.marks.items in
     let r = c.self.invariant.0.rising in
     let even : length c.args.items.now.items ≡ length l = c.requires ∙ sym (ap (λ (s : Shown). length s.live) c.self.view_is) in

@@ -1,4 +1,4 @@
-use Rattle.std.proofs.Common.{◌∙◌, List, Bool, length, sym, ap, subst}
+use Rattle.std.proofs.Common.{◌∙◌, List, Bool, length, sym, ap, subst, refl}
 use Rattle.runs.specs.Live.{Live}
 use Rattle.dependence.specs.internal.Marking.{NoneLess}
 use Rattle.dependence.proofs.Edges.{take-whole}
@@ -6,8 +6,8 @@ use Rattle.dependence.proofs.live.Live.mark_consequences.Goals as goal
 
 pub mark_and_count-count-requires-clause-lower : goal.mark_and_count-count-requires-clause-lower
 mark_and_count-count-requires-clause-lower c =
-    subst (λ (k : Live). NoneLess k c.as_mut_slice.result.now c.self.inside.first_marked) (sym c.as_slice.ensures.value)
-    (subst (λ (k : List Bool). NoneLess c.self.inside.pairs.items k c.self.inside.first_marked) (sym c.as_mut_slice.ensures.value) c.self.invariant.2)
+    subst (λ (k : Live). NoneLess k c.as_mut_slice.result.now c.self.inside.first_marked) (sym refl)
+    (subst (λ (k : List Bool). NoneLess c.self.inside.list.live k c.self.inside.first_marked) (sym c.as_mut_slice.ensures.value) c.self.invariant.2)
 
 pub invariant_of-self : goal.invariant_of-self
 invariant_of-self c =
@@ -16,6 +16,6 @@ invariant_of-self c =
     let whole = take-whole marks c.self.inside.marks.items c.self.inside.marks.len size (sym c.as_mut_slice.ensures.len ∙ ap length c.as_mut_slice.ensures.value) in (
       record { rising = c.self.invariant.0.rising; linked = c.self.invariant.0.linked; marks = ap length whole ∙ size ∙ c.self.invariant.0.marks },
       c.self.invariant.1,
-      subst (λ (k : List Bool). NoneLess c.self.inside.pairs.items k c.args.ticket) (sym whole)
-          (subst (λ (k : Live). NoneLess k marks c.args.ticket) c.as_slice.ensures.value c.mark_and_count-count.ensures.lower),
+      subst (λ (k : List Bool). NoneLess c.self.inside.list.live k c.args.ticket) (sym whole)
+          (subst (λ (k : Live). NoneLess k marks c.args.ticket) refl c.mark_and_count-count.ensures.lower),
     )

@@ -16,8 +16,8 @@ take_event-requires c = record {
 pub returns : goal.returns
 returns c = record {
   event = subst (λ (s : Shown). LiveAt s.live c.args.ticket c.take_event.result) c.self.view_is c.take_event.ensures.event;
-  live = subst (λ (s : Shown). WithoutTickets (λ t. t ≡ c.args.ticket) s.live c.take_event.new.pairs.items) c.self.view_is c.take_event.ensures.live;
-  marked = subst (λ (s : Shown). Without (λ (t : ℕ). t ≡ c.args.ticket) s.marked (tickets_marked c.take_event.new.pairs.items c.take_event.new.marks.items)) c.self.view_is
+  live = subst (λ (s : Shown). WithoutTickets (λ t. t ≡ c.args.ticket) s.live c.take_event.new.list.live) c.self.view_is c.take_event.ensures.live;
+  marked = subst (λ (s : Shown). Without (λ (t : ℕ). t ≡ c.args.ticket) s.marked (tickets_marked c.take_event.new.list.live c.take_event.new.marks.items)) c.self.view_is
       c.take_event.ensures.marked;
 }
 

@@ -14,7 +14,7 @@ take_marked-requires c = record {
 
 pub returns : goal.returns
 returns c = record {
-  live = subst (λ (s : Shown). WithoutTickets (λ t. In t s.marked) s.live c.take_marked.new.pairs.items) c.self.view_is c.take_marked.ensures.live;
+  live = subst (λ (s : Shown). WithoutTickets (λ t. In t s.marked) s.live c.take_marked.new.list.live) c.self.view_is c.take_marked.ensures.live;
   marked = c.take_marked.ensures.marked;
 }
 

@@ -9,7 +9,7 @@ use Rattle.dependence.proofs.live.Live.unmarked_below.Goals as goal
 
 pub returns : goal.returns
 returns c =
-    let l : Live = c.self.inside.pairs.items in
+    let l : Live = c.self.inside.list.live in
     let marks : List Bool = c.self.inside.marks.items in
     let size : length marks ≡ length l = c.self.invariant.0.marks in
     let lent : length c.as_slice.result.now ≡ length marks = ap length c.as_slice.ensures.value in

@@ -1,4 +1,4 @@
-use Rattle.std.proofs.Common.{◌≡◌, ◌∙◌, Ok, refl}
+use Rattle.std.proofs.Common.{◌≡◌, Ok, refl}
 use Rattle.std.proofs.lemmas.Result.{IfOk-weaker}
 use Rattle.runs.specs.Does.{Does}
 use Rattle.runs.specs.declared.command.Command.{Command}
@@ -9,5 +9,5 @@ use Rattle.machine.proofs.history.History.tell_live.Goals as goal
 pub returns : goal.returns
 returns c = λ system.
     let o = execution system c.args.self.now in
-    IfOk-weaker c.copy_live.result (λ live. live ≡ c.as_slice.result.now) (λ live. Does o Command.Live (live_reply (Ok live)) o)
-    (λ live is. (is ∙ c.as_slice.ensures, refl)) c.copy_live.ensures
+    IfOk-weaker c.copy_live.result (λ live. live ≡ c.args.self.now.live.live) (λ live. Does o Command.Live (live_reply (Ok live)) o) (λ live is. (is, refl))
+    c.copy_live.ensures
