@@ -1,5 +1,5 @@
 -- Items by ticket, of which some were taken out and have left their place empty.
-use Rattle.std.specs.Prelude.{◌≡◌, ℕ, suc, ◌+◌, ◌*◌, ◌<◌, ◌≤◌, List, [], ◌∷◌, length, take, Option, Some, None, slice_get}
+use Rattle.std.specs.Prelude.{◌≡◌, ℕ, suc, ◌+◌, ◌*◌, ◌≤◌, List, [], ◌∷◌, length, take, Option, Some, None, slice_get}
 use Rattle.syntax.specs.Lists.{In}
 
 -- a place has a ticket, and an item unless it was taken out

@@ -1,10 +1,10 @@
 -- The counts of blocks: what they say of places, and what an edit of one place leaves.
-use Rattle.std.proofs.Common.{◌≡◌, ◌≢◌, Bool, true, false, cond, filter, ℕ, zero, suc, ◌+◌, ◌-◌, ◌*◌, ◌/◌, ◌<◌, ◌≤◌, List, [], ◌∷◌, ◌++◌, length, take, Option, Some, None, refl, sym, ap, subst, ◌∙◌, inl, inr, arith, length-append}
+use Rattle.std.proofs.Common.{◌≡◌, ◌≢◌, Bool, cond, filter, ℕ, zero, suc, ◌+◌, ◌-◌, ◌*◌, ◌/◌, ◌<◌, ◌≤◌, List, [], ◌∷◌, ◌++◌, length, Option, Some, None, refl, sym, ap, subst, ◌∙◌, inl, inr, arith, length-append}
 use Rattle.std.specs.Prelude.{slice_get, slice_set, is_some, ◌⊎◌}
 use Rattle.std.proofs.lemmas.Bool.{cases_lt, cases_eq}
 use Rattle.indexmap.specs.IndexMap.{set_value_at}
-use Rattle.slots.specs.Places.{Places, put_before, filled, rank, RiseFrom, Counted, EndsFilled}
-use Rattle.slots.proofs.public.PlaceLaws.{none-some, some-is, add_here, length-put, filled-short, rank-whole, rank-rises, rank-span, rank-next, rank-full, rank-changed, rank-taken-before, rank-taken-behind, rank-pushed, rank-past, length-edited, filled-append, held-some}
+use Rattle.slots.specs.Places.{Places, put_before, filled, rank, RiseFrom, Counted}
+use Rattle.slots.proofs.public.PlaceLaws.{none-some, some-is, add_here, rank-whole, rank-rises, rank-span, rank-next, rank-full, rank-changed, rank-taken-before, rank-taken-behind, rank-pushed, rank-past, length-edited}
 
 length-written : (ns : List ℕ) (i v : ℕ) → length (slice_set ns i v) ≡ length ns
 length-written [] i v = refl

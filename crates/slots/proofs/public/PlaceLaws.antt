@@ -1,14 +1,13 @@
 -- Items and their places: which item is where, and what an edit of one place leaves.
-use Rattle.std.proofs.Common.{◌≡◌, Bool, true, false, cond, nat_eq, ℕ, zero, suc, ◌+◌, ◌-◌, ◌*◌, ◌<◌, ◌≤◌, List, [], ◌∷◌, ◌++◌, length, take, drop, Option, Some, None, refl, sym, ap, subst, ◌∙◌, inl, inr, arith, length-append}
+use Rattle.std.proofs.Common.{◌≡◌, Bool, true, false, cond, nat_eq, ℕ, zero, suc, ◌+◌, ◌-◌, ◌<◌, ◌≤◌, List, [], ◌∷◌, ◌++◌, length, take, Option, Some, None, refl, sym, ap, subst, ◌∙◌, inl, inr, arith}
 use Rattle.std.proofs.lemmas.Bool.{cases_lt}
 use Rattle.std.proofs.lemmas.Bool.Decides.{nat_tests}
 use Rattle.std.specs.Map.{lookup, lookup_key, values_of}
 use Rattle.std.specs.Prelude.{slice_get, slice_set, is_some, ◌⊎◌, Result, Ok, Err, OnOk}
 use Rattle.std.specs.List.{remove}
-use Rattle.std.proofs.lemmas.Option.{slice_get_within}
 use Rattle.indexmap.specs.IndexMap.{set_value_at}
 use Rattle.syntax.specs.Lists.{In}
-use Rattle.slots.specs.Places.{Places, put_before, filled, rank, RiseFrom, EndsFilled}
+use Rattle.slots.specs.Places.{Places, put_before, filled, rank, RiseFrom}
 
 pub none-some : {X : Type 0} {P : Type 0} (x : X) → None ≡ Some x → P
 none-some x e = cc

@@ -1,6 +1,6 @@
-use Rattle.std.proofs.Common.{◌≡◌, ◌∙◌, ◌+◌, ◌-◌, ◌*◌, ◌<◌, ◌≤◌, ℕ, length, get_or, refl, sym, ap, arith}
+use Rattle.std.proofs.Common.{◌≡◌, ◌∙◌, ◌+◌, ◌*◌, ◌<◌, ℕ, length, get_or, refl, ap, arith}
 use Rattle.std.proofs.lemmas.Option.{slice_get-get_or}
-use Rattle.slots.specs.Places.{filled, rank}
+use Rattle.slots.specs.Places.{rank}
 use Rattle.slots.proofs.public.PlaceLaws.{rank-within, filled-short}
 use Rattle.slots.proofs.blocks.before_block.Goals as goal
 

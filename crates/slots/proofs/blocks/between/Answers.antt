@@ -1,5 +1,5 @@
-use Rattle.std.proofs.Common.{◌≡◌, ◌∙◌, ◌+◌, ◌<◌, ◌≤◌, ℕ, length, refl, sym, ap, arith}
-use Rattle.slots.specs.Places.{filled, rank}
+use Rattle.std.proofs.Common.{◌≡◌, ◌∙◌, ◌+◌, ℕ, ap, arith}
+use Rattle.slots.specs.Places.{rank}
 use Rattle.slots.proofs.public.PlaceLaws.{rank-low}
 use Rattle.slots.proofs.blocks.between.Goals as goal
 

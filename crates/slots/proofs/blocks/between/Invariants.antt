@@ -1,4 +1,4 @@
-use Rattle.std.proofs.Common.{◌≡◌, ◌+◌, ◌≤◌}
+use Rattle.std.proofs.Common.{◌≡◌, ◌+◌}
 use Rattle.slots.specs.Places.{rank}
 use Rattle.slots.proofs.blocks.between.Given as goal
 

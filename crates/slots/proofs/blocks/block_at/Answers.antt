@@ -1,6 +1,6 @@
-use Rattle.std.proofs.Common.{◌≡◌, ◌∙◌, ◌+◌, ◌-◌, ◌*◌, ◌<◌, ◌≤◌, ℕ, length, get_or, refl, ap, arith}
+use Rattle.std.proofs.Common.{◌≡◌, ◌+◌, ◌*◌, ℕ, get_or, refl, ap, arith}
 use Rattle.std.proofs.lemmas.Option.{slice_get-get_or}
-use Rattle.slots.specs.Places.{filled, rank}
+use Rattle.slots.specs.Places.{rank}
 use Rattle.slots.proofs.public.PlaceLaws.{place-left}
 use Rattle.slots.proofs.public.CountLaws.{block-left}
 use Rattle.slots.proofs.blocks.block_at.Goals as goal

@@ -1,5 +1,4 @@
-use Rattle.std.proofs.Common.{◌≡◌, ◌∙◌, ◌+◌, ◌*◌, ◌/◌, ◌<◌, ◌≤◌, ℕ, length, refl, sym, ap, arith}
-use Rattle.slots.specs.Places.{filled, rank}
+use Rattle.std.proofs.Common.{sym, arith}
 use Rattle.slots.proofs.public.PlaceLaws.{rank-full, rank-low}
 use Rattle.slots.proofs.blocks.index_at.Goals as goal
 

@@ -1,4 +1,4 @@
-use Rattle.std.proofs.Common.{◌≡◌, ◌∙◌, ◌+◌, ◌<◌, ◌≤◌, ℕ, suc, Some, None, refl, sym, ap, arith}
+use Rattle.std.proofs.Common.{◌≡◌, ◌∙◌, ◌+◌, ℕ, suc, Some, None, ap, arith}
 use Rattle.slots.specs.Places.{rank}
 use Rattle.slots.proofs.public.PlaceLaws.{rank-next, value-at}
 use Rattle.slots.proofs.blocks.items_at.Goals as goal

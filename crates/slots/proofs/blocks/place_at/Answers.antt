@@ -1,6 +1,5 @@
-use Rattle.std.proofs.Common.{◌≡◌, ◌∙◌, ◌<◌, ◌≤◌, ℕ, length, Some, refl, sym, ap, arith}
-use Rattle.std.specs.Prelude.{slice_get}
-use Rattle.slots.specs.Places.{filled, rank}
+use Rattle.std.proofs.Common.{◌≡◌, ◌∙◌, ◌<◌, length, Some, ap, arith}
+use Rattle.slots.specs.Places.{filled}
 use Rattle.slots.proofs.public.PlaceLaws.{rank-full, at-within}
 use Rattle.slots.proofs.public.CountLaws.{full-at}
 use Rattle.slots.proofs.blocks.place_at.Goals as goal

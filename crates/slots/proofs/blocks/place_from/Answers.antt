@@ -1,5 +1,4 @@
-use Rattle.std.proofs.Common.{◌≡◌, ◌∙◌, ◌+◌, ◌-◌, ◌<◌, ◌≤◌, ℕ, length, refl, arith}
-use Rattle.slots.specs.Places.{filled, rank}
+use Rattle.std.proofs.Common.{refl, arith}
 use Rattle.slots.proofs.public.PlaceLaws.{rank-whole}
 use Rattle.slots.proofs.blocks.place_from.Goals as goal
 

@@ -1,7 +1,7 @@
 use Rattle.std.specs.Prelude.{◌⊎◌, slice_get}
-use Rattle.std.proofs.Common.{◌≡◌, ◌∙◌, ◌+◌, ◌-◌, ◌*◌, ◌<◌, ◌≤◌, ℕ, length, filter, refl, sym, ap, subst, arith, rules}
+use Rattle.std.proofs.Common.{◌≡◌, ◌∙◌, ◌+◌, ◌-◌, ◌*◌, ◌<◌, ◌≤◌, ℕ, length, filter, sym, ap, subst, arith, rules}
 use Rattle.indexmap.proofs.CallerLemmas.{filter-RetainsPairs}
-use Rattle.slots.specs.Places.{Places, filled, Counted, RiseFrom}
+use Rattle.slots.specs.Places.{Places, filled, RiseFrom}
 use Rattle.slots.proofs.public.PlaceLaws.{filled-short}
 use Rattle.slots.proofs.public.CountLaws.{is_filled, filled-kept, full-kept, rise-kept, none-empty, counted-full}
 use Rattle.slots.proofs.edits.close_up.Goals as goal

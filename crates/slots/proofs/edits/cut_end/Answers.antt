@@ -1,4 +1,4 @@
-use Rattle.std.proofs.Common.{◌≡◌, ◌∙◌, ◌-◌, ◌<◌, ◌≤◌, ◌++◌, ◌∷◌, [], ℕ, suc, List, Option, None, length, length-append, take, refl, sym, ap, subst, arith}
+use Rattle.std.proofs.Common.{◌≡◌, ◌∙◌, ◌-◌, ◌<◌, ◌++◌, ◌∷◌, [], ℕ, None, length, length-append, take, refl, sym, ap, subst, arith}
 use Rattle.slots.specs.Places.{Places, filled, Counted, RiseFrom}
 use Rattle.slots.proofs.public.PlaceLaws.{last-cut, rise-less}
 use Rattle.slots.proofs.public.CountLaws.{counted-cut, filled-cut}

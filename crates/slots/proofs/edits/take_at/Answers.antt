@@ -1,8 +1,8 @@
-use Rattle.std.proofs.Common.{◌≡◌, ◌∙◌, ◌+◌, ◌-◌, ◌*◌, ◌/◌, ◌<◌, ◌≤◌, ℕ, Option, Some, None, length, sym, ap, subst, arith}
-use Rattle.std.specs.Prelude.{slice_get, slice_set, slice_index_or}
+use Rattle.std.proofs.Common.{◌∙◌, ◌-◌, ◌/◌, ◌<◌, Option, Some, length, sym, ap, subst, arith}
+use Rattle.std.specs.Prelude.{slice_set, slice_index_or}
 use Rattle.std.proofs.lemmas.Option.{slice_get-get_or, slice_get_within}
 use Rattle.indexmap.specs.IndexMap.{set_value_at}
-use Rattle.slots.specs.Places.{Places, filled, Counted, RiseFrom}
+use Rattle.slots.specs.Places.{Places, filled, Counted}
 use Rattle.slots.proofs.public.PlaceLaws.{none-some, value-is, filled-taken, rise-set, length-edited}
 use Rattle.slots.proofs.public.CountLaws.{counted-taken, block-some}
 use Rattle.slots.proofs.edits.take_at.Goals as goal

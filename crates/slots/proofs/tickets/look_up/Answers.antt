@@ -1,8 +1,8 @@
-use Rattle.std.proofs.Common.{◌≡◌, ◌∙◌, ℕ, Option, Some, None, sym, ap, subst}
-use Rattle.std.specs.Prelude.{MatchOption, slice_get}
+use Rattle.std.proofs.Common.{◌≡◌, ◌∙◌, ℕ, Option, Some, sym, ap, subst}
+use Rattle.std.specs.Prelude.{MatchOption}
 use Rattle.slots.specs.Places.{NoneOf, IsOf}
-use Rattle.slots.proofs.public.PlaceLaws.{absent-none, key-passes, some-is, empty-absent, held-some, held-none}
-use Rattle.slots.proofs.tickets.find.Goals as goal
+use Rattle.slots.proofs.public.PlaceLaws.{absent-none, key-passes, empty-absent, held-some, held-none}
+use Rattle.slots.proofs.tickets.look_up.Goals as goal
 
 pub returns-in_err-place : goal.returns-in_err-place
 returns-in_err-place g c =
