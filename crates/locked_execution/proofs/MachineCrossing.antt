@@ -6,7 +6,7 @@ use Rattle.std.proofs.MapsCrossing as crossingMaps
 use Rattle.channel_uses.proofs.part.Part.TheLaws.TheKnot as partKnot
 use Rattle.address.proofs.Address.TheSendSync as addressCrosses
 use Rattle.address.proofs.Entry.TheSendSync as entryCrosses
-use Rattle.dependence.proofs.boxed_links.BoxedLinks.TheSendSync as heldLinksCrosses
+use Rattle.dependence.proofs.kept.Kept.TheSendSync as keptCrosses
 use Rattle.dependence.proofs.links.Links.TheSendSync as linksCrosses
 use Rattle.dependence.specs.contracts.live.Live as live
 use Rattle.last_events.proofs.branch.BranchEvents.TheLaws.TheKnot as branchKnot
@@ -38,7 +38,7 @@ uses_field_send = search (partKnot.crosses, trees, basics) depth 60 fits 20000
 pub uses_field_sync : IsSync (uses.the_field).row
 uses_field_sync = search (partKnot.crosses, trees, basics) depth 60 fits 20000
 
-pub ruleset events = (addressCrosses.the_send, addressCrosses.the_sync, entryCrosses.the_field_send, entryCrosses.the_field_sync, entryCrosses.the_send, entryCrosses.the_sync, heldLinksCrosses.the_send, heldLinksCrosses.the_sync, linksCrosses.the_send, linksCrosses.the_sync, eventCrosses.the_send, eventCrosses.the_sync, kindCrosses.the_field_send, kindCrosses.the_field_sync, kindCrosses.the_send, kindCrosses.the_sync, variablesCrosses.the_send, variablesCrosses.the_sync)
+pub ruleset events = (addressCrosses.the_send, addressCrosses.the_sync, entryCrosses.the_field_send, entryCrosses.the_field_sync, entryCrosses.the_send, entryCrosses.the_sync, keptCrosses.the_send, keptCrosses.the_sync, linksCrosses.the_send, linksCrosses.the_sync, eventCrosses.the_send, eventCrosses.the_sync, kindCrosses.the_field_send, kindCrosses.the_field_sync, kindCrosses.the_send, kindCrosses.the_sync, variablesCrosses.the_send, variablesCrosses.the_sync)
 
 -- live events, whose table of places is a tree of branches
 pub live_field_send : IsSend (live.the_field).row
