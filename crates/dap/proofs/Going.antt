@@ -21,7 +21,7 @@ use Rattle.dap_moves.specs.declared.run.Ended.{Ended}
 use Rattle.dap_moves.proofs.public.Leading.{led_nowhere}
 use Rattle.dap_requests.specs.Forth.{Going, RunsBy, stop_at}
 use Rattle.dap_requests.specs.Said.{Runs, TellsStop}
-use Rattle.dap_requests.specs.Typed.{KeepsSome, is_typed}
+use Rattle.dap_requests.specs.Typed.{Evaluates, KeepsSome, is_typed}
 use Rattle.dap_requests.proofs.public.Saying.{runs_after, runs_weaker}
 use Rattle.dap_server.specs.Kinds.{moves}
 use Rattle.dap_threads.specs.Threads.{branch_named}
@@ -51,7 +51,7 @@ steps_as a b program before after d d' kind known request is h =
 -- one that is none of these asks for a step, or for nothing
 forward-as : (program : Program) (before after : List Choice) (d d' : AtDesk) (kind : Kind) (request : Request) (stop : Stop) →
     (kind ≡ Kind.StepBack → ⊥) → (kind ≡ Kind.Continue → ⊥) → (kind ≡ Kind.ReverseContinue → ⊥) → (kind ≡ Kind.Pause → ⊥) →
-    Forward d request (thread_of d request) stop d' → Steps program before after d kind request stop d'
+    Forward program.excepts d request (thread_of d request) stop d' → Steps program before after d kind request stop d'
 forward-as program before after d d' Kind.StepBack request stop one two three four h = absurd (one refl)
 forward-as program before after d d' Kind.Continue request stop one two three four h = absurd (two refl)
 forward-as program before after d d' Kind.ReverseContinue request stop one two three four h = absurd (three refl)
@@ -63,10 +63,10 @@ forward-as program before after d d' _ request stop one two three four h = tt
 
 pub steps_forward : (a b : Answer) (program : Program) (before after : List Choice) (d d' : AtDesk) (kind : Kind) (request : Request) →
     (kind ≡ Kind.StepBack → ⊥) → (kind ≡ Kind.Continue → ⊥) → (kind ≡ Kind.ReverseContinue → ⊥) → (kind ≡ Kind.Pause → ⊥) →
-    Runs a b d d' (λ (stop : Stop). Forward d request (thread_of d request) stop d') →
+    Runs a b d d' (λ (stop : Stop). Forward program.excepts d request (thread_of d request) stop d') →
     Runs a b d d' (λ (stop : Stop). Steps program before after d kind request stop d')
 steps_forward a b program before after d d' kind request one two three four h =
-    runs_weaker a b d d' (λ (stop : Stop). Forward d request (thread_of d request) stop d')
+    runs_weaker a b d d' (λ (stop : Stop). Forward program.excepts d request (thread_of d request) stop d')
     (λ (stop : Stop). Steps program before after d kind request stop d')
     (λ (stop : Stop) it. forward-as program before after d d' kind request stop one two three four it) h
 
@@ -81,20 +81,20 @@ pub keeps_same : (b : Answer) (before : List Choice) → KeepsSome b before befo
 keeps_same b before = inr (inl refl)
 
 -- behind a run
-keeps-ended : (lines : List ℕ) (d : AtDesk) (b : Answer) (before after : List Choice) (stop : Stop) (ended : Ended) →
-    b.effect ≡ Effect.Due (Told.Stopped stop) → stop ≡ stop_at ended → KeepsChoice lines d ended after → KeepsSome b before after
-keeps-ended lines d b before after stop (Ended.AtLine branch line) effect told keeps = elim keeps [
+keeps-ended : (excepts : Bool) (lines : List ℕ) (d : AtDesk) (b : Answer) (before after : List Choice) (stop : Stop) (ended : Ended) →
+    b.effect ≡ Effect.Due (Told.Stopped stop) → stop ≡ stop_at excepts ended → KeepsChoice lines d ended after → KeepsSome b before after
+keeps-ended excepts lines d b before after stop (Ended.AtLine branch line) effect told keeps = elim keeps [
   | inl none ↦ inl none
   | inr one ↦ inr (inr (effect ∙ ap (λ (s : Stop). Effect.Due (Told.Stopped s)) told, (choice_of one.0, one.1)))
 ]
-keeps-ended lines d b before after stop Ended.Nothing effect told keeps = inl keeps
-keeps-ended lines d b before after stop (Ended.Watched branch ticket) effect told keeps = inl keeps
-keeps-ended lines d b before after stop (Ended.Most branch) effect told keeps = inl keeps
-keeps-ended lines d b before after stop (Ended.Refused branch why) effect told keeps = inl keeps
+keeps-ended excepts lines d b before after stop Ended.Nothing effect told keeps = inl keeps
+keeps-ended excepts lines d b before after stop (Ended.Watched branch ticket) effect told keeps = inl keeps
+keeps-ended excepts lines d b before after stop (Ended.Most branch) effect told keeps = inl keeps
+keeps-ended excepts lines d b before after stop (Ended.Refused branch why) effect told keeps = inl keeps
 
 pub keeps_run : (going : Going) (k : Option ℕ) (d d' : AtDesk) (before after : List Choice) (a b : Answer) →
     (stop : Stop) × TellsStop a stop b × RunsBy going k d before stop d' after → KeepsSome b before after
-keeps_run going k d d' before after a b h = keeps-ended going.lines d' b before after h.0 h.2.ended h.1.effect h.2.told h.2.keeps
+keeps_run going k d d' before after a b h = keeps-ended going.excepts going.lines d' b before after h.0 h.2.ended h.1.effect h.2.told h.2.keeps
 
 -- a request to move sets nothing
 sets-moving : (kind : Kind) (p : Program) → moves kind ≡ true → Sets kind p p
@@ -201,6 +201,7 @@ moves_goes l request a b d' memo is over led goes keeps = record {
   looks = λ same none. absurd (not-both request.kind Kind.Evaluate is refl same);
   moved = λ it. goes;
   begins = λ same. absurd (not-both request.kind Kind.ConfigurationDone is refl same);
+  evaluates = λ same. absurd (not-both request.kind Kind.Evaluate is refl same);
   sets = sets-moving request.kind (unseen l.program) is;
   keeps = keeps;
 }
@@ -216,6 +217,7 @@ look_goes l request a b q still none sets = record {
   looks = λ same typed. refl;
   moved = λ is. let no : true ≡ false = sym is ∙ still in absurd (cc);
   begins = λ same. absurd (not-asked request.kind Kind.ConfigurationDone none refl same);
+  evaluates = λ same. inl refl;
   sets = sets-unseen request.kind l.program q sets;
   keeps = keeps_same b l.memo.seen.items;
 }
@@ -231,6 +233,7 @@ over_goes l request a b is refused same = record {
   looks = λ same typed. refl;
   moved = λ it. inl (refused, same, refl);
   begins = λ it. inl (refused, same, refl);
+  evaluates = λ it. inl refl;
   sets = elim is [ inl moving ↦ sets-moving request.kind (unseen l.program) moving | inr asking ↦ sets-asking request.kind (unseen l.program) asking ];
   keeps = keeps_same b l.memo.seen.items;
 }
@@ -238,9 +241,9 @@ over_goes l request a b is refused same = record {
 -- an expression
 pub typed_goes : (l : Launched) (request : Request) (a b : Answer) (d' : AtDesk) (memo : Memo) → asks request.kind ≡ true →
     (request.kind ≡ Kind.ConfigurationDone → ⊥) → l.program.ended ≡ false → moves request.kind ≡ false → Led l.desk d' →
-    (is_typed request ≡ false → d' ≡ l.desk) → (d' ≡ l.desk) ⊎ (IsDone a.outcome → IsDone b.outcome) →
+    (is_typed request ≡ false → d' ≡ l.desk) → Evaluates l.desk d' → (d' ≡ l.desk) ⊎ (IsDone a.outcome → IsDone b.outcome) →
     KeepsSome b l.memo.seen.items memo.seen.items → LaunchedGoes l request a b (record { program = l.program; memo = memo; desk = d' })
-typed_goes l request a b d' memo asking other running still led looks refused keeps = record {
+typed_goes l request a b d' memo asking other running still led looks does refused keeps = record {
   led = led;
   reads = λ reads.
       let it : changes request.kind ≡ true = ap (λ (b : Bool). b || asks request.kind) still ∙ asking in
@@ -250,27 +253,28 @@ typed_goes l request a b d' memo asking other running still led looks refused ke
   looks = λ same none. looks none;
   moved = λ is. let no : true ≡ false = sym is ∙ still in absurd (cc);
   begins = λ same. absurd (other same);
+  evaluates = λ same. does;
   sets = sets-asking request.kind (unseen l.program) asking;
   keeps = keeps;
 }
 
 -- the first request to run
-begun-refused : (l m : Launched) (a b : Answer) → (IsRefusal b.outcome × (b.notes ≡ a.notes) × (m ≡ l)) ⊎ Begins a b →
-    (IsRefusal b.outcome × (b.notes ≡ a.notes) × (m.desk ≡ l.desk)) ⊎ Begins a b
+begun-refused : (l m : Launched) (a b : Answer) → (IsRefusal b.outcome × (b.notes ≡ a.notes) × (m ≡ l)) ⊎ Begins l m a b →
+    (IsRefusal b.outcome × (b.notes ≡ a.notes) × (m.desk ≡ l.desk)) ⊎ Begins l m a b
 begun-refused l m a b h = elim h [
   | inl refused ↦ inl (refused.0, refused.1, ap (λ (x : Launched). x.desk) refused.2)
   | inr begins ↦ inr begins
 ]
 
-begun-done : (l m : Launched) (a b : Answer) → (IsRefusal b.outcome × (b.notes ≡ a.notes) × (m ≡ l)) ⊎ Begins a b →
+begun-done : (l m : Launched) (a b : Answer) → (IsRefusal b.outcome × (b.notes ≡ a.notes) × (m ≡ l)) ⊎ Begins l m a b →
     (m.desk ≡ l.desk) ⊎ (IsDone a.outcome → IsDone b.outcome)
 begun-done l m a b h = elim h [
   | inl refused ↦ inl (ap (λ (x : Launched). x.desk) refused.2)
-  | inr begins ↦ elim begins [ inl stops ↦ inr stops.1.done | inr ends ↦ inr ends.done ]
+  | inr begins ↦ elim begins [ inl stops ↦ inr stops.1.done | inr ends ↦ inr ends.1.done ]
 ]
 
 pub begins_goes : (l m : Launched) (request : Request) (a b : Answer) → request.kind ≡ Kind.ConfigurationDone → l.program.ended ≡ false →
-    Led l.desk m.desk → (IsRefusal b.outcome × (b.notes ≡ a.notes) × (m ≡ l)) ⊎ Begins a b → EndsFree l.program m.program →
+    Led l.desk m.desk → (IsRefusal b.outcome × (b.notes ≡ a.notes) × (m ≡ l)) ⊎ Begins l m a b → EndsFree l.program m.program →
     KeepsSome b l.memo.seen.items m.memo.seen.items → LaunchedGoes l request a b m
 begins_goes l m request a b is running led begins sets keeps = record {
   led = led;
@@ -282,6 +286,7 @@ begins_goes l m request a b is running led begins sets keeps = record {
   looks = λ same none. let no : Kind.ConfigurationDone ≡ Kind.Evaluate = sym is ∙ same in absurd (cc);
   moved = λ it. let no : true ≡ false = sym it ∙ ap (λ (k : Kind). moves k) is in absurd (cc);
   begins = λ it. begun-refused l m a b begins;
+  evaluates = λ same. let no : Kind.ConfigurationDone ≡ Kind.Evaluate = sym is ∙ same in absurd (cc);
   sets =
       subst (λ (k : Kind). Sets k (unseen l.program) (unseen m.program)) (sym is)
       (sets-unseen Kind.ConfigurationDone l.program m.program sets);
@@ -302,6 +307,7 @@ goes_unseen l m request a b s t h = record {
   looks = h.looks;
   moved = h.moved;
   begins = h.begins;
+  evaluates = h.evaluates;
   sets = h.sets;
   keeps = h.keeps;
 }
@@ -396,6 +402,7 @@ refused_goes (Some l) request a b still refused notes = inr (record {
   looks = λ same typed. refl;
   moved = λ is. let no : true ≡ false = sym is ∙ still in absurd (cc);
   begins = λ same. inl (refused, notes, refl);
+  evaluates = λ same. inl refl;
   sets = sets-still request.kind (unseen l.program);
   keeps = keeps_same b l.memo.seen.items;
 })

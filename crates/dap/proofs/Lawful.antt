@@ -6,7 +6,7 @@ use Rattle.dap_messages.specs.declared.answer.Answer.{Answer}
 use Rattle.dap_messages.specs.declared.request.Request.{Request}
 use Rattle.dap_moves.proofs.public.Leading.{led_nowhere, led_on}
 use Rattle.dap_server.specs.Session.{Serves, Session}
-use Rattle.dap.specs.Goes.{Comes, Goes}
+use Rattle.dap.specs.Goes.{Comes, Goes, is_over}
 use Rattle.dap.specs.Laws.{IsLed, SessionIsLed}
 use Rattle.dap.specs.declared.face.Face.{Face}
 use Rattle.dap.specs.declared.launch.Launched.{Launched}
@@ -29,14 +29,14 @@ pub session-is-led : SessionIsLed
 session-is-led a b next [] sent led session = subst (λ (f : Face). IsLed f.launched) (sym session.1) led
 session-is-led a b next (Some request ∷ heard) sent led session =
     session-is-led session.0 b (next + length session.1) heard session.2
-    (led-one a.launched session.0.launched request session.3.answered.empty session.3.answer led session.3.answered.goes) session.4
-session-is-led a b next (None ∷ heard) sent led session = session-is-led a b (next + 1) heard session.1 led session.2
+    (led-one a.launched session.0.launched request session.4.answered.empty session.4.answer led session.4.answered.goes) session.5
+session-is-led a b next (None ∷ heard) sent led session = session-is-led a b (next + 1) heard session.1 led session.3
 
 -- a session with a client that has just come, which ends well
 pub served : {X E : Type 0} (r : Result X E) (a b : Face) (u v left : Option (List ℕ)) → a.launched ≡ None → a.over ≡ false →
-    OnOk r ((after : ℕ) × Serves Comes a 1 b after u v) → OnOk r ((b.over ≡ true) ⊎ IsAtEnd left) →
+    OnOk r ((after : ℕ) × Serves Comes is_over a 1 b after u v) → OnOk r ((b.over ≡ true) ⊎ IsAtEnd left) →
     OnOk r
-    ((first : Face) × (last : Face) × (after : ℕ) × (first.launched ≡ None) × (first.over ≡ false) × Serves Comes first 1 last after u v
+    ((first : Face) × (last : Face) × (after : ℕ) × (first.launched ≡ None) × (first.over ≡ false) × Serves Comes is_over first 1 last after u v
     × ((last.over ≡ true) ⊎ IsAtEnd left))
 served (Ok x) a b u v left none running h k = (a, b, h.0, none, running, h.1, k)
 served (Err e) a b u v left none running h k = tt

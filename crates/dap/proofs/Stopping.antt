@@ -36,8 +36,8 @@ stops_once a b d d' goes empty done h = elim h [
 ]
 
 -- a program has begun
-pub begins_once : (a b : Answer) → Begins a b → BeginsOnce b
-begins_once a b h = elim h [
+pub begins_once : (l m : Launched) (a b : Answer) → Begins l m a b → BeginsOnce b
+begins_once l m a b h = elim h [
   | inl stops ↦ inl (
     stops.0,
     record {
@@ -49,12 +49,12 @@ begins_once a b h = elim h [
     },
   )
   | inr ends ↦ inr (record {
-    effect = ends.effect;
+    effect = ends.1.effect;
     last = λ full. (
-      told_by a.notes.items ++ (ends.outputs ++ Told.Exited ∷ []),
-      (ends.told full).1
-          ∙ ap (λ (ts : List Told). told_by a.notes.items ++ ts) (sym (append_assoc ends.outputs (Told.Exited ∷ []) (Told.Terminated ∷ [])))
-          ∙ sym (append_assoc (told_by a.notes.items) (ends.outputs ++ Told.Exited ∷ []) (Told.Terminated ∷ [])),
+      told_by a.notes.items ++ (ends.1.outputs ++ Told.Exited ∷ []),
+      (ends.1.told full).1
+          ∙ ap (λ (ts : List Told). told_by a.notes.items ++ ts) (sym (append_assoc ends.1.outputs (Told.Exited ∷ []) (Told.Terminated ∷ [])))
+          ∙ sym (append_assoc (told_by a.notes.items) (ends.1.outputs ++ Told.Exited ∷ []) (Told.Terminated ∷ [])),
     );
   })
 ]

@@ -1,5 +1,5 @@
 -- What a request does to what is launched.
-use Rattle.std.specs.Prelude.{◌≡◌, ◌⊎◌, ◌||◌, false, true, Option, None, Some, []}
+use Rattle.std.specs.Prelude.{◌≡◌, ◌⊎◌, ◌||◌, Bool, false, true, Option, None, Some, []}
 use Rattle.machine.specs.Headline.{Headline}
 use Rattle.locked_execution.specs.AtDesk.{execution}
 use Rattle.dap_messages.specs.Notes.{IsDone, IsRefusal}
@@ -8,7 +8,7 @@ use Rattle.dap_messages.specs.declared.kind.Kind.{Kind}
 use Rattle.dap_messages.specs.declared.request.Request.{Request}
 use Rattle.dap_moves.specs.Led.{Led}
 use Rattle.dap_requests.specs.Said.{Runs}
-use Rattle.dap_requests.specs.Typed.{KeepsSome, is_typed}
+use Rattle.dap_requests.specs.Typed.{Evaluates, KeepsSome, is_typed}
 use Rattle.dap_server.specs.Kinds.{moves}
 use Rattle.dap_views.specs.Kept.{unseen}
 use Rattle.dap.specs.Begins.{Begins}
@@ -33,7 +33,8 @@ pub record LaunchedGoes (l : Launched) (request : Request) (a b : Answer) (m : L
       Runs a b l.desk m.desk
       (λ stop. Steps l.program l.memo.seen.items m.memo.seen.items l.desk request.kind request stop m.desk)
   pub begins : request.kind ≡ Kind.ConfigurationDone →
-      (IsRefusal b.outcome × (b.notes ≡ a.notes) × (m.desk ≡ l.desk)) ⊎ Begins a b
+      (IsRefusal b.outcome × (b.notes ≡ a.notes) × (m.desk ≡ l.desk)) ⊎ Begins l m a b
+  pub evaluates : request.kind ≡ Kind.Evaluate → Evaluates l.desk m.desk
   pub sets : Sets request.kind (unseen l.program) (unseen m.program)
   pub keeps : KeepsSome b l.memo.seen.items m.memo.seen.items
 
@@ -60,6 +61,10 @@ abbrev pub RefusedEarly : Face → Request → Answer → Face → Type 0
 RefusedEarly x request answer y =
     x.launched ≡ None → moves request.kind ≡ true
     → IsRefusal answer.outcome × (answer.notes.items ≡ []) × (y ≡ x)
+
+-- whether the client has ended the session
+abbrev pub is_over : Face → Bool
+is_over x = x.over
 
 -- what comes of a request in a session; the answer begins done and empty
 pub record Comes (x : Face) (request : Request) (answer : Answer) (y : Face) : Type 0 where

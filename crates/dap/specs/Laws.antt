@@ -2,7 +2,7 @@
 use Rattle.std.specs.Prelude.{ℕ, ◌≡◌, List, Option, None, Some}
 use Rattle.dap_messages.specs.declared.request.Request.{Request}
 use Rattle.dap_server.specs.Session.{Session}
-use Rattle.dap.specs.Goes.{Comes}
+use Rattle.dap.specs.Goes.{Comes, is_over}
 use Rattle.dap.specs.Launching.{Stands}
 use Rattle.dap.specs.declared.face.Face.{Face}
 use Rattle.dap.specs.declared.launch.Launched.{Launched}
@@ -17,4 +17,4 @@ IsLed (Some l) = Stands l.desk
 abbrev pub SessionIsLed : Type 0
 SessionIsLed =
     (a b : Face) (next : ℕ) (heard : List (Option Request)) (sent : List (List ℕ))
-    → IsLed a.launched → Session Comes a next heard sent b → IsLed b.launched
+    → IsLed a.launched → Session Comes is_over a next heard sent b → IsLed b.launched

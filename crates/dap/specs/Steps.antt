@@ -1,10 +1,10 @@
 -- What requests that ask a thread to move do to a desk.
-use Rattle.std.specs.Prelude.{ℕ, ◌≡◌, List, false, Option, None, Some, codes, unwrap_or}
+use Rattle.std.specs.Prelude.{ℕ, ◌≡◌, Bool, List, Option, None, Some, codes}
 use Rattle.serde_json.specs.View.{view}
 use Rattle.system_places.specs.SystemBranches.{branch_count}
 use Rattle.runs.specs.declared.event.Choice.{Choice}
 use Rattle.locked_execution.specs.AtDesk.{AtDesk}
-use Rattle.dap_messages.specs.Arguments.{flag_named, number_named}
+use Rattle.dap_messages.specs.Arguments.{is_single, number_named}
 use Rattle.dap_messages.specs.declared.kind.Kind.{Kind}
 use Rattle.dap_messages.specs.declared.request.Request.{Request}
 use Rattle.dap_messages.specs.declared.told.Stop.{Stop}
@@ -20,17 +20,17 @@ thread_of d request =
 
 -- whether the request asks for one thread alone, and which
 abbrev pub only_of : Request → ℕ → Option ℕ
-only_of request k = alone k (unwrap_or (flag_named (codes "singleThread") (view request.arguments)) false)
+only_of request k = alone k (is_single request)
 
 -- the newest live step in which the branch took part is asked to be undone
-abbrev pub Backward : AtDesk → Option ℕ → Stop → AtDesk → Type 0
-Backward d None stop d' = ⊥
-Backward d (Some k) stop d' = Backs d k stop d'
+abbrev pub Backward : Bool → AtDesk → Option ℕ → Stop → AtDesk → Type 0
+Backward excepts d None stop d' = ⊥
+Backward excepts d (Some k) stop d' = Backs excepts d k stop d'
 
 -- a step that the branch can take is asked for: the first, or the one that `stepIn` names
-abbrev pub Forward : AtDesk → Request → Option ℕ → Stop → AtDesk → Type 0
-Forward d request None stop d' = ⊥
-Forward d request (Some k) stop d' = StepsForth d k (target_in request) stop d'
+abbrev pub Forward : Bool → AtDesk → Request → Option ℕ → Stop → AtDesk → Type 0
+Forward excepts d request None stop d' = ⊥
+Forward excepts d request (Some k) stop d' = StepsForth excepts d k (target_in request) stop d'
 
 -- a run goes on from where the branch stands, as the program is set
 abbrev pub GoesOn : Program → List Choice → List Choice → AtDesk → Request → Option ℕ → Stop → AtDesk → Type 0
@@ -42,12 +42,17 @@ GoesOn program before after d request (Some k) stop d' =
 -- thread, and a run begins there. `before` are the steps before which a run has stood, and `after` those that are kept
 -- in mind
 abbrev pub Steps : Program → List Choice → List Choice → AtDesk → Kind → Request → Stop → AtDesk → Type 0
-Steps program before after d Kind.StepBack request stop d' = Backward d (thread_of d request) stop d'
-Steps program before after d Kind.Next request stop d' = Forward d request (thread_of d request) stop d'
-Steps program before after d Kind.StepIn request stop d' = Forward d request (thread_of d request) stop d'
-Steps program before after d Kind.StepOut request stop d' = Forward d request (thread_of d request) stop d'
+Steps program before after d Kind.StepBack request stop d' =
+    Backward program.excepts d (thread_of d request) stop d'
+Steps program before after d Kind.Next request stop d' =
+    Forward program.excepts d request (thread_of d request) stop d'
+Steps program before after d Kind.StepIn request stop d' =
+    Forward program.excepts d request (thread_of d request) stop d'
+Steps program before after d Kind.StepOut request stop d' =
+    Forward program.excepts d request (thread_of d request) stop d'
 Steps program before after d Kind.Continue request stop d' =
     GoesOn program before after d request (thread_of d request) stop d'
-Steps program before after d Kind.ReverseContinue request stop d' = ReversesFor d request stop d'
+Steps program before after d Kind.ReverseContinue request stop d' =
+    ReversesFor program.excepts d request stop d'
 Steps program before after d Kind.Pause request stop d' = (stop ≡ Stop.Stands) × (d' ≡ d)
 Steps program before after d _ request stop d' = Unit {0}

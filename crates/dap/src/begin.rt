@@ -1,11 +1,12 @@
 // The beginning of a program that was launched.
-ghost use Rattle.std.specs.Prelude.{◌≡◌, ◌⊎◌};
+ghost use Rattle.std.specs.Prelude.{◌≡◌, ◌⊎◌, true};
 ghost use Rattle.dap_messages.specs.Notes.{IsRefusal};
 ghost use Rattle.dap_moves.specs.Led.{Led};
-ghost use Rattle.dap_requests.specs.Said.{TellsEnd, TellsOutputs};
+ghost use Rattle.dap_messages.specs.declared.told.Stop.{Stop as Stands};
+ghost use Rattle.dap_requests.specs.Said.{TellsEnd, TellsStop};
 ghost use Rattle.dap_requests.specs.Typed.{KeepsSome};
 ghost use Rattle.dap_views.specs.Kept.{SameButBegun};
-ghost use Rattle.dap.specs.Begins.{Begins, EndsFree};
+ghost use Rattle.dap.specs.Begins.{Begins, EndsFree, Starts};
 
 use crate::launch::Launched;
 use dap_messages::{Answer, Members, Told};
@@ -19,7 +20,7 @@ use std::alloc::Global;
 pub(crate) fn begin_once(alloc: Global, launched: &mut Launched, answer: &mut Answer)
     ensures led { Led launched.old.desk launched.new.desk }
     ensures begins { (IsRefusal answer.new.outcome × (answer.new.notes ≡ answer.old.notes)
-        × (launched.new ≡ launched.old)) ⊎ Begins answer.old answer.new }
+        × (launched.new ≡ launched.old)) ⊎ Begins launched.old launched.new answer.old answer.new }
     ensures sets { EndsFree launched.old.program launched.new.program }
     ensures keeps { KeepsSome answer.new launched.old.memo.seen.items launched.new.memo.seen.items }
 {
@@ -34,7 +35,7 @@ pub(crate) fn begin_once(alloc: Global, launched: &mut Launched, answer: &mut An
 #[tactic(auto, using(crate::proofs::Going::led_still, crate::proofs::Going::ends_same, crate::proofs::Going::keeps_same))]
 pub(crate) fn begin(alloc: Global, launched: &mut Launched, answer: &mut Answer)
     ensures led { Led launched.old.desk launched.new.desk }
-    ensures begins { Begins answer.old answer.new }
+    ensures begins { Begins launched.old launched.new answer.old answer.new }
     ensures sets { EndsFree launched.old.program launched.new.program }
     ensures keeps { KeepsSome answer.new launched.old.memo.seen.items launched.new.memo.seen.items }
 {
@@ -63,7 +64,8 @@ fn begin_stopping(
     answer: &mut Answer,
 )
     ensures led { Led desk.old desk.new }
-    ensures begins { Begins answer.old answer.new }
+    ensures begins { (stop : Stands) × TellsStop answer.old stop answer.new
+        × Starts program.now memo.old.seen.items memo.new.seen.items desk.old stop desk.new }
     ensures keeps { KeepsSome answer.new memo.old.seen.items memo.new.seen.items }
 {
     if program.launch.stops {
@@ -85,7 +87,7 @@ fn entry_text(machine: &Machine) -> &'static str {
 /// Runs to the end, and tells that it is over.
 fn begin_free(alloc: Global, desk: &mut Desk, program: &Program, answer: &mut Answer)
     ensures led { Led desk.old desk.new }
-    ensures begins { Begins answer.old answer.new }
+    ensures ends { TellsEnd answer.old answer.new }
 {
     run_free(alloc, desk, program, answer);
     tell_end(alloc, answer);

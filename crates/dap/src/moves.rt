@@ -49,7 +49,7 @@ fn step(
 )
     ensures led { Led desk.old desk.new }
     ensures goes { Runs answer.old answer.new desk.old desk.new
-        (λ stop. Forward desk.old request.now (thread_of desk.old request.now) stop desk.new) }
+        (λ stop. Forward program.now.excepts desk.old request.now (thread_of desk.old request.now) stop desk.new) }
     ensures keeps { KeepsSome answer.new memo.old.seen.items memo.new.seen.items }
 {
     match thread_in(request, desk.machine(), answer) {
@@ -93,7 +93,7 @@ fn back(
 )
     ensures led { Led desk.old desk.new }
     ensures goes { Runs answer.old answer.new desk.old desk.new
-        (λ stop. Backward desk.old (thread_of desk.old request.now) stop desk.new) }
+        (λ stop. Backward program.now.excepts desk.old (thread_of desk.old request.now) stop desk.new) }
     ensures keeps { KeepsSome answer.new memo.old.seen.items memo.new.seen.items }
 {
     match thread_in(request, desk.machine(), answer) {

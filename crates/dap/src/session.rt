@@ -2,7 +2,7 @@
 ghost use Rattle.std.specs.Prelude.{ℕ, ◌≡◌, ◌⊎◌, None, OnOk, false, true};
 ghost use Rattle.std.specs.Io.KnownBytes.{IsAtEnd};
 ghost use Rattle.dap_server.specs.Session.{Serves};
-ghost use Rattle.dap.specs.Goes.{Comes};
+ghost use Rattle.dap.specs.Goes.{Comes, is_over};
 ghost use Rattle.dap.specs.declared.face.Face.{Face as Facing};
 
 use crate::{Face, Sources};
@@ -14,7 +14,7 @@ use std::io::{Read, Write};
 impl<F: Sources> Adapter<F> for Face {
     ghost answers = { Comes };
 
-    ghost over = { λ face. face.over };
+    ghost over = { is_over };
 
     fn answer(&mut self, files: &F, request: &Request) -> Answer {
         self.respond(files, request)
@@ -45,7 +45,7 @@ pub fn serve<R: Read, W: Write, F: Sources>(
 ) -> Result<(), Fault>
     ensures { OnOk result ((first : Facing) × (last : Facing) × (after : ℕ) × (first.launched ≡ None)
         × (first.over ≡ false)
-        × Serves Comes first 1 last after (W.contents writer.old) (W.contents writer.new)
+        × Serves Comes is_over first 1 last after (W.contents writer.old) (W.contents writer.new)
         × ((last.over ≡ true) ⊎ IsAtEnd (R.remaining reader.new))) }
 {
     let mut face = Face::new(alloc);

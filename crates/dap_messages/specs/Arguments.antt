@@ -1,7 +1,9 @@
 -- What a request has for arguments.
-use Rattle.std.specs.Prelude.{ℕ, Bool, List, Option, option_and_then}
+use Rattle.std.specs.Prelude.{ℕ, Bool, false, List, Option, codes, option_and_then, unwrap_or}
 use Rattle.serde_json.specs.Data.{Data}
 use Rattle.serde_json.specs.Find.{get, as_bool, as_number, as_str, as_u64}
+use Rattle.serde_json.specs.View.{view}
+use Rattle.dap_messages.specs.declared.request.Request.{Request}
 
 -- the member of this name, where it is a whole number from 0 on
 abbrev pub number_named : List ℕ → Data → Option ℕ
@@ -14,3 +16,7 @@ text_named name d = option_and_then as_str (get name d)
 -- the member of this name, where it is `true` or `false`
 abbrev pub flag_named : List ℕ → Data → Option Bool
 flag_named name d = option_and_then as_bool (get name d)
+
+-- whether a request is of one thread alone
+abbrev pub is_single : Request → Bool
+is_single request = unwrap_or (flag_named (codes "singleThread") (view request.arguments)) false

@@ -8,8 +8,8 @@ pub enum Stop {
     Stands,
     /// before a step of which an action is on a line with a breakpoint
     AtLine,
-    /// a step was refused, for the reason of this number
-    Refused(u64),
+    /// a step was refused, for the reason of this number; and whether that is an exception to the client
+    Refused(u64, bool),
 }
 
 /// What is told without being asked: the events of the protocol that are used.

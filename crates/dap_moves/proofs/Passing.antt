@@ -1,8 +1,9 @@
 -- Runs that pass none of the lines, one behind another.
-use Rattle.std.proofs.Common.{◌≡◌, ◌⊎◌, ◌==◌, ℕ, zero, suc, ◌<◌, List, [], ◌∷◌, length, get_or, true, false, Option, None, Some, inl, inr, refl, sym, ◌∙◌, ap, subst, arith}
+use Rattle.std.proofs.Common.{◌≡◌, ◌⊎◌, ◌↔◌, ◌==◌, ◌&&◌, ℕ, zero, suc, ◌+◌, ◌<◌, ◌≤◌, List, [], ◌∷◌, length, drop, get_or, Bool, true, false, Option, None, Some, inl, inr, refl, sym, ◌∙◌, ap, subst, arith}
 use Rattle.std.specs.Option.{MatchOption}
+use Rattle.std.specs.Prelude.{IsTrue}
 use Rattle.std.proofs.lemmas.Bool.Decides.{nat_tests}
-use Rattle.std.proofs.lemmas.List.{nil_from_length}
+use Rattle.std.proofs.lemmas.List.{drop_all, drop_more, nil_from_length}
 use Rattle.syntax.specs.Lists.{In}
 use Rattle.system.specs.Expression.{is_in}
 use Rattle.runs.specs.Choices.{choice_of}
@@ -28,8 +29,32 @@ here_in (y ∷ xs) zero x h is = inl is
 here_in (y ∷ xs) (suc i) x h is = inr (here_in xs i x (omega arith) is)
 
 -- a choice that is that of an event
-pub seen_here : (seen : List Choice) (i : ℕ) (x c : Choice) → i < length seen → x ≡ get_or seen i x → x ≡ c → In c seen
-seen_here seen i x c h is same = subst (λ (y : Choice). In y seen) same (here_in seen i x h is)
+pub found_here : (b : Bool) (seen : List Choice) (i : ℕ) (x c : Choice) → i < length seen → x ≡ get_or seen i x → (IsTrue b ↔ (x ≡ c)) → b ≡ true →
+    IsTrue true ↔ In c seen
+found_here b seen i x c less is tells yes = (λ there. subst (λ (y : Choice). In y seen) (tells.0 yes) (here_in seen i x less is), λ there. refl)
+
+-- one that is not
+pub not_here : (b : Bool) (seen : List Choice) (i : ℕ) (x c : Choice) → i < length seen → x ≡ get_or seen i x → (IsTrue b ↔ (x ≡ c)) → b ≡ false →
+    (In c seen → In c (drop i seen)) → In c seen → In c (drop (i + 1) seen)
+not_here b seen i x c less is tells no rest = λ there.
+    let left : In c (get_or seen i x ∷ drop (i + 1) seen) =
+    subst (λ (xs : List Choice). In c xs) (drop_more seen i x less) (rest there) in
+    elim left [
+      | inl same ↦
+          let yes : b ≡ true = tells.1 (is ∙ sym same) in
+          let bad : true ≡ false = sym yes ∙ no in
+          absurd (cc)
+      | inr behind ↦ behind
+    ]
+
+-- none is left
+pub none_here : (seen : List Choice) (i : ℕ) (c : Choice) → length seen ≤ i → (In c seen → In c (drop i seen)) → IsTrue false ↔ In c seen
+none_here seen i c all rest = (
+  λ no. let bad : false ≡ true = no in absurd (cc),
+  λ there. absurd (subst (λ (xs : List Choice). In c xs) (drop_all i seen all) (rest there)),
+)
+
+pub ruleset seen_among = (found_here, not_here, none_here)
 
 -- the action that acts is the first or the second
 acts-at : (k : Kind) (a : Place) (b : Option Place) → (acting_at k a b ≡ a) ⊎ (b ≡ Some (acting_at k a b))
@@ -101,6 +126,18 @@ none_left xs h = let e : length xs ≡ 0 = grind (arith, nat_tests) in nil_from_
 -- a choice with the arm and the place of an event is that of the event
 pub same_choice : (c : Choice) (e : Event) → c.arm ≡ (choice_of e).arm → c.place ≡ acting e → c ≡ choice_of e
 same_choice c e arm place = λ i. record { place = place i; arm = arm i }
+
+pub has_both : (a b : Bool) (c : Choice) (e : Event) (place : Place) → (IsTrue a ↔ (c.arm ≡ (choice_of e).arm)) → (IsTrue b ↔ (c.place ≡ place)) →
+    place ≡ acting e → IsTrue (a && b) ↔ (c ≡ choice_of e)
+has_both true true c e place arm there is = (λ yes. same_choice c e (arm.0 refl) (there.0 refl ∙ is), λ same. refl)
+has_both true false c e place arm there is = (
+  λ no. let bad : false ≡ true = no in absurd (cc),
+  λ same. there.1 (ap (λ (x : Choice). x.place) same ∙ sym is),
+)
+has_both false b c e place arm there is = (
+  λ no. let bad : false ≡ true = no in absurd (cc),
+  λ same. arm.1 (ap (λ (x : Choice). x.arm) same),
+)
 
 -- where a place has no line, one that is none of these, or one of these
 pub off_line : (m : AtMachine) (lines : List ℕ) (a : Place) (o : Option ℕ) → o ≡ line_after (events m.live) m.checked a → o ≡ None → stands_on m lines a ≡ false

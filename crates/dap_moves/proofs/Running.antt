@@ -27,154 +27,219 @@ use Rattle.locked_execution.specs.declared.command.Command.{Command}
 use Rattle.locked_execution.specs.declared.command.Reply.{Reply}
 use Rattle.locked_execution.proofs.public.Unchanged.{all-same}
 use Rattle.dap_moves.specs.Moves.{StepsAt, acts, quiet}
-use Rattle.dap_moves.specs.Passing.{MayAsk, PassesBy, StopsAt, TakesTurn, Turned, Turns}
-use Rattle.dap_moves.specs.Running.{EndsTruly, IsHeld, IsIdle, KeepsChoice, MayStep, NothingGoes, RunsFrom, StandsBefore, is_watched}
+use Rattle.dap_moves.specs.Passing.{IsReady, MayAct, MayAsk, MayGo, PassesBy, StopsAt, TakesTurn, Turned, Turns}
+use Rattle.dap_moves.specs.Running.{EndsTruly, IsHeld, IsIdle, IsWithin, KeepsChoice, MayStep, NoneWatched, NothingGoes, RunsFrom, StandsBefore, is_watched, stood}
 use Rattle.dap_moves.specs.declared.run.Ended.{Ended}
 use Rattle.dap_moves.specs.declared.run.Plan.{Plan}
 use Rattle.dap_moves.specs.declared.run.Turn.{Turn}
-use Rattle.dap_moves.specs.internal.Turning.{TakesOne, TurnKeeps, any_goes, goes, turn_of}
+use Rattle.dap_moves.specs.declared.seen.Watched.{Watched}
+use Rattle.dap_moves.specs.internal.Turning.{TakesOne, TurnKeeps, any_goes, branch_for, goes, turn_of}
 use Rattle.dap_moves.proofs.Passing.{acting_is_action}
 
 -- what is asked where it stood nowhere may be asked wherever it stood
-may-widen : (d : AtDesk) (lines : List ℕ) (seen : List Choice) (command : Command) → MayAsk d lines [] command → MayAsk d lines seen command
-may-widen d lines seen (Command.Step c) h =
-    (h.0, h.1, h.2, elim h.3 as (λ _. PassesBy d.machine lines h.0 ⊎ In c seen) [ inl passes ↦ inl passes | inr none ↦ absurd none ])
-may-widen d lines seen (Command.Branch k) h = h
-may-widen d lines seen (Command.Undo t) h = absurd h
-may-widen d lines seen (Command.Roll t) h = absurd h
-may-widen d lines seen (Command.RollValue x) h = absurd h
-may-widen d lines seen (Command.Blame x) h = absurd h
-may-widen d lines seen Command.Ready h = absurd h
-may-widen d lines seen (Command.Consequences t) h = absurd h
-may-widen d lines seen Command.Live h = absurd h
-may-widen d lines seen (Command.Value x) h = absurd h
-may-widen d lines seen (Command.Break line) h = absurd h
-may-widen d lines seen (Command.Clear line) h = absurd h
+may-widen : (d : AtDesk) (only : Option ℕ) (lines : List ℕ) (seen : List Choice) (command : Command) → MayAsk d only lines [] command →
+    MayAsk d only lines seen command
+may-widen d only lines seen (Command.Step c) h =
+    (h.0, h.1, h.2, h.3, elim h.4 as (λ _. PassesBy d.machine lines h.0 ⊎ In c seen) [ inl passes ↦ inl passes | inr none ↦ absurd none ])
+may-widen d only lines seen (Command.Branch k) h = h
+may-widen d only lines seen (Command.Undo t) h = absurd h
+may-widen d only lines seen (Command.Roll t) h = absurd h
+may-widen d only lines seen (Command.RollValue x) h = absurd h
+may-widen d only lines seen (Command.Blame x) h = absurd h
+may-widen d only lines seen Command.Ready h = absurd h
+may-widen d only lines seen (Command.Consequences t) h = absurd h
+may-widen d only lines seen Command.Live h = absurd h
+may-widen d only lines seen (Command.Value x) h = absurd h
+may-widen d only lines seen (Command.Break line) h = absurd h
+may-widen d only lines seen (Command.Clear line) h = absurd h
 
-takes-widen : (d : AtDesk) (lines : List ℕ) (seen : List Choice) (t : Turned) → TakesTurn d lines [] t → TakesTurn d lines seen t
-takes-widen d lines seen t h = (h.0, may-widen d lines seen h.0 h.1, h.2)
+takes-widen : (d : AtDesk) (only : Option ℕ) (lines : List ℕ) (seen : List Choice) (t : Turned) → TakesTurn d only lines [] t →
+    TakesTurn d only lines seen t
+takes-widen d only lines seen t h = (h.0, may-widen d only lines seen h.0 h.1, h.2)
+
+-- where there is no line, none stops it
+no-line-stops : {P : Type 0} (m : AtMachine) (lines : List ℕ) (e : Event) (line : ℕ) → lines ≡ [] → StopsAt m lines e line → P
+no-line-stops m lines e line free at =
+    let none : false ≡ true = subst (λ (ls : List ℕ). is_in line ls ≡ true) free at.there.1 in absurd (cc)
+
+stands-widen : (d : AtDesk) (only : Option ℕ) (lines : List ℕ) (seen : List Choice) (line : ℕ) → lines ≡ [] → StandsBefore d only lines [] line →
+    StandsBefore d only lines seen line
+stands-widen d only lines seen line free h = (
+  h.0,
+  h.1,
+  elim h.2 as (λ _. (StopsAt d.machine lines h.0 line × MayAct d only h.0 × (In (choice_of h.0) seen → ⊥))
+      ⊎ StopsAt d.machine (breaks_of d quiet) h.0 line) [ inl at ↦ no-line-stops d.machine lines h.0 line free at.0 | inr own ↦ inr own ],
+)
 
 -- a turn that began nowhere
-pub takes-one-widen : (plan : Plan) (seen : List Choice) (d d' : AtDesk) (turn : Turn) → TakesOne plan [] d d' turn → TakesOne plan seen d d' turn
-takes-one-widen plan seen d d' (Turn.Went branch) h = (h.0, (takes-widen d plan.lines.now seen h.0 h.1.0, h.1.1))
-takes-one-widen plan seen d d' (Turn.Ended Ended.Nothing) h = h
-takes-one-widen plan seen d d' (Turn.Ended (Ended.AtLine branch line)) h = h
-takes-one-widen plan seen d d' (Turn.Ended (Ended.Watched branch ticket)) h = (h.0, (takes-widen d plan.lines.now seen h.0 h.1.0, h.1.1), h.2, h.3)
-takes-one-widen plan seen d d' (Turn.Ended (Ended.Most branch)) h = h
-takes-one-widen plan seen d d' (Turn.Ended (Ended.Refused branch why)) h = h
+pub takes-one-widen : (plan : Plan) (seen : List Choice) (d d' : AtDesk) (turn : Turn) → plan.lines.now ≡ [] → TakesOne plan [] d d' turn →
+    TakesOne plan seen d d' turn
+takes-one-widen plan seen d d' (Turn.Went branch) free h = (h.0, (takes-widen d plan.only plan.lines.now seen h.0 h.1.0, h.1.1), h.2)
+takes-one-widen plan seen d d' (Turn.Ended Ended.Nothing) free h = h
+takes-one-widen plan seen d d' (Turn.Ended (Ended.AtLine branch line)) free h = (h.0, stands-widen d plan.only plan.lines.now seen line free h.1)
+takes-one-widen plan seen d d' (Turn.Ended (Ended.Watched branch ticket)) free h =
+    (h.0, (takes-widen d plan.only plan.lines.now seen h.0 h.1.0, h.1.1), h.2, h.3)
+takes-one-widen plan seen d d' (Turn.Ended (Ended.Most branch)) free h = h
+takes-one-widen plan seen d d' (Turn.Ended (Ended.Refused branch why)) free h = h
 
 -- or from a desk that stayed
 pub takes-one-from : (plan : Plan) (d m d' : AtDesk) (turn : Turn) → m ≡ d → TakesOne plan [] m d' turn → TakesOne plan [] d d' turn
 takes-one-from plan d m d' turn same h = subst (λ (x : AtDesk). TakesOne plan [] x d' turn) same h
 
 -- one step more
-turns-more : (d m : AtDesk) (lines : List ℕ) (seen : List Choice) (ts : List Turned) (t : Turned) → Turns d lines seen ts m → TakesTurn m lines [] t →
-    Turns d lines seen (ts ++ t ∷ []) t.left
-turns-more d m lines seen [] t h k = (subst (λ (x : AtDesk). TakesTurn x lines seen t) h (takes-widen m lines seen t k), refl)
-turns-more d m lines seen (x ∷ ts) t h k = (h.0, turns-more x.left m lines [] ts t h.1 k)
+turns-more : (d m : AtDesk) (only : Option ℕ) (lines : List ℕ) (seen : List Choice) (ts : List Turned) (t : Turned) → Turns d only lines seen ts m →
+    TakesTurn m only lines [] t → Turns d only lines seen (ts ++ t ∷ []) t.left
+turns-more d m only lines seen [] t h k = (subst (λ (x : AtDesk). TakesTurn x only lines seen t) h (takes-widen m only lines seen t k), refl)
+turns-more d m only lines seen (x ∷ ts) t h k = (h.0, turns-more x.left m only lines [] ts t h.1 k)
 
-turns-to : (d m d' : AtDesk) (lines : List ℕ) (seen : List Choice) (ts : List Turned) → m ≡ d' → Turns d lines seen ts m → Turns d lines seen ts d'
-turns-to d m d' lines seen ts same h = subst (λ (x : AtDesk). Turns d lines seen ts x) same h
+turns-to : (d m d' : AtDesk) (only : Option ℕ) (lines : List ℕ) (seen : List Choice) (ts : List Turned) → m ≡ d' → Turns d only lines seen ts m →
+    Turns d only lines seen ts d'
+turns-to d m d' only lines seen ts same h = subst (λ (x : AtDesk). Turns d only lines seen ts x) same h
+
+-- one step more that is not watched
+none-more : (watched : List Watched) (ts : List Turned) (t : Turned) → NoneWatched watched ts → is_watched watched t.event ≡ false →
+    NoneWatched watched (ts ++ t ∷ [])
+none-more watched [] t h k = (k, tt)
+none-more watched (x ∷ ts) t h k = (h.0, none-more watched ts t h.1 k)
+
+-- a run that began nowhere has stood nowhere
+stood-none : (ts : List Turned) → stood [] ts ≡ []
+stood-none [] = refl
+stood-none (t ∷ ts) = refl
 
 -- so many steps were taken, and one more
-pub record Counted (d d' : AtDesk) (lines : List ℕ) (taken : ℕ) : Type 0 where
+pub record Counted (d d' : AtDesk) (plan : Plan) (taken : ℕ) : Type 0 where
   pub turns : List Turned
-  pub turned : Turns d lines [] turns d'
+  pub turned : Turns d plan.only plan.lines.now [] turns d'
+  pub none : NoneWatched plan.watched.now turns
   pub count : taken ≡ 1 + length turns
+  pub within : IsWithin plan taken
 
-pub counted-none : (d : AtDesk) (lines : List ℕ) → Counted d d lines 1
-counted-none d lines = record { turns = []; turned = refl; count = refl }
+pub counted-none : (d : AtDesk) (plan : Plan) → Counted d d plan 1
+counted-none d plan = record { turns = []; turned = refl; none = tt; count = refl; within = inr (omega arith) }
 
 length-more : (ts : List Turned) (t : Turned) → length (ts ++ t ∷ []) ≡ 1 + length ts
 length-more [] t = refl
 length-more (x ∷ ts) t = let rest = length-more ts t in omega arith
 
-pub counted-more : (plan : Plan) (d m d' : AtDesk) (taken branch : ℕ) → Counted d m plan.lines.now taken → TakesOne plan [] m d' (Turn.Went branch) →
-    Counted d d' plan.lines.now (taken + 1)
-counted-more plan d m d' taken branch h k = record {
+pub counted-more : (plan : Plan) (d m d' : AtDesk) (taken branch : ℕ) → taken < plan.most → Counted d m plan taken →
+    TakesOne plan [] m d' (Turn.Went branch) → Counted d d' plan (taken + 1)
+counted-more plan d m d' taken branch less h k = record {
   turns = h.turns ++ k.0 ∷ [];
-  turned = turns-to d k.0.left d' plan.lines.now [] (h.turns ++ k.0 ∷ []) k.1.1 (turns-more d m plan.lines.now [] h.turns k.0 h.turned k.1.0);
+  turned =
+      turns-to d k.0.left d' plan.only plan.lines.now [] (h.turns ++ k.0 ∷ []) k.1.1
+      (turns-more d m plan.only plan.lines.now [] h.turns k.0 h.turned k.1.0);
+  none = none-more plan.watched.now h.turns k.0 h.none k.2;
   count = let more = length-more h.turns k.0 in let before = h.count in omega arith;
+  within = inl (omega (arith, less));
 }
 
+-- fewer steps than the plan allows
+is-within : (plan : Plan) (taken count : ℕ) → taken < plan.most → count ≤ taken + 1 → IsWithin plan count
+is-within plan taken count less few = inl (omega (arith, less, few))
+
 -- a run that ends with a turn, behind other steps
-pub ends-behind : (already : ℕ) (plan : Plan) (d m d' : AtDesk) (ts : List Turned) (ended : Ended) → Turns d plan.lines.now [] ts m →
-    TakesOne plan [] m d' (Turn.Ended ended) → RunsFrom already plan [] d d' ended
-ends-behind already plan d m d' ts Ended.Nothing h k = record {
-  turns = ts;
-  turned = turns-to d m d' plan.lines.now [] ts (sym k.0) h;
-  truly = subst (λ (x : AtDesk). NothingGoes x plan.only) (sym k.0) k.1;
+pub ends-behind : (plan : Plan) (d m d' : AtDesk) (taken : ℕ) (ended : Ended) → taken < plan.most → Counted d m plan taken →
+    TakesOne plan [] m d' (Turn.Ended ended) → RunsFrom 1 plan [] d d' ended
+ends-behind plan d m d' taken Ended.Nothing less h k = record {
+  turns = h.turns;
+  turned = turns-to d m d' plan.only plan.lines.now [] h.turns (sym k.0) h.turned;
+  within = is-within plan taken (1 + length h.turns) less (let count = h.count in omega arith);
+  truly = (h.none, subst (λ (x : AtDesk). NothingGoes x plan.only) (sym k.0) k.1);
 }
-ends-behind already plan d m d' ts (Ended.AtLine branch line) h k = record {
-  turns = ts;
-  turned = turns-to d m d' plan.lines.now [] ts (sym k.0) h;
-  truly = subst (λ (x : AtDesk). StandsBefore x plan.lines.now line) (sym k.0) k.1;
+ends-behind plan d m d' taken (Ended.AtLine branch line) less h k = record {
+  turns = h.turns;
+  turned = turns-to d m d' plan.only plan.lines.now [] h.turns (sym k.0) h.turned;
+  within = is-within plan taken (1 + length h.turns) less (let count = h.count in omega arith);
+  truly = (
+    h.none,
+    subst (λ (seen : List Choice). StandsBefore d' plan.only plan.lines.now seen line) (sym (stood-none h.turns))
+        (subst (λ (x : AtDesk). StandsBefore x plan.only plan.lines.now [] line) (sym k.0) k.1),
+  );
 }
-ends-behind already plan d m d' ts (Ended.Watched branch ticket) h k = record {
-  turns = ts ++ k.0 ∷ [];
-  turned = turns-to d k.0.left d' plan.lines.now [] (ts ++ k.0 ∷ []) k.1.1 (turns-more d m plan.lines.now [] ts k.0 h k.1.0);
-  truly = (ts, k.0, refl, k.2, k.3);
+ends-behind plan d m d' taken (Ended.Watched branch ticket) less h k = record {
+  turns = h.turns ++ k.0 ∷ [];
+  turned =
+      turns-to d k.0.left d' plan.only plan.lines.now [] (h.turns ++ k.0 ∷ []) k.1.1
+      (turns-more d m plan.only plan.lines.now [] h.turns k.0 h.turned k.1.0);
+  within =
+      is-within plan taken (1 + length (h.turns ++ k.0 ∷ [])) less
+      (let count = h.count in let more = length-more h.turns k.0 in omega arith);
+  truly = (h.turns, k.0, refl, h.none, k.2, k.3);
 }
-ends-behind already plan d m d' ts (Ended.Most branch) h k = absurd k
-ends-behind already plan d m d' ts (Ended.Refused branch why) h k = record {
-  turns = ts;
-  turned = turns-to d m d' plan.lines.now [] ts (sym k.0) h;
-  truly = subst (λ (x : AtDesk). IsHeld x plan.lines.now why) (sym k.0) k.1;
+ends-behind plan d m d' taken (Ended.Most branch) less h k = absurd k
+ends-behind plan d m d' taken (Ended.Refused branch why) less h k = record {
+  turns = h.turns;
+  turned = turns-to d m d' plan.only plan.lines.now [] h.turns (sym k.0) h.turned;
+  within = is-within plan taken (1 + length h.turns) less (let count = h.count in omega arith);
+  truly = (h.none, subst (λ (x : AtDesk). IsHeld x plan.only plan.lines.now why) (sym k.0) k.1);
 }
 
 -- one that ends with its first turn
-pub ends-first : (already : ℕ) (plan : Plan) (seen : List Choice) (d d' : AtDesk) (ended : Ended) → TakesOne plan seen d d' (Turn.Ended ended) →
-    RunsFrom already plan seen d d' ended
-ends-first already plan seen d d' Ended.Nothing k = record {
+pub ends-first : (plan : Plan) (seen : List Choice) (d d' : AtDesk) (ended : Ended) → TakesOne plan seen d d' (Turn.Ended ended) →
+    RunsFrom 0 plan seen d d' ended
+ends-first plan seen d d' Ended.Nothing k = record {
   turns = [];
   turned = k.0;
-  truly = subst (λ (x : AtDesk). NothingGoes x plan.only) (sym k.0) k.1;
+  within = inr (omega arith);
+  truly = (tt, subst (λ (x : AtDesk). NothingGoes x plan.only) (sym k.0) k.1);
 }
-ends-first already plan seen d d' (Ended.AtLine branch line) k = record {
+ends-first plan seen d d' (Ended.AtLine branch line) k = record {
   turns = [];
   turned = k.0;
-  truly = subst (λ (x : AtDesk). StandsBefore x plan.lines.now line) (sym k.0) k.1;
+  within = inr (omega arith);
+  truly = (tt, subst (λ (x : AtDesk). StandsBefore x plan.only plan.lines.now seen line) (sym k.0) k.1);
 }
-ends-first already plan seen d d' (Ended.Watched branch ticket) k = record {
+ends-first plan seen d d' (Ended.Watched branch ticket) k = record {
   turns = k.0 ∷ [];
   turned = (k.1.0, sym k.1.1);
-  truly = ([], k.0, refl, k.2, k.3);
+  within = inr (omega arith);
+  truly = ([], k.0, refl, tt, k.2, k.3);
 }
-ends-first already plan seen d d' (Ended.Most branch) k = absurd k
-ends-first already plan seen d d' (Ended.Refused branch why) k = record {
+ends-first plan seen d d' (Ended.Most branch) k = absurd k
+ends-first plan seen d d' (Ended.Refused branch why) k = record {
   turns = [];
   turned = k.0;
-  truly = subst (λ (x : AtDesk). IsHeld x plan.lines.now why) (sym k.0) k.1;
+  within = inr (omega arith);
+  truly = (tt, subst (λ (x : AtDesk). IsHeld x plan.only plan.lines.now why) (sym k.0) k.1);
 }
 
 -- one step before others
-truly-more : (plan : Plan) (d : AtDesk) (ts : List Turned) (t : Turned) (ended : Ended) → EndsTruly 1 plan d ts ended → EndsTruly 0 plan d (t ∷ ts) ended
-truly-more plan d ts t Ended.Nothing h = h
-truly-more plan d ts t (Ended.AtLine branch line) h = h
-truly-more plan d ts t (Ended.Watched branch ticket) h = (t ∷ h.0, h.1, ap (λ (xs : List Turned). t ∷ xs) h.2, h.3, h.4)
-truly-more plan d ts t (Ended.Most branch) h = omega (arith, h)
-truly-more plan d ts t (Ended.Refused branch why) h = h
+truly-more : (plan : Plan) (seen : List Choice) (d : AtDesk) (ts : List Turned) (t : Turned) (ended : Ended) →
+    is_watched plan.watched.now t.event ≡ false → EndsTruly 1 plan [] d ts ended → EndsTruly 0 plan seen d (t ∷ ts) ended
+truly-more plan seen d ts t Ended.Nothing no h = ((no, h.0), h.1)
+truly-more plan seen d ts t (Ended.AtLine branch line) no h =
+    ((no, h.0), subst (λ (cs : List Choice). StandsBefore d plan.only plan.lines.now cs line) (stood-none ts) h.1)
+truly-more plan seen d ts t (Ended.Watched branch ticket) no h =
+    (t ∷ h.0, h.1, ap (λ (xs : List Turned). t ∷ xs) h.2, (no, h.3), h.4, h.5)
+truly-more plan seen d ts t (Ended.Most branch) no h = ((no, h.0), omega (arith, h.1))
+truly-more plan seen d ts t (Ended.Refused branch why) no h = ((no, h.0), h.1)
+
+within-more : (plan : Plan) (ts : List Turned) (t : Turned) → IsWithin plan (1 + length ts) → IsWithin plan (0 + length (t ∷ ts))
+within-more plan ts t h = elim h [ inl few ↦ inl (omega (arith, few)) | inr one ↦ inr (omega (arith, one)) ]
 
 pub runs-then : (plan : Plan) (seen : List Choice) (d m d' : AtDesk) (branch : ℕ) (ended : Ended) → TakesOne plan seen d m (Turn.Went branch) →
     RunsFrom 1 plan [] m d' ended → RunsFrom 0 plan seen d d' ended
 runs-then plan seen d m d' branch ended h k = record {
   turns = h.0 ∷ k.turns;
-  turned = (h.1.0, subst (λ (x : AtDesk). Turns x plan.lines.now [] k.turns d') (sym h.1.1) k.turned);
-  truly = truly-more plan d' k.turns h.0 ended k.truly;
+  turned = (h.1.0, subst (λ (x : AtDesk). Turns x plan.only plan.lines.now [] k.turns d') (sym h.1.1) k.turned);
+  within = within-more plan k.turns h.0 k.within;
+  truly = truly-more plan seen d' k.turns h.0 ended h.2 k.truly;
 }
 
 -- one that took as many steps as there may be
-pub ends-after : (plan : Plan) (d m d' : AtDesk) (taken turn : ℕ) (ended : Ended) → Counted d m plan.lines.now taken → plan.most ≤ taken → d' ≡ m →
+pub ends-after : (plan : Plan) (d m d' : AtDesk) (taken turn : ℕ) (ended : Ended) → Counted d m plan taken → plan.most ≤ taken → d' ≡ m →
     ((ended ≡ Ended.Nothing) × NothingGoes m plan.only) ⊎ (ended ≡ Ended.Most turn) → RunsFrom 1 plan [] d d' ended
 ends-after plan d m d' taken turn ended h many same why =
-    let there : Turns d plan.lines.now [] h.turns d' = turns-to d m d' plan.lines.now [] h.turns (sym same) h.turned in
+    let there : Turns d plan.only plan.lines.now [] h.turns d' = turns-to d m d' plan.only plan.lines.now [] h.turns (sym same) h.turned in
+    let few : IsWithin plan (1 + length h.turns) = subst (λ (n : ℕ). IsWithin plan n) h.count h.within in
     elim why [
       | inl none ↦
           subst (λ (e : Ended). RunsFrom 1 plan [] d d' e) (sym none.0)
-          (record { turns = h.turns; turned = there; truly = subst (λ (x : AtDesk). NothingGoes x plan.only) (sym same) none.1 })
+          (record { turns = h.turns; turned = there; within = few; truly = (h.none, subst (λ (x : AtDesk). NothingGoes x plan.only) (sym same) none.1) })
       | inr most ↦
           subst (λ (e : Ended). RunsFrom 1 plan [] d d' e) (sym most)
-          (record { turns = h.turns; turned = there; truly = let count = h.count in omega (arith, many, count) })
+          (record { turns = h.turns; turned = there; within = few; truly = (h.none, let count = h.count in omega (arith, many, count)) })
     ]
 
 -- a desk of the same machine and the same breakpoints
@@ -209,25 +274,26 @@ kept-stops m breaks e line at kept = record {
   there = (at, flipped (is_in line breaks) (sym (ap (λ (o : Option ℕ). has_no_break breaks o) at) ∙ kept));
 }
 
-kept-stands : (d : AtDesk) (lines : List ℕ) (k line : ℕ) (T : State) (es : List Event) → Reaches (execution d) T → ReadyList T es →
-    AllKeptBack d.machine (breaks_of d quiet) (in_branch d.machine k es) line → StandsBefore d lines line
-kept-stands d lines k line T es reaches list kept =
+kept-stands : (d : AtDesk) (only : Option ℕ) (lines : List ℕ) (seen : List Choice) (k line : ℕ) (T : State) (es : List Event) →
+    Reaches (execution d) T → ReadyList T es → AllKeptBack d.machine (breaks_of d quiet) (in_branch d.machine k es) line →
+    StandsBefore d only lines seen line
+kept-stands d only lines seen k line T es reaches list kept =
     let found = first-kept d.machine (breaks_of d quiet) (in_branch d.machine k es) line kept in
     let there : In found.0 es = in-filtered (acts_in d.machine k) found.0 es found.1 in
     (found.0, (T, reaches, (list.exactly found.0).0 there), inr (kept-stops d.machine (breaks_of d quiet) found.0 line found.2 found.3))
 
 -- a step that was taken is watched, or the run goes on
 took-stepped : (plan : Plan) (seen : List Choice) (d d' : AtDesk) (command : Command) (branch t : ℕ) (e : Event) (b : Bool) →
-    is_watched plan.watched.now e ≡ b → MayAsk d plan.lines.now seen command → Answers d quiet command (Reply.Stepped t e) d' →
+    is_watched plan.watched.now e ≡ b → MayAsk d plan.only plan.lines.now seen command → Answers d quiet command (Reply.Stepped t e) d' →
     TakesOne plan seen d d' (cond b (Turn.Ended (Ended.Watched branch t)) (Turn.Went branch))
 took-stepped plan seen d d' command branch t e true is may h =
     (record { ticket = t; event = e; left = d' }, ((command, may, h), refl), refl, is)
 took-stepped plan seen d d' command branch t e false is may h =
-    (record { ticket = t; event = e; left = d' }, ((command, may, h), refl))
+    (record { ticket = t; event = e; left = d' }, ((command, may, h), refl), is)
 
 -- one that was refused
 took-refused : (plan : Plan) (seen : List Choice) (d d' : AtDesk) (command : Command) (branch : ℕ) (why : Refusal) → d' ≡ d →
-    MayAsk d plan.lines.now seen command → Answers d quiet command (Reply.Refused why) d' →
+    MayAsk d plan.only plan.lines.now seen command → Answers d quiet command (Reply.Refused why) d' →
     TakesOne plan seen d d' (Turn.Ended (Ended.Refused branch why))
 took-refused plan seen d d' command branch why same may h =
     (same, inr (seen, command, may, subst (λ (x : AtDesk). Answers d quiet command (Reply.Refused why) x) same h))
@@ -240,7 +306,7 @@ took-lacking plan seen d d' branch reply is same =
 -- a step by its choice
 took-chosen : (plan : Plan) (seen : List Choice) (d d' : AtDesk) (c : Choice) (branch : ℕ) (reply : Reply) (answer : runs_reply.Reply) →
     reply ≡ session_reply answer → Steps (execution d) c answer (execution d') → d'.machine.checked ≡ d.machine.checked → d'.breaks ≡ d.breaks →
-    MayAsk d plan.lines.now seen (Command.Step c) → Answers d quiet (Command.Step c) reply d' → TakesOne plan seen d d' (turn_of plan.watched.now branch reply)
+    MayAsk d plan.only plan.lines.now seen (Command.Step c) → Answers d quiet (Command.Step c) reply d' → TakesOne plan seen d d' (turn_of plan.watched.now branch reply)
 took-chosen plan seen d d' c branch reply (runs_reply.Reply.Stepped t e) is h checked breaks may answers =
     subst (λ (r : Reply). TakesOne plan seen d d' (turn_of plan.watched.now branch r)) (sym is)
     (took-stepped plan seen d d' (Command.Step c) branch t e (is_watched plan.watched.now e) refl may
@@ -252,42 +318,42 @@ took-chosen plan seen d d' c branch reply (runs_reply.Reply.Refused why) is h ch
 took-chosen plan seen d d' c branch reply _ is h checked breaks may answers = absurd h
 
 chosen-on : (plan : Plan) (seen : List Choice) (d d' : AtDesk) (c : Choice) (branch : ℕ) (reply : Reply) →
-    MayAsk d plan.lines.now seen (Command.Step c) → Answers d quiet (Command.Step c) reply d' → TakesOne plan seen d d' (turn_of plan.watched.now branch reply)
+    MayAsk d plan.only plan.lines.now seen (Command.Step c) → Answers d quiet (Command.Step c) reply d' → TakesOne plan seen d d' (turn_of plan.watched.now branch reply)
 chosen-on plan seen d d' c branch reply may h = elim h [
   | inl done ↦ took-chosen plan seen d d' c branch reply done.0 done.1 done.2 done.3 done.4 may (inl done)
   | inr none ↦ took-lacking plan seen d d' branch reply none.1 none.2
 ]
 
 pub took_at : (plan : Plan) (seen : List Choice) (d d' : AtDesk) (e : Event) (branch : ℕ) (reply : Reply) →
-    MayAsk d plan.lines.now seen (Command.Step (choice_of e)) → StepsAt d e reply d' → TakesOne plan seen d d' (turn_of plan.watched.now branch reply)
+    MayAsk d plan.only plan.lines.now seen (Command.Step (choice_of e)) → StepsAt d e reply d' → TakesOne plan seen d d' (turn_of plan.watched.now branch reply)
 took_at plan seen d d' e branch reply may h = elim h [
   | inl asked ↦ chosen-on plan seen d d' (choice_of e) branch reply may asked
   | inr none ↦ took-lacking plan seen d d' branch reply none.0 none.1
 ]
 
 -- a step of a branch
-took-branch : (plan : Plan) (d d' : AtDesk) (branch : ℕ) (reply : Reply) (answer : BranchReply) → plan.lines.now ≡ [] → reply ≡ branch_reply answer →
-    (T : State) (es : List Event) → Reaches (execution d) T → ReadyList T es →
+took-branch : (plan : Plan) (d d' : AtDesk) (branch : ℕ) (reply : Reply) (answer : BranchReply) → MayAsk d plan.only plan.lines.now [] (Command.Branch branch) →
+    reply ≡ branch_reply answer → (T : State) (es : List Event) → Reaches (execution d) T → ReadyList T es →
     Branched d.machine (breaks_of d quiet) (in_branch d.machine branch es) answer d'.machine → d'.breaks ≡ d.breaks → (reply ≡ Reply.Idle → ⊥) →
     Answers d quiet (Command.Branch branch) reply d' → TakesOne plan [] d d' (turn_of plan.watched.now branch reply)
-took-branch plan d d' branch reply (BranchReply.Stepped t e) free is T es reaches list h breaks busy answers =
+took-branch plan d d' branch reply (BranchReply.Stepped t e) may is T es reaches list h breaks busy answers =
     subst (λ (r : Reply). TakesOne plan [] d d' (turn_of plan.watched.now branch r)) (sym is)
-    (took-stepped plan [] d d' (Command.Branch branch) branch t e (is_watched plan.watched.now e) refl free
+    (took-stepped plan [] d d' (Command.Branch branch) branch t e (is_watched plan.watched.now e) refl may
     (subst (λ (r : Reply). Answers d quiet (Command.Branch branch) r d') is answers))
-took-branch plan d d' branch reply (BranchReply.Stopped line) free is T es reaches list h breaks busy answers =
+took-branch plan d d' branch reply (BranchReply.Stopped line) may is T es reaches list h breaks busy answers =
     subst (λ (r : Reply). TakesOne plan [] d d' (turn_of plan.watched.now branch r)) (sym is)
-    (desk-same d d' h.1 breaks, kept-stands d plan.lines.now branch line T es reaches list h.0)
-took-branch plan d d' branch reply BranchReply.Idle free is T es reaches list h breaks busy answers = absurd (busy is)
-took-branch plan d d' branch reply (BranchReply.Refused why) free is T es reaches list h breaks busy answers =
+    (desk-same d d' h.1 breaks, kept-stands d plan.only plan.lines.now [] branch line T es reaches list h.0)
+took-branch plan d d' branch reply BranchReply.Idle may is T es reaches list h breaks busy answers = absurd (busy is)
+took-branch plan d d' branch reply (BranchReply.Refused why) may is T es reaches list h breaks busy answers =
     subst (λ (r : Reply). TakesOne plan [] d d' (turn_of plan.watched.now branch r)) (sym is)
-    (took-refused plan [] d d' (Command.Branch branch) branch why (desk-same d d' h.1 breaks) free
+    (took-refused plan [] d d' (Command.Branch branch) branch why (desk-same d d' h.1 breaks) may
     (subst (λ (r : Reply). Answers d quiet (Command.Branch branch) r d') is answers))
 
-pub branch_took : (plan : Plan) (d d' : AtDesk) (branch : ℕ) (reply : Reply) → plan.lines.now ≡ [] → (reply ≡ Reply.Idle → ⊥) →
-    Answers d quiet (Command.Branch branch) reply d' → TakesOne plan [] d d' (turn_of plan.watched.now branch reply)
-branch_took plan d d' branch reply free busy h = elim h [
+pub branch_took : (plan : Plan) (d d' : AtDesk) (branch : ℕ) (reply : Reply) → plan.lines.now ≡ [] → MayGo plan.only branch →
+    (reply ≡ Reply.Idle → ⊥) → Answers d quiet (Command.Branch branch) reply d' → TakesOne plan [] d d' (turn_of plan.watched.now branch reply)
+branch_took plan d d' branch reply free may busy h = elim h [
   | inl done ↦
-      took-branch plan d d' branch reply done.0 free done.1 done.2.0 done.2.1 done.2.2 done.2.3 done.2.4 done.4 busy (inl done)
+      took-branch plan d d' branch reply done.0 (free, may) done.1 done.2.0 done.2.1 done.2.2 done.2.3 done.2.4 done.4 busy (inl done)
   | inr none ↦ took-lacking plan [] d d' branch reply none.1 none.2
 ]
 
@@ -306,6 +372,22 @@ branch_idle d d' k reply is h =
       | inl done ↦ idle-on d d' k done.0 done.1 done.2.0 done.2.1 done.2.2 done.2.3 done.2.4 done.4
       | inr none ↦ let other : Reply.Idle ≡ Reply.Refused Memory = none.1 in absurd (cc)
     ]
+
+-- an event that acts in a branch that may step
+acts-some : (b : Bool) (o : Option ℕ) (k : ℕ) → cond b o None ≡ Some k → b ≡ true
+acts-some true o k h = refl
+acts-some false o k h = absurd (cc)
+
+pub may_act : (d : AtDesk) (system : System) (only : Option ℕ) (e : Event) (k : ℕ) → system ≡ d.machine.checked → branch_for system only e ≡ Some k →
+    MayAct d only e
+may_act d system None e k same h = tt
+may_act d system (Some one) e k same h =
+    subst (λ (s : System). acts s one e ≡ true) same (acts-some (acts system one e) (branch_at system (acting e)) k h)
+
+-- a ready event at a line, before which the run has not stood
+pub stands_here : (d : AtDesk) (only : Option ℕ) (lines : List ℕ) (seen : List Choice) (e : Event) (line : ℕ) → IsReady d e → MayAct d only e →
+    StopsAt d.machine lines e line → (In (choice_of e) seen → ⊥) → StandsBefore d only lines seen line
+stands_here d only lines seen e line ready may at new = (e, ready, inl (at, may, new))
 
 -- where no event acts in a branch that may step
 none-here : (b : Option ℕ) (k : ℕ) → is_some b ≡ false → is_branch k b ≡ false

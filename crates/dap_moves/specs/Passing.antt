@@ -15,7 +15,7 @@ use Rattle.locked_execution.specs.AtDesk.{AtDesk, execution}
 use Rattle.locked_execution.specs.Performs.{Answers}
 use Rattle.locked_execution.specs.declared.command.Command.{Command}
 use Rattle.locked_execution.specs.declared.command.Reply.{Reply}
-use Rattle.dap_moves.specs.Moves.{quiet}
+use Rattle.dap_moves.specs.Moves.{acts, quiet}
 
 -- whether a line is among these
 abbrev pub has_line : List ℕ → Option ℕ → Bool
@@ -45,13 +45,23 @@ pub record StopsAt (m : AtMachine) (lines : List ℕ) (e : Event) (line : ℕ) :
 abbrev pub IsReady : AtDesk → Event → Type 0
 IsReady d e = (T : State) × Reaches (execution d) T × Allowed T e
 
--- what a run that stops at these lines may ask: the step of a ready event that passes by them, or before which it has
--- stood already; and any step of a branch where there is no line
-abbrev pub MayAsk : AtDesk → List ℕ → List Choice → Command → Type 0
-MayAsk d lines seen (Command.Step c) =
-    (e : Event) × IsReady d e × (c ≡ choice_of e) × (PassesBy d.machine lines e ⊎ In c seen)
-MayAsk d lines seen (Command.Branch k) = lines ≡ []
-MayAsk d lines seen _ = ⊥
+-- the event acts in the branch that steps alone, if one does
+abbrev pub MayAct : AtDesk → Option ℕ → Event → Type 0
+MayAct d None e = Unit {0}
+MayAct d (Some only) e = acts d.machine.checked only e ≡ true
+
+-- branch k is the one that steps alone, if one does
+abbrev pub MayGo : Option ℕ → ℕ → Type 0
+MayGo None k = Unit {0}
+MayGo (Some only) k = k ≡ only
+
+-- what a run that stops at these lines may ask, of all branches or of one alone: the step of a ready event that passes
+-- by them, or before which it has stood already; and any step of a branch where there is no line
+abbrev pub MayAsk : AtDesk → Option ℕ → List ℕ → List Choice → Command → Type 0
+MayAsk d only lines seen (Command.Step c) =
+    (e : Event) × IsReady d e × (c ≡ choice_of e) × MayAct d only e × (PassesBy d.machine lines e ⊎ In c seen)
+MayAsk d only lines seen (Command.Branch k) = (lines ≡ []) × MayGo only k
+MayAsk d only lines seen _ = ⊥
 
 -- a step that a run took, and what it left
 pub record Turned : Type 0 where
@@ -60,12 +70,12 @@ pub record Turned : Type 0 where
   pub left : AtDesk
 
 -- it took one that it may ask for
-abbrev pub TakesTurn : AtDesk → List ℕ → List Choice → Turned → Type 0
-TakesTurn d lines seen t =
-    (command : Command) × MayAsk d lines seen command
+abbrev pub TakesTurn : AtDesk → Option ℕ → List ℕ → List Choice → Turned → Type 0
+TakesTurn d only lines seen t =
+    (command : Command) × MayAsk d only lines seen command
     × Answers d quiet command (Reply.Stepped t.ticket t.event) t.left
 
 -- the steps of a run, one after another; where it stood when it began counts for the first alone
-abbrev pub Turns : AtDesk → List ℕ → List Choice → List Turned → AtDesk → Type 0
-Turns d lines seen [] d' = d' ≡ d
-Turns d lines seen (t ∷ ts) d' = TakesTurn d lines seen t × Turns t.left lines [] ts d'
+abbrev pub Turns : AtDesk → Option ℕ → List ℕ → List Choice → List Turned → AtDesk → Type 0
+Turns d only lines seen [] d' = d' ≡ d
+Turns d only lines seen (t ∷ ts) d' = TakesTurn d only lines seen t × Turns t.left only lines [] ts d'

@@ -11,7 +11,7 @@ ghost use Rattle.locked_execution.specs.AtDesk.{execution};
 ghost use Rattle.locked_execution.specs.declared.command.Command as asked;
 ghost use Rattle.locked_execution.specs.declared.command.Reply as replied;
 ghost use Rattle.dap_moves.specs.Led.{Led};
-ghost use Rattle.dap_moves.specs.Passing.{IsReady, MayAsk, PassesBy, StopsAt, IsAtLine, stands_on};
+ghost use Rattle.dap_moves.specs.Passing.{IsReady, MayAct, MayAsk, MayGo, PassesBy, StopsAt, IsAtLine, stands_on};
 ghost use Rattle.dap_moves.specs.Running.{IsIdle, KeepsChoice, NothingGoes, RunsFrom};
 ghost use Rattle.dap_moves.specs.declared.run.Ended as ends;
 ghost use Rattle.dap_moves.specs.internal.Turning.{TakesOne, TurnKeeps, any_goes, branch_for, turn_of};
@@ -166,7 +166,8 @@ fn first_that_goes<'a>(
     events: &'a [Event],
     only: Option<u32>,
 ) -> Option<(u32, &'a Event)>
-    ensures { MatchOption result (any_goes system.now only events.now ≡ false) (λ found. In found.1.now events.now) }
+    ensures { MatchOption result (any_goes system.now only events.now ≡ false) (λ found.
+        In found.1.now events.now × (branch_for system.now only found.1.now ≡ Some found.0)) }
 {
     for event in events {
         if let Some(branch) = branch_of(system, only, event) {
@@ -262,7 +263,8 @@ fn step_before(desk: &mut Desk, plan: &Plan<'_>, turn: u32, count: u32) -> Turn
 
 /// One step of the first branch that has one, of those from `from` on and before `below`; none where no such has one.
 fn step_between(desk: &mut Desk, plan: &Plan<'_>, from: u32, below: u32) -> Option<Turn>
-    requires { plan.now.lines.now ≡ [] }
+    requires free { plan.now.lines.now ≡ [] }
+    requires all { plan.now.only ≡ None }
     ensures led { Led desk.old desk.new }
     ensures system { desk.new.machine.checked ≡ desk.old.machine.checked }
     ensures takes { MatchOption result
@@ -280,7 +282,8 @@ fn step_between(desk: &mut Desk, plan: &Plan<'_>, from: u32, below: u32) -> Opti
 /// The first step of the branch; none where it has none.
 #[tactic(auto, using(crate::proofs::Running::branch_took, crate::proofs::Running::branch_idle))]
 fn step_branch(desk: &mut Desk, plan: &Plan<'_>, branch: u32) -> Option<Turn>
-    requires { plan.now.lines.now ≡ [] }
+    requires free { plan.now.lines.now ≡ [] }
+    requires may { MayGo plan.now.only branch }
     ensures led { Led desk.old desk.new }
     ensures system { desk.new.machine.checked ≡ desk.old.machine.checked }
     ensures takes { MatchOption result ((desk.new ≡ desk.old) × IsIdle desk.old branch)
@@ -374,6 +377,7 @@ fn step_or_stop(
 ) -> Turn
     requires empty { kept.old.items ≡ [] }
     requires ready { IsReady desk.old event.now }
+    requires acts { MayAct desk.old plan.now.only event.now }
     ensures led { Led desk.old desk.new }
     ensures system { desk.new.machine.checked ≡ desk.old.machine.checked }
     ensures takes { TakesOne plan.now seen.now desk.old desk.new result }
@@ -401,7 +405,7 @@ fn step_past(
     branch: u32,
     event: &Event,
 ) -> Turn
-    requires { MayAsk desk.old plan.now.lines.now seen.now (asked.Command.Step (choice_of event.now)) }
+    requires { MayAsk desk.old plan.now.only plan.now.lines.now seen.now (asked.Command.Step (choice_of event.now)) }
     ensures led { Led desk.old desk.new }
     ensures system { desk.new.machine.checked ≡ desk.old.machine.checked }
     ensures takes { TakesOne plan.now seen.now desk.old desk.new result }
@@ -441,7 +445,8 @@ fn next_in_turn<'a>(
     turn: u32,
     count: u32,
 ) -> Option<(u32, &'a Event)>
-    ensures { MatchOption result (any_goes system.now only events.now ≡ false) (λ found. In found.1.now events.now) }
+    ensures { MatchOption result (any_goes system.now only events.now ≡ false) (λ found.
+        In found.1.now events.now × (branch_for system.now only found.1.now ≡ Some found.0)) }
 {
     match first_that_goes(system, events, only) {
         Some(first) => Some(nearest(system, events, only, turn, count, first)),
@@ -459,8 +464,9 @@ fn nearest<'a>(
     count: u32,
     first: (u32, &'a Event),
 ) -> (u32, &'a Event)
-    requires { In first.1.now events.now }
-    ensures { In result.1.now events.now }
+    requires there { In first.1.now events.now }
+    requires goes { branch_for system.now only first.1.now ≡ Some first.0 }
+    ensures { In result.1.now events.now × (branch_for system.now only result.1.now ≡ Some result.0) }
 {
     let mut found = first;
     let mut least = distance(turn, first.0, count);

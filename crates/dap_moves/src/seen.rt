@@ -1,5 +1,5 @@
 // What a run looks at: variables and channels that are watched, and steps before which it has stopped already.
-ghost use Rattle.std.specs.Prelude.{◌≡◌, true};
+ghost use Rattle.std.specs.Prelude.{◌≡◌, ◌↔◌, IsTrue};
 ghost use Rattle.syntax.specs.Lists.{In};
 ghost use Rattle.runs.specs.Choices.{choice_of};
 ghost use Rattle.machine.specs.Branching.{is_branch};
@@ -49,17 +49,25 @@ fn is_number(number: u32, found: Option<u32>) -> bool
 }
 
 /// Whether this is the choice of the event.
-#[tactic(auto, using(crate::proofs::Passing::same_choice))]
 pub fn has_choice(choice: &Choice, event: &Event) -> bool
-    ensures { result ≡ true → choice.now ≡ choice_of event.now }
+    ensures { IsTrue result ↔ (choice.now ≡ choice_of event.now) }
 {
-    choice.arm == event.arm_to_open() && choice.place.equals(event.acting_place())
+    let arm = is_arm(choice, event);
+    let place = choice.place.equals(event.acting_place());
+    arm && place
+}
+
+/// Whether the arm is the one that the event opens.
+fn is_arm(choice: &Choice, event: &Event) -> bool
+    ensures { IsTrue result ↔ (choice.now.arm ≡ (choice_of event.now).arm) }
+{
+    choice.arm == event.arm_to_open()
 }
 
 /// Whether one of the choices is that of the event.
-#[tactic(auto, using(crate::proofs::Passing::seen_here))]
+#[tactic(auto, using(crate::proofs::Passing::seen_among))]
 pub(crate) fn is_seen(seen: &[Choice], event: &Event) -> bool
-    ensures { result ≡ true → In (choice_of event.now) seen.now }
+    ensures { IsTrue result ↔ In (choice_of event.now) seen.now }
 {
     for choice in seen {
         if has_choice(choice, event) {

@@ -1,6 +1,6 @@
 -- Steps forth, and runs.
 use Rattle.std.proofs.Common.{◌≡◌, ◌⊎◌, ◌∙◌, ℕ, ◌-◌, List, [], ◌∷◌, ◌++◌, Option, None, Some, Bool, true, false, inl, inr, ap, subst, refl, sym, codes}
-use Rattle.std.specs.Prelude.{slice_get, unwrap_or}
+use Rattle.std.specs.Prelude.{slice_get}
 use Rattle.serde_json.specs.View.{view}
 use Rattle.syntax.specs.Lists.{Every, In}
 use Rattle.system.specs.declared.system.System.{System}
@@ -15,7 +15,7 @@ use Rattle.runs.specs.declared.event.Event.{Event}
 use Rattle.machine.specs.AtMachine.{AtMachine, object}
 use Rattle.locked_execution.specs.AtDesk.{AtDesk, execution}
 use Rattle.locked_execution.specs.declared.command.Reply.{Reply}
-use Rattle.dap_messages.specs.Arguments.{flag_named, number_named}
+use Rattle.dap_messages.specs.Arguments.{is_single, number_named}
 use Rattle.dap_messages.specs.declared.answer.Answer.{Answer}
 use Rattle.dap_messages.specs.declared.answer.Effect.{Effect}
 use Rattle.dap_messages.specs.declared.kind.Kind.{Kind}
@@ -44,38 +44,39 @@ here d system es fs k n o same list found =
     ∙ ap (λ (ys : List Event). slice_get (targets d.machine.checked k ys) n) list
 
 -- the step that was found is asked for
-pub takes_found : (d d' : AtDesk) (a b : Answer) (system : System) (es fs : List Event) (k n : ℕ) (e : Event) → system ≡ d.machine.checked → fs ≡ es →
-    Some e ≡ slice_get (targets system k fs) n → (stop : Stop) × TellsStop a stop b × Takes d (Some e) stop d' →
-    (stop : Stop) × TellsStop a stop b × Takes d (slice_get (targets d.machine.checked k es) n) stop d'
-takes_found d d' a b system es fs k n e same list found h =
-    (h.0, h.1, subst (λ (o : Option Event). Takes d o h.0 d') (here d system es fs k n (Some e) same list found) h.2)
+pub takes_found : (x : Bool) (d d' : AtDesk) (a b : Answer) (system : System) (es fs : List Event) (k n : ℕ) (e : Event) → system ≡ d.machine.checked → fs ≡ es →
+    Some e ≡ slice_get (targets system k fs) n → (stop : Stop) × TellsStop a stop b × Takes x d (Some e) stop d' →
+    (stop : Stop) × TellsStop a stop b × Takes x d (slice_get (targets d.machine.checked k es) n) stop d'
+takes_found x d d' a b system es fs k n e same list found h =
+    (h.0, h.1, subst (λ (o : Option Event). Takes x d o h.0 d') (here d system es fs k n (Some e) same list found) h.2)
 
 -- there is none
-pub takes_none : (d : AtDesk) (a b : Answer) (system : System) (es fs : List Event) (k n : ℕ) → system ≡ d.machine.checked → fs ≡ es →
+pub takes_none : (x : Bool) (d : AtDesk) (a b : Answer) (system : System) (es fs : List Event) (k n : ℕ) → system ≡ d.machine.checked → fs ≡ es →
     None ≡ slice_get (targets system k fs) n → TellsStop a Stop.Stands b →
-    (stop : Stop) × TellsStop a stop b × Takes d (slice_get (targets d.machine.checked k es) n) stop d
-takes_none d a b system es fs k n same list found h =
-    (Stop.Stands, h, subst (λ (o : Option Event). Takes d o Stop.Stands d) (here d system es fs k n None same list found) (refl, refl))
+    (stop : Stop) × TellsStop a stop b × Takes x d (slice_get (targets d.machine.checked k es) n) stop d
+takes_none x d a b system es fs k n same list found h =
+    (Stop.Stands, h, subst (λ (o : Option Event). Takes x d o Stop.Stands d) (here d system es fs k n None same list found) (refl, refl))
 
 -- of the events that are ready
-pub forth_listed : (d d' : AtDesk) (a b : Answer) (m : AtMachine) (es : List Event) (k n : ℕ) → m ≡ d.machine →
+pub forth_listed : (x : Bool) (d d' : AtDesk) (a b : Answer) (m : AtMachine) (es : List Event) (k n : ℕ) → m ≡ d.machine →
     ((T : State) × Reaches (object m) T × ReadyList T es) →
-    (stop : Stop) × TellsStop a stop b × Takes d (slice_get (targets d.machine.checked k es) n) stop d' →
-    (stop : Stop) × TellsStop a stop b × StepsForth d k n stop d'
-forth_listed d d' a b m es k n same ready h =
-    let there = subst (λ (x : AtMachine). (T : State) × Reaches (object x) T × ReadyList T es) same ready in
+    (stop : Stop) × TellsStop a stop b × Takes x d (slice_get (targets d.machine.checked k es) n) stop d' →
+    (stop : Stop) × TellsStop a stop b × StepsForth x d k n stop d'
+forth_listed x d d' a b m es k n same ready h =
+    let there = subst (λ (y : AtMachine). (T : State) × Reaches (object y) T × ReadyList T es) same ready in
     (h.0, h.1, inl (there.0, es, there.1, there.2, h.2))
 
 -- there was no memory to look
-pub forth_nowhere : (d : AtDesk) (a b : Answer) (k n : ℕ) → TellsStop a (Stop.Refused 1) b → (stop : Stop) × TellsStop a stop b × StepsForth d k n stop d
-forth_nowhere d a b k n h = (Stop.Refused 1, h, inr (refl, refl))
+pub forth_nowhere : (x : Bool) (d : AtDesk) (a b : Answer) (k n : ℕ) → TellsStop a (Stop.Refused 1 x) b →
+    (stop : Stop) × TellsStop a stop b × StepsForth x d k n stop d
+forth_nowhere x d a b k n h = (Stop.Refused 1 x, h, inr (refl, refl))
 
 -- the step that a request asks for
-pub runs_target : (a m b : Answer) (d d' : AtDesk) (k n target : ℕ) → m ≡ a → n ≡ target →
-    (stop : Stop) × TellsStop m stop b × StepsForth d k n stop d' → Runs a b d d' (λ (stop : Stop). StepsForth d k target stop d')
-runs_target a m b d d' k n target same is h =
-    runs_on a m b d d' (λ (stop : Stop). StepsForth d k target stop d') same
-    (h.0, h.1, subst (λ (x : ℕ). StepsForth d k x h.0 d') is h.2)
+pub runs_target : (x : Bool) (a m b : Answer) (d d' : AtDesk) (k n target : ℕ) → m ≡ a → n ≡ target →
+    (stop : Stop) × TellsStop m stop b × StepsForth x d k n stop d' → Runs a b d d' (λ (stop : Stop). StepsForth x d k target stop d')
+runs_target x a m b d d' k n target same is h =
+    runs_on a m b d d' (λ (stop : Stop). StepsForth x d k target stop d') same
+    (h.0, h.1, subst (λ (y : ℕ). StepsForth x d k y h.0 d') is h.2)
 
 pub target_other : (kind : Kind) (named : Option ℕ) → (kind ≡ Kind.StepIn → ⊥) → 0 ≡ target_of kind named
 target_other Kind.StepIn named other = absurd (other refl)
@@ -94,7 +95,7 @@ target_none kind named is none =
 -- a run
 pub runs_by : (going : Going) (k : Option ℕ) (d d' : AtDesk) (before after : List Choice) (plan : Plan) (ended : Ended) → IsPlanned going plan →
     AreSeen d k before plan.seen.now → RunsFrom 0 plan plan.seen.now d d' ended → KeepsChoice plan.lines.now d' ended after →
-    RunsBy going k d before (stop_at ended) d' after
+    RunsBy going k d before (stop_at going.excepts ended) d' after
 runs_by going k d d' before after plan ended planned seen runs keeps = record {
   plan = plan;
   ended = ended;
@@ -138,9 +139,9 @@ seen_or_more d k before after c first h = elim h [
 ]
 
 -- a step that was not refused
-pub stop_other : (reply : Reply) → ((why : Refusal) → reply ≡ Reply.Refused why → ⊥) → stop_of reply ≡ Stop.Stands
-stop_other (Reply.Refused why) other = absurd (other why refl)
-stop_other _ other = refl
+pub stop_other : (x : Bool) (reply : Reply) → ((why : Refusal) → reply ≡ Reply.Refused why → ⊥) → stop_of x reply ≡ Stop.Stands
+stop_other x (Reply.Refused why) other = absurd (other why refl)
+stop_other x _ other = refl
 
 -- the same `stopped`
 pub tells_as : (a b : Answer) (stop other : Stop) → stop ≡ other → TellsStop a stop b → TellsStop a other b
@@ -153,20 +154,20 @@ seen_cleared t (Reply.Refused why) before after other none = absurd (other why r
 seen_cleared t _ before after other none = none
 
 -- steps are taken back for the branch of the thread that the request names
-pub reverses_thread : (d d' : AtDesk) (m : AtMachine) (request : Request) (found : Option ℕ) (k : ℕ) (single : Bool) (stop : Stop) → m ≡ d.machine →
+pub reverses_thread : (x : Bool) (d d' : AtDesk) (m : AtMachine) (request : Request) (found : Option ℕ) (k : ℕ) (single : Bool) (stop : Stop) → m ≡ d.machine →
     found ≡ branch_named (branch_count m.checked) (number_named (codes "threadId") (view request.arguments)) → found ≡ Some k →
-    single ≡ unwrap_or (flag_named (codes "singleThread") (view request.arguments)) false → Reverses (alone k single) d stop d' →
-    ReversesFor d request stop d'
-reverses_thread d d' m request found k single stop same is some alone_is h =
-    subst (λ (o : Option ℕ). ReversesIn o request d stop d')
-    (sym some ∙ is ∙ ap (λ (x : AtMachine). branch_named (branch_count x.checked) (number_named (codes "threadId") (view request.arguments))) same)
-    (subst (λ (b : Bool). Reverses (alone k b) d stop d') alone_is h)
+    single ≡ is_single request → Reverses x (alone k single) d stop d' → ReversesFor x d request stop d'
+reverses_thread x d d' m request found k single stop same is some alone_is h =
+    subst (λ (o : Option ℕ). ReversesIn x o request d stop d')
+    (sym some ∙ is ∙ ap (λ (y : AtMachine). branch_named (branch_count y.checked) (number_named (codes "threadId") (view request.arguments))) same)
+    (subst (λ (b : Bool). Reverses x (alone k b) d stop d') alone_is h)
 
 -- how it ended is told
 pub run_told : (going : Going) (k : Option ℕ) (d d' : AtDesk) (before after : List Choice) (a m b : Answer) (ended : Ended) →
-    TellsOutputs a m → TellsStop m (stop_at ended) b → RunsBy going k d before (stop_at ended) d' after →
+    TellsOutputs a m → TellsStop m (stop_at going.excepts ended) b → RunsBy going k d before (stop_at going.excepts ended) d' after →
     (stop : Stop) × TellsStop a stop b × RunsBy going k d before stop d' after
-run_told going k d d' before after a m b ended outputs stops h = (stop_at ended, stops_on a m b (stop_at ended) outputs stops, h)
+run_told going k d d' before after a m b ended outputs stops h =
+    let stop = stop_at going.excepts ended in (stop, stops_on a m b stop outputs stops, h)
 
 -- a body before it
 pub run_behind : (going : Going) (k : Option ℕ) (d d' : AtDesk) (before after : List Choice) (a m b : Answer) → TellsOutputs a m →
@@ -184,15 +185,15 @@ remembers_still d d' b before after seen same = inr (inl (seen, same))
 pub remembers_none : (d d' : AtDesk) (b : Answer) (before after : List Choice) → after ≡ [] → Remembers d d' b before after
 remembers_none d d' b before after none = inl none
 
-pub remembers_back : (d d' : AtDesk) (a b : Answer) (before after : List Choice) (ended : Rewound) → TellsStop a (stop_behind ended) b →
+pub remembers_back : (x : Bool) (d d' : AtDesk) (a b : Answer) (before after : List Choice) (ended : Rewound) → TellsStop a (stop_behind x ended) b →
     KeepsBack ended after → Remembers d d' b before after
-remembers_back d d' a b before after Rewound.AtBeginning stops keeps = inl keeps
-remembers_back d d' a b before after (Rewound.AtLine branch line) stops keeps = elim keeps [
+remembers_back x d d' a b before after Rewound.AtBeginning stops keeps = inl keeps
+remembers_back x d d' a b before after (Rewound.AtLine branch line) stops keeps = elim keeps [
   | inl none ↦ inl none
   | inr one ↦ inr (inr (stops.effect, one))
 ]
-remembers_back d d' a b before after (Rewound.Watched branch ticket) stops keeps = inl keeps
-remembers_back d d' a b before after (Rewound.Refused why) stops keeps = inl keeps
+remembers_back x d d' a b before after (Rewound.Watched branch ticket) stops keeps = inl keeps
+remembers_back x d d' a b before after (Rewound.Refused why) stops keeps = inl keeps
 
 -- a step back that was refused changes nothing
 pub remembers_moved : (d d' : AtDesk) (k : ℕ) (b : Answer) (before after : List Choice) (moved : Back) → StepsBack d k moved d' →

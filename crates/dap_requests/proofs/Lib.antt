@@ -1,4 +1,5 @@
 pub mod public
 mod Forward
 mod Kept
+mod Lines
 mod Reading

@@ -22,23 +22,23 @@ use Rattle.dap_moves.specs.declared.run.Plan.{Plan}
 use Rattle.dap_moves.specs.declared.seen.Watched.{Watched}
 use Rattle.dap_views.specs.declared.program.Program.{Program}
 
--- how a thread stands behind a step that was answered so
-abbrev pub stop_of : Reply → Stop
-stop_of (Reply.Refused why) = Stop.Refused (refusal_number why)
-stop_of _ = Stop.Stands
+-- how a thread stands behind a step that was answered so; `excepts` where a refusal is an exception to the client
+abbrev pub stop_of : Bool → Reply → Stop
+stop_of excepts (Reply.Refused why) = Stop.Refused (refusal_number why) excepts
+stop_of excepts _ = Stop.Stands
 
 -- the step of this event is asked for, if there is one, and how it went is told
-abbrev pub Takes : AtDesk → Option Event → Stop → AtDesk → Type 0
-Takes d None stop d' = (stop ≡ Stop.Stands) × (d' ≡ d)
-Takes d (Some e) stop d' = (reply : Reply) × StepsAt d e reply d' × (stop ≡ stop_of reply)
+abbrev pub Takes : Bool → AtDesk → Option Event → Stop → AtDesk → Type 0
+Takes excepts d None stop d' = (stop ≡ Stop.Stands) × (d' ≡ d)
+Takes excepts d (Some e) stop d' = (reply : Reply) × StepsAt d e reply d' × (stop ≡ stop_of excepts reply)
 
 -- of the steps that branch k can be, the one of this number is asked for, if there is one; or there was no memory to
 -- list them: nothing changed, and that is told
-abbrev pub StepsForth : AtDesk → ℕ → ℕ → Stop → AtDesk → Type 0
-StepsForth d k number stop d' =
+abbrev pub StepsForth : Bool → AtDesk → ℕ → ℕ → Stop → AtDesk → Type 0
+StepsForth excepts d k number stop d' =
     ((T : State) × (es : List Event) × Reaches (execution d) T × ReadyList T es
-    × Takes d (slice_get (targets d.machine.checked k es) number) stop d')
-    ⊎ ((stop ≡ Stop.Refused 1) × (d' ≡ d))
+    × Takes excepts d (slice_get (targets d.machine.checked k es) number) stop d')
+    ⊎ ((stop ≡ Stop.Refused 1 excepts) × (d' ≡ d))
 
 -- which step a request of this kind asks for, from 0, where this one is named, from 1: `stepIn` may name any, the
 -- others ask for the first
@@ -51,10 +51,10 @@ abbrev pub target_in : Request → ℕ
 target_in request = target_of request.kind (number_named (codes "targetId") (view request.arguments))
 
 -- how a thread stands where a run ends so
-abbrev pub stop_at : Ended → Stop
-stop_at (Ended.AtLine branch line) = Stop.AtLine
-stop_at (Ended.Refused branch why) = Stop.Refused (refusal_number why)
-stop_at _ = Stop.Stands
+abbrev pub stop_at : Bool → Ended → Stop
+stop_at excepts (Ended.AtLine branch line) = Stop.AtLine
+stop_at excepts (Ended.Refused branch why) = Stop.Refused (refusal_number why) excepts
+stop_at excepts _ = Stop.Stands
 
 -- the choice is that of the first step of the branch, if one is meant
 abbrev pub IsFirst : AtDesk → Option ℕ → Choice → Type 0
@@ -67,12 +67,14 @@ IsFirst d (Some k) c =
 abbrev pub AreSeen : AtDesk → Option ℕ → List Choice → List Choice → Type 0
 AreSeen d k before seen = Every (λ (c : Choice). In c before ⊎ IsFirst d k c) seen
 
--- how a run goes: the lines that stop it, what is watched, the most steps, and the branch that steps alone
+-- how a run goes: the lines that stop it, what is watched, the most steps, the branch that steps alone, and whether a
+-- refusal is an exception
 pub record Going : Type 0 where
   pub lines : List ℕ
   pub watched : List Watched
   pub most : ℕ
   pub only : Option ℕ
+  pub excepts : Bool
 
 -- the branch that steps alone, if it does
 abbrev pub alone : ℕ → Bool → Option ℕ
@@ -86,6 +88,7 @@ going_of program only = record {
   watched = program.watched.items;
   most = program.launch.most;
   only = only;
+  excepts = program.excepts;
 }
 
 -- it is planned so
@@ -104,5 +107,5 @@ pub record RunsBy (going : Going) (k : Option ℕ) (d : AtDesk) (before : List C
   pub planned : IsPlanned going plan
   pub seen : AreSeen d k before plan.seen.now
   pub runs : RunsFrom 0 plan plan.seen.now d d' ended
-  pub told : stop ≡ stop_at ended
+  pub told : stop ≡ stop_at going.excepts ended
   pub keeps : KeepsChoice going.lines d' ended after

@@ -4,12 +4,19 @@ use Rattle.std.specs.Cmp.Lexicographic.{pointwise}
 use Rattle.std.specs.Char.{is_ascii_whitespace}
 use Rattle.serde_json.specs.View.{view}
 use Rattle.runs.specs.declared.event.Choice.{Choice}
+use Rattle.locked_execution.specs.AtDesk.{AtDesk}
+use Rattle.locked_execution.specs.Performs.{Answers}
+use Rattle.locked_execution.specs.declared.command.Command.{Command}
+use Rattle.locked_execution.specs.declared.command.Reply.{Reply}
 use Rattle.dap_messages.specs.Arguments.{text_named}
 use Rattle.dap_messages.specs.declared.answer.Answer.{Answer}
 use Rattle.dap_messages.specs.declared.answer.Effect.{Effect}
 use Rattle.dap_messages.specs.declared.request.Request.{Request}
 use Rattle.dap_messages.specs.declared.told.Stop.{Stop}
 use Rattle.dap_messages.specs.declared.told.Told.{Told}
+use Rattle.dap_moves.specs.Moves.{StepsBack}
+use Rattle.dap_moves.specs.TakingBack.{GoesBack}
+use Rattle.dap_moves.specs.declared.back.Back.{Back}
 
 -- whether the first byte that is not blank is a `!`
 abbrev pub begins_marked : List ℕ → Bool
@@ -37,3 +44,10 @@ abbrev pub KeepsSome : Answer → List Choice → List Choice → Type 0
 KeepsSome answer before after =
     (after ≡ []) ⊎ (after ≡ before)
     ⊎ ((answer.effect ≡ Effect.Due (Told.Stopped Stop.AtLine)) × ((c : Choice) × (after ≡ c ∷ [])))
+
+-- what a typed expression does to a desk: nothing; or it asks for one command, in the session of the console; or for the
+-- newest step of a branch to be taken back; or for a run back of all
+abbrev pub Evaluates : AtDesk → AtDesk → Type 0
+Evaluates d d' =
+    (d' ≡ d) ⊎ ((command : Command) × (reply : Reply) × Answers d 0 command reply d')
+    ⊎ ((k : ℕ) × (moved : Back) × StepsBack d k moved d') ⊎ GoesBack None d d'

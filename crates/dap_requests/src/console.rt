@@ -1,11 +1,12 @@
 // Expressions and lines that are typed, and how they can be completed.
 ghost use Rattle.std.specs.Prelude.{◌≡◌, ◌⊎◌, false, true};
 ghost use Rattle.dap_messages.specs.Notes.{IsDone, IsRefusal};
+ghost use Rattle.locked_execution.specs.Performs.{Answers};
 ghost use Rattle.dap_moves.specs.Led.{Led};
 ghost use Rattle.dap_requests.specs.Reading.{reads};
-ghost use Rattle.dap_requests.specs.Typed.{KeepsSome, is_typed};
+ghost use Rattle.dap_requests.specs.Typed.{Evaluates, KeepsSome, is_typed};
 
-use crate::entered::is_typed;
+use crate::entered::{has_mark, is_typed};
 use crate::hints::add_in_place;
 use crate::moves::{back_in, reverse_in};
 use crate::said::{stop, tell, words_of};
@@ -38,7 +39,7 @@ enum Line {
 
 /// Answers `evaluate`: a variable, a channel, or a line of a script. One that changes something is taken only where it
 /// was typed for that: in the console, or behind a `!`.
-#[tactic(auto, using(crate::proofs::Reading::led_still, crate::proofs::public::Saying::keeps_same))]
+#[tactic(auto, using(crate::proofs::Lines::stays))]
 pub fn evaluate(
     alloc: Global,
     desk: &mut Desk,
@@ -50,6 +51,7 @@ pub fn evaluate(
     ensures led { Led desk.old desk.new }
     ensures system { desk.new.machine.checked ≡ desk.old.machine.checked }
     ensures looks { is_typed request.now ≡ false → desk.new ≡ desk.old }
+    ensures does { Evaluates desk.old desk.new }
     ensures refused { (desk.new ≡ desk.old) ⊎ (IsDone answer.old.outcome → IsDone answer.new.outcome) }
     ensures keeps { KeepsSome answer.new memo.old.seen.items memo.new.seen.items }
 {
@@ -61,7 +63,7 @@ pub fn evaluate(
 }
 
 /// Answers an expression that was typed as a line.
-#[tactic(auto, using(crate::proofs::Reading::led_still, crate::proofs::public::Saying::keeps_same))]
+#[tactic(auto, using(crate::proofs::Lines::stays))]
 fn evaluate_typed(
     alloc: Global,
     desk: &mut Desk,
@@ -72,13 +74,17 @@ fn evaluate_typed(
 )
     ensures led { Led desk.old desk.new }
     ensures system { desk.new.machine.checked ≡ desk.old.machine.checked }
+    ensures does { Evaluates desk.old desk.new }
     ensures refused { (desk.new ≡ desk.old) ⊎ (IsDone answer.old.outcome → IsDone answer.new.outcome) }
     ensures keeps { KeepsSome answer.new memo.old.seen.items memo.new.seen.items }
 {
     match frame_in(alloc, desk.machine(), program, request, answer) {
         Some((branch, instance)) => {
             let line = line_in(request);
-            typed(alloc, desk, program, memo, branch, instance, line, answer);
+            let marked = has_mark(request);
+            typed(
+                alloc, desk, program, memo, branch, instance, line, marked, answer,
+            );
         }
         None => {}
     }
@@ -107,8 +113,68 @@ fn line_in(request: &Request) -> &str {
 }
 
 /// Answers a line that was typed.
-#[tactic(auto, using(crate::proofs::Reading::led_still, crate::proofs::public::Saying::keeps_same))]
+#[tactic(auto, using(crate::proofs::Lines::stays))]
 fn typed(
+    alloc: Global,
+    desk: &mut Desk,
+    program: &Program,
+    memo: &mut Memo,
+    branch: u32,
+    instance: usize,
+    line: &str,
+    marked: bool,
+    answer: &mut Answer,
+)
+    ensures led { Led desk.old desk.new }
+    ensures system { desk.new.machine.checked ≡ desk.old.machine.checked }
+    ensures does { Evaluates desk.old desk.new }
+    ensures refused { (desk.new ≡ desk.old) ⊎ (IsDone answer.old.outcome → IsDone answer.new.outcome) }
+    ensures keeps { KeepsSome answer.new memo.old.seen.items memo.new.seen.items }
+{
+    if is_command(program, instance, line, marked) {
+        typed_word(alloc, desk, program, memo, branch, line, answer);
+    } else {
+        typed_name(alloc, desk, program, memo, branch, instance, line, answer);
+    }
+}
+
+/// Whether the line is a word that is taken for a line, and not for a name: one behind a mark, or that names nothing.
+fn is_command(program: &Program, instance: usize, line: &str, marked: bool) -> bool {
+    (is_own(line) || is_bare(line)) && (marked || !is_name(program, instance, line))
+}
+
+/// Whether the line names something, or may name more than one thing.
+fn is_name(program: &Program, instance: usize, line: &str) -> bool {
+    program.index.find(instance, line).is_some() || program.index.is_declared(line)
+}
+
+/// Answers a line of one word that was typed.
+#[tactic(auto, using(crate::proofs::Lines::stays))]
+fn typed_word(
+    alloc: Global,
+    desk: &mut Desk,
+    program: &Program,
+    memo: &mut Memo,
+    branch: u32,
+    line: &str,
+    answer: &mut Answer,
+)
+    ensures led { Led desk.old desk.new }
+    ensures system { desk.new.machine.checked ≡ desk.old.machine.checked }
+    ensures does { Evaluates desk.old desk.new }
+    ensures refused { (desk.new ≡ desk.old) ⊎ (IsDone answer.old.outcome → IsDone answer.new.outcome) }
+    ensures keeps { KeepsSome answer.new memo.old.seen.items memo.new.seen.items }
+{
+    if is_own(line) {
+        own_line(alloc, desk, program, memo, branch, line, answer);
+    } else {
+        typed_line(alloc, desk, program, memo, branch, line, answer);
+    }
+}
+
+/// Answers a line that was typed and is no such word: a name, or a line of a script.
+#[tactic(auto, using(crate::proofs::Lines::stays))]
+fn typed_name(
     alloc: Global,
     desk: &mut Desk,
     program: &Program,
@@ -120,17 +186,14 @@ fn typed(
 )
     ensures led { Led desk.old desk.new }
     ensures system { desk.new.machine.checked ≡ desk.old.machine.checked }
+    ensures does { Evaluates desk.old desk.new }
     ensures refused { (desk.new ≡ desk.old) ⊎ (IsDone answer.old.outcome → IsDone answer.new.outcome) }
     ensures keeps { KeepsSome answer.new memo.old.seen.items memo.new.seen.items }
 {
-    if is_own(line) {
-        own_line(alloc, desk, program, memo, branch, line, answer);
-        return;
-    }
     match program.index.find(instance, line) {
-        Some(thing) if !is_bare(line) => told(alloc, desk.machine(), program, thing, answer),
-        None if is_several(program, line) => tell_several(alloc, program, line, answer),
-        _ => typed_line(alloc, desk, program, memo, branch, line, answer),
+        Some(thing) => told(alloc, desk.machine(), program, thing, answer),
+        None if program.index.is_declared(line) => tell_several(alloc, program, line, answer),
+        None => typed_line(alloc, desk, program, memo, branch, line, answer),
     }
 }
 
@@ -147,14 +210,9 @@ fn looked_at(
 {
     match program.index.find(instance, line) {
         Some(thing) => told(alloc, desk.machine(), program, thing, answer),
-        None if is_several(program, line) => tell_several(alloc, program, line, answer),
+        None if program.index.is_declared(line) => tell_several(alloc, program, line, answer),
         None => looked_at_line(alloc, desk, program, line, answer),
     }
-}
-
-/// Whether the line is a name that means more than one thing, where it does not mean one.
-fn is_several(program: &Program, line: &str) -> bool {
-    !is_bare(line) && program.index.is_declared(line)
 }
 
 /// Refuses a name that may mean more than one thing, and tells which.
@@ -193,6 +251,7 @@ fn own_line(
 )
     ensures led { Led desk.old desk.new }
     ensures system { desk.new.machine.checked ≡ desk.old.machine.checked }
+    ensures does { Evaluates desk.old desk.new }
     ensures done { IsDone answer.old.outcome → IsDone answer.new.outcome }
     ensures keeps { KeepsSome answer.new memo.old.seen.items memo.new.seen.items }
 {
@@ -272,7 +331,7 @@ fn told_channel(
 }
 
 /// Answers a line of a script that was typed.
-#[tactic(auto, using(crate::proofs::Reading::led_still, crate::proofs::public::Saying::keeps_same))]
+#[tactic(auto, using(crate::proofs::Lines::stays))]
 fn typed_line(
     alloc: Global,
     desk: &mut Desk,
@@ -284,6 +343,7 @@ fn typed_line(
 )
     ensures led { Led desk.old desk.new }
     ensures system { desk.new.machine.checked ≡ desk.old.machine.checked }
+    ensures does { Evaluates desk.old desk.new }
     ensures refused { (desk.new ≡ desk.old) ⊎ (IsDone answer.old.outcome → IsDone answer.new.outcome) }
     ensures keeps { KeepsSome answer.new memo.old.seen.items memo.new.seen.items }
 {
@@ -370,6 +430,7 @@ fn ask(
 )
     ensures led { Led desk.old desk.new }
     ensures system { desk.new.machine.checked ≡ desk.old.machine.checked }
+    ensures does { Evaluates desk.old desk.new }
     ensures done { IsDone answer.old.outcome → IsDone answer.new.outcome }
     ensures keeps { KeepsSome answer.new memo.old.seen.items memo.new.seen.items }
 {
@@ -413,6 +474,7 @@ fn is_set(command: &Command, reply: &Reply) -> bool {
 fn asked(desk: &mut Desk, command: &Command) -> Reply
     ensures led { Led desk.old desk.new }
     ensures system { desk.new.machine.checked ≡ desk.old.machine.checked }
+    ensures answers { Answers desk.old 0 command.now result desk.new }
 {
     desk.perform(0, command)
 }

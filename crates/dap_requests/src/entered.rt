@@ -24,7 +24,7 @@ fn in_console(request: &Request) -> bool
 }
 
 /// Whether a mark stands before it.
-fn has_mark(request: &Request) -> bool
+pub(crate) fn has_mark(request: &Request) -> bool
     ensures { result ≡ model.is_marked (text_named (codes "expression") (view request.now.arguments)) }
 {
     is_marked(request.text("expression"))

@@ -46,7 +46,7 @@ pub fn step_in(
     ensures led { Led desk.old desk.new }
     ensures system { desk.new.machine.checked ≡ desk.old.machine.checked }
     ensures goes { Runs answer.old answer.new desk.old desk.new
-        (λ stop. StepsForth desk.old branch (target_in request.now) stop desk.new) }
+        (λ stop. StepsForth program.now.excepts desk.old branch (target_in request.now) stop desk.new) }
     ensures keeps { Remembers desk.old desk.new answer.new memo.old.seen.items memo.new.seen.items }
 {
     match target_asked(request, answer) {
@@ -96,7 +96,7 @@ pub fn next_in(
     ensures led { Led desk.old desk.new }
     ensures system { desk.new.machine.checked ≡ desk.old.machine.checked }
     ensures goes { (stop : Stands) × TellsStop answer.old stop answer.new
-        × StepsForth desk.old branch number stop desk.new }
+        × StepsForth program.now.excepts desk.old branch number stop desk.new }
     ensures keeps { Remembers desk.old desk.new answer.new memo.old.seen.items memo.new.seen.items }
 {
     match desk.machine().ready() {
@@ -108,7 +108,7 @@ pub fn next_in(
 /// Tells that there is no memory to look for a step.
 fn no_memory(alloc: Global, program: &Program, memo: &mut Memo, branch: u32, answer: &mut Answer)
     ensures seen { memo.new.seen ≡ memo.old.seen }
-    ensures stops { TellsStop answer.old (Stands.Refused 1) answer.new }
+    ensures stops { TellsStop answer.old (Stands.Refused 1 program.now.excepts) answer.new }
 {
     let words = "no memory to look for a step";
     tell_refused(alloc, program, memo, answer, branch, Refusal::Memory, words);
@@ -128,7 +128,8 @@ fn take_target(
     ensures led { Led desk.old desk.new }
     ensures system { desk.new.machine.checked ≡ desk.old.machine.checked }
     ensures goes { (stop : Stands) × TellsStop answer.old stop answer.new
-        × Takes desk.old (slice_get (targets desk.old.machine.checked branch events.now) number) stop desk.new }
+        × Takes program.now.excepts desk.old (slice_get (targets desk.old.machine.checked branch events.now) number)
+        stop desk.new }
     ensures keeps { Remembers desk.old desk.new answer.new memo.old.seen.items memo.new.seen.items }
 {
     let system = desk.machine().checked().system();
@@ -151,7 +152,7 @@ fn take(
     ensures led { Led desk.old desk.new }
     ensures system { desk.new.machine.checked ≡ desk.old.machine.checked }
     ensures goes { (stop : Stands) × TellsStop answer.old stop answer.new
-        × Takes desk.old (Some event.now) stop desk.new }
+        × Takes program.now.excepts desk.old (Some event.now) stop desk.new }
     ensures keeps { memo.new.seen.items ≡ [] }
 {
     let before = desk.machine().live_events().len();
@@ -181,7 +182,7 @@ fn tell_took(
     answer: &mut Answer,
 )
     ensures seen { memo.new.seen ≡ memo.old.seen }
-    ensures stops { TellsStop answer.old (stop_of reply.now) answer.new }
+    ensures stops { TellsStop answer.old (stop_of program.now.excepts reply.now) answer.new }
 {
     match reply {
         Reply::Refused(why) => {
@@ -314,8 +315,8 @@ fn run_on(
 ) -> Ended
     ensures led { Led desk.old desk.new }
     ensures system { desk.new.machine.checked ≡ desk.old.machine.checked }
-    ensures goes { RunsBy (going_of program.now only) branch desk.old memo.old.seen.items (stop_at result) desk.new
-        memo.new.seen.items }
+    ensures goes { RunsBy (going_of program.now only) branch desk.old memo.old.seen.items
+        (stop_at program.now.excepts result) desk.new memo.new.seen.items }
 {
     let mut seen = mem::replace(&mut memo.seen, Vec::new(alloc));
     see_first(alloc, desk.machine(), branch, &mut seen);
@@ -440,7 +441,7 @@ fn tell_ended(
     ended: Ended,
 )
     ensures seen { memo.new.seen ≡ memo.old.seen }
-    ensures stops { TellsStop answer.old (stop_at ended) answer.new }
+    ensures stops { TellsStop answer.old (stop_at program.now.excepts ended) answer.new }
 {
     match ended {
         Ended::Nothing => {
@@ -503,7 +504,8 @@ pub fn back_in(
 )
     ensures led { Led desk.old desk.new }
     ensures system { desk.new.machine.checked ≡ desk.old.machine.checked }
-    ensures goes { (stop : Stands) × TellsStop answer.old stop answer.new × Backs desk.old branch stop desk.new }
+    ensures goes { (stop : Stands) × TellsStop answer.old stop answer.new
+        × Backs program.now.excepts desk.old branch stop desk.new }
     ensures keeps { Remembers desk.old desk.new answer.new memo.old.seen.items memo.new.seen.items }
 {
     // What one that is refused leaves.
@@ -523,7 +525,7 @@ fn tell_moved_back(
     answer: &mut Answer,
 )
     ensures seen { SeenBehind moved.now memo.old.seen.items memo.new.seen.items }
-    ensures stops { TellsStop answer.old (stop_back moved.now) answer.new }
+    ensures stops { TellsStop answer.old (stop_back program.now.excepts moved.now) answer.new }
 {
     match moved {
         Back::AtBeginning => {
@@ -550,7 +552,7 @@ fn tell_back(
     answer: &mut Answer,
 )
     ensures seen { SeenBehind (moved.Back.Asked ticket reply.now) memo.old.seen.items memo.new.seen.items }
-    ensures stops { TellsStop answer.old (stop_of reply.now) answer.new }
+    ensures stops { TellsStop answer.old (stop_of program.now.excepts reply.now) answer.new }
 {
     match reply {
         Reply::Refused(why) => tell_kept(
@@ -594,7 +596,7 @@ fn tell_kept(
     answer: &mut Answer,
 )
     ensures seen { memo.new.seen ≡ memo.old.seen }
-    ensures stops { TellsStop answer.old (Stands.Refused (refusal_number why)) answer.new }
+    ensures stops { TellsStop answer.old (Stands.Refused (refusal_number why) program.now.excepts) answer.new }
 {
     let (words, thread) = kept_words(alloc, machine, branch, ticket, why);
     tell_refused(alloc, program, memo, answer, thread, why, words.as_str());
@@ -644,7 +646,7 @@ pub fn reverse(
     ensures led { Led desk.old desk.new }
     ensures system { desk.new.machine.checked ≡ desk.old.machine.checked }
     ensures goes { Runs answer.old answer.new desk.old desk.new
-        (λ stop. ReversesFor desk.old request.now stop desk.new) }
+        (λ stop. ReversesFor program.now.excepts desk.old request.now stop desk.new) }
     ensures keeps { Remembers desk.old desk.new answer.new memo.old.seen.items memo.new.seen.items }
 {
     match thread_in(request, desk.machine(), answer) {
@@ -669,7 +671,7 @@ pub fn reverse_in(
     ensures led { Led desk.old desk.new }
     ensures system { desk.new.machine.checked ≡ desk.old.machine.checked }
     ensures goes { (stop : Stands) × TellsStop answer.old stop answer.new
-        × Reverses (alone branch single) desk.old stop desk.new }
+        × Reverses program.now.excepts (alone branch single) desk.old stop desk.new }
     ensures keeps { Remembers desk.old desk.new answer.new memo.old.seen.items memo.new.seen.items }
 {
     let ended = rewind_in(alloc, desk, program, memo, branch, single);
@@ -712,7 +714,7 @@ fn tell_rewound(
     answer: &mut Answer,
 )
     ensures seen { memo.new.seen ≡ memo.old.seen }
-    ensures stops { TellsStop answer.old (stop_behind ended) answer.new }
+    ensures stops { TellsStop answer.old (stop_behind program.now.excepts ended) answer.new }
 {
     match ended {
         Rewound::AtBeginning => stop(alloc, answer, "entry", branch, beginning_text(single)),

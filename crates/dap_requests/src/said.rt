@@ -147,7 +147,7 @@ pub(crate) fn tell_refused(
     words: &str,
 )
     ensures seen { memo.new.seen ≡ memo.old.seen }
-    ensures stops { TellsStop answer.old (stops.Stop.Refused (refusal_number why)) answer.new }
+    ensures stops { TellsStop answer.old (stops.Stop.Refused (refusal_number why) program.now.excepts) answer.new }
 {
     let line = refusal_line(alloc, why);
     keep_refusal(alloc, memo, answer, line.as_str(), words);
@@ -155,7 +155,7 @@ pub(crate) fn tell_refused(
     let reason = if program.excepts { "exception" } else { "step" };
     let mut body = stopped(alloc, reason, branch, words);
     body.text("description", line.as_str());
-    stop_refused(answer, why, body);
+    stop_refused(answer, why, program.excepts, body);
 }
 
 /// The refusal as a script tells it.
@@ -169,12 +169,13 @@ fn refusal_line(alloc: Global, why: Refusal) -> Words {
     line
 }
 
-/// Tells that nothing moves since a step was refused.
+/// Tells that nothing moves since a step was refused, and whether that is an exception.
 #[tactic(auto, using(crate::proofs::public::Saying::stops_now))]
-fn stop_refused(answer: &mut Answer, why: Refusal, body: Members)
-    ensures { TellsStop answer.old (stops.Stop.Refused (refusal_number why)) answer.new }
+fn stop_refused(answer: &mut Answer, why: Refusal, excepts: bool, body: Members)
+    ensures { TellsStop answer.old (stops.Stop.Refused (refusal_number why) excepts) answer.new }
 {
-    answer.note(Told::Stopped(Stop::Refused(u64::from(why.number()))), body);
+    let number = u64::from(why.number());
+    answer.note(Told::Stopped(Stop::Refused(number, excepts)), body);
 }
 
 /// Keeps the refusal, for whoever asks.

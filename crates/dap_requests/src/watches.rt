@@ -3,8 +3,8 @@ ghost use Rattle.dap_views.specs.Kept.{SameButWatched};
 
 use crate::breakpoints::items_in;
 use dap_messages::{Answer, Listed, Members, Request, field, text_in};
-use dap_moves::{Handle, Machine, Watched, handle_of};
-use dap_threads::frame_in;
+use dap_moves::{Handle, Machine, Watched};
+use dap_threads::{frame_in, handle_named};
 use dap_views::{Program, Thing, Words};
 use serde_json::Value;
 use std::alloc::Global;
@@ -33,19 +33,28 @@ fn instance_in(
     request: &Request,
     answer: &mut Answer,
 ) -> Option<usize> {
-    let handle = match request.number("variablesReference") {
-        Some(number) => handle_of(number),
-        None => None,
-    };
-    match handle {
-        Some(Handle::Variables(number) | Handle::Channels(number) | Handle::Instance(number)) => {
-            Some(number as usize)
-        }
-        _ => {
-            let (_, instance) = frame_in(alloc, machine, program, request, answer)?;
-            Some(instance)
-        }
+    match request.number("variablesReference") {
+        // What cannot be unfolded has 0 for a number.
+        None | Some(0) => frame_instance(alloc, machine, program, request, answer),
+        Some(_) => match handle_named(machine, program, request, answer)? {
+            Handle::Variables(number) | Handle::Channels(number) | Handle::Instance(number) => {
+                Some(number as usize)
+            }
+            Handle::Steps(_) => frame_instance(alloc, machine, program, request, answer),
+        },
     }
+}
+
+/// The instance of the frame that the request names.
+fn frame_instance(
+    alloc: Global,
+    machine: &Machine,
+    program: &Program,
+    request: &Request,
+    answer: &mut Answer,
+) -> Option<usize> {
+    let (_, instance) = frame_in(alloc, machine, program, request, answer)?;
+    Some(instance)
 }
 
 /// What may be watched of a thing.

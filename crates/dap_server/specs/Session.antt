@@ -1,5 +1,5 @@
 -- What comes in a session, and what is sent for it.
-use Rattle.std.specs.Prelude.{ℕ, ◌≡◌, ◌+◌, List, [], ◌∷◌, ◌++◌, length, Option, None, Some}
+use Rattle.std.specs.Prelude.{ℕ, ◌≡◌, ◌+◌, Bool, false, List, [], ◌∷◌, ◌++◌, length, Option, None, Some}
 use Rattle.dap_messages.specs.declared.answer.Answer.{Answer}
 use Rattle.dap_messages.specs.declared.request.Request.{Request}
 use Rattle.dap_server.specs.Sent.{AnswerRequest, Sends}
@@ -13,23 +13,24 @@ pub record Exchange {A : Type 0} (answers : A → Request → Answer → A → T
   pub told : AnswerRequest request answer next sent
 
 -- what comes, one after another, a request or what is none, and what is sent: for each request its response and the
--- events behind it, and for what is no request one line, which changes nothing. All is numbered on from `next`
-abbrev pub Session : {A : Type 0} → (A → Request → Answer → A → Type 0) → A → ℕ → List (Option Request) →
-    List (List ℕ) → A
+-- events behind it, and for what is no request one line, which changes nothing. All is numbered on from `next`. Behind
+-- the end nothing is heard
+abbrev pub Session : {A : Type 0} → (A → Request → Answer → A → Type 0) → (A → Bool) → A → ℕ →
+    List (Option Request) → List (List ℕ) → A
     → Type 0
-Session answers a next [] sent b = (sent ≡ []) × (b ≡ a)
-Session {A} answers a next (Some request ∷ heard) sent b =
-    (m : A) × (own : List (List ℕ)) × (rest : List (List ℕ)) × Exchange answers a request next own m
-    × Session answers m (next + length own) heard rest b × (sent ≡ own ++ rest)
-Session answers a next (None ∷ heard) sent b =
-    (line : List ℕ) × (rest : List (List ℕ)) × Session answers a (next + 1) heard rest b
+Session answers over a next [] sent b = (sent ≡ []) × (b ≡ a)
+Session {A} answers over a next (Some request ∷ heard) sent b =
+    (m : A) × (own : List (List ℕ)) × (rest : List (List ℕ)) × (over a ≡ false) × Exchange answers a request next own m
+    × Session answers over m (next + length own) heard rest b × (sent ≡ own ++ rest)
+Session answers over a next (None ∷ heard) sent b =
+    (line : List ℕ) × (rest : List (List ℕ)) × (over a ≡ false) × Session answers over a (next + 1) heard rest b
     × (sent ≡ short_line line next ∷ rest)
 
 -- some messages came, and the adapter became `b`; what was sent is written, and `after` is the number of the next
 -- message
-pub record Serves {A : Type 0} (answers : A → Request → Answer → A → Type 0) (a : A) (next : ℕ) (b : A) (after : ℕ)
-    (old new : Option (List ℕ)) : Type 0 where
+pub record Serves {A : Type 0} (answers : A → Request → Answer → A → Type 0) (over : A → Bool) (a : A) (next : ℕ) (b : A)
+    (after : ℕ) (old new : Option (List ℕ)) : Type 0 where
   pub heard : List (Option Request)
   pub sent : List (List ℕ)
   pub sends : Sends sent old new next after
-  pub session : Session answers a next heard sent b
+  pub session : Session answers over a next heard sent b

@@ -3,7 +3,7 @@ use Rattle.std.specs.Prelude.{ℕ, ◌+◌, ◌++◌, ◌&&◌, Bool, true, fals
 use Rattle.std.specs.Fmt.{decimal}
 use Rattle.std.specs.Char.{is_ascii_alphanumeric}
 use Rattle.serde_json.specs.View.{view}
-use Rattle.dap_messages.specs.Arguments.{number_named}
+use Rattle.dap_messages.specs.Arguments.{is_single, number_named}
 use Rattle.dap_messages.specs.Messages.{event_name}
 use Rattle.dap_messages.specs.declared.answer.Effect.{Effect}
 use Rattle.dap_messages.specs.declared.answer.Outcome.{Outcome}
@@ -63,32 +63,37 @@ needs_more Kind.SetBreakpoints = true
 needs_more Kind.SetDataBreakpoints = true
 needs_more _ = false
 
--- that another request is done
-abbrev pub success_text : Kind → List ℕ
-success_text Kind.Continue = codes "\",\"success\":true,\"body\":{\"allThreadsContinued\":true}}"
-success_text Kind.Evaluate =
+-- that all threads go on, or one alone
+abbrev pub continued_text : Bool → List ℕ
+continued_text false = codes "\",\"success\":true,\"body\":{\"allThreadsContinued\":true}}"
+continued_text true = codes "\",\"success\":true,\"body\":{\"allThreadsContinued\":false}}"
+
+-- that another request is done, which is of one thread alone or not
+abbrev pub success_text : Kind → Bool → List ℕ
+success_text Kind.Continue single = continued_text single
+success_text Kind.Evaluate single =
     codes
     "\",\"success\":true,\"body\":{\"result\":\"done; there is no memory left to tell more\",\"variablesReference\":0}}"
-success_text _ = codes "\",\"success\":true}"
+success_text _ single = codes "\",\"success\":true}"
 
 -- that a request is done; where more is wanted, this is refused, and the words say that it is done
-abbrev pub done_text : Kind → List ℕ
-done_text kind =
-    if needs_more kind then refusal_text 1 (codes "it is done, and there is no memory left to tell more")
-    else success_text kind
+abbrev pub done_text : Request → List ℕ
+done_text request =
+    if needs_more request.kind then refusal_text 1 (codes "it is done, and there is no memory left to tell more")
+    else success_text request.kind (is_single request)
 
 -- what came of a request
-abbrev pub result_text : Kind → Gist → List ℕ
-result_text kind (Gist.Refused why) = refusal_text why (codes "there is no memory left to say why")
-result_text kind Gist.Untold = refusal_text 1 (codes "there is no memory left")
-result_text kind Gist.Done = done_text kind
-result_text kind (Gist.Due told) = done_text kind
+abbrev pub result_text : Request → Gist → List ℕ
+result_text request (Gist.Refused why) = refusal_text why (codes "there is no memory left to say why")
+result_text request Gist.Untold = refusal_text 1 (codes "there is no memory left")
+result_text request Gist.Done = done_text request
+result_text request (Gist.Due told) = done_text request
 
 -- the response to a request
 abbrev pub short_response : Request → Gist → ℕ → List ℕ
 short_response request gist seq =
     ((response_head request.seq seq ++ command_key) ++ short_name (string_bytes request.command))
-    ++ result_text request.kind gist
+    ++ result_text request gist
 
 -- the thread that a request names, else the first
 abbrev pub thread_named : Request → ℕ
@@ -98,18 +103,23 @@ thread_named request = unwrap_or (number_named (codes "threadId") (view request.
 abbrev pub stop_head : Stop → List ℕ
 stop_head Stop.Stands = codes "\",\"body\":{\"reason\":\"pause\",\"threadId\":"
 stop_head Stop.AtLine = codes "\",\"body\":{\"reason\":\"breakpoint\",\"threadId\":"
-stop_head (Stop.Refused why) = codes "\",\"body\":{\"reason\":\"exception\",\"threadId\":"
+stop_head (Stop.Refused why true) = codes "\",\"body\":{\"reason\":\"exception\",\"threadId\":"
+stop_head (Stop.Refused why false) = codes "\",\"body\":{\"reason\":\"step\",\"threadId\":"
 
 -- that a step was refused, for the reason of this number
 abbrev pub refused_words : ℕ → List ℕ
 refused_words why = codes "refused " ++ decimal why ++ codes "; there is no memory left to tell more\"}}"
+
+-- the same, and all that is left
+abbrev pub refused_rest : ℕ → List ℕ
+refused_rest why = codes ",\"allThreadsStopped\":true,\"text\":\"" ++ refused_words why
 
 -- the same in words, and all that is left
 abbrev pub stop_rest : Stop → List ℕ
 stop_rest Stop.Stands = codes ",\"allThreadsStopped\":true,\"text\":\"stopped; there is no memory left to tell more\"}}"
 stop_rest Stop.AtLine =
     codes ",\"allThreadsStopped\":true,\"text\":\"stopped at a breakpoint; there is no memory left to tell more\"}}"
-stop_rest (Stop.Refused why) = codes ",\"allThreadsStopped\":true,\"text\":\"" ++ refused_words why
+stop_rest (Stop.Refused why excepts) = refused_rest why
 
 -- that nothing moves
 abbrev pub stopped_text : Stop → ℕ → List ℕ

@@ -37,7 +37,7 @@ pub fn serve<R: Read, W: Write, C, A: Adapter<C>>(
     adapter: &mut A,
 ) -> Result<(), Fault>
     ensures serves { OnOk result ((after : ℕ)
-        × Serves A.answers adapter.old 1 adapter.new after (W.contents writer.old) (W.contents writer.new)) }
+        × Serves A.answers A.over adapter.old 1 adapter.new after (W.contents writer.old) (W.contents writer.new)) }
     ensures ends { OnOk result ((A.over adapter.new ≡ true) ⊎ IsAtEnd (R.remaining reader.new)) }
 {
     match Server::new(alloc) {
@@ -77,11 +77,14 @@ impl Server {
         context: &C,
         adapter: &mut A,
     ) -> Result<(), Fault>
-        ensures serves { OnOk result (Serves A.answers adapter.old self.old.next adapter.new self.new.next
+        ensures serves { OnOk result (Serves A.answers A.over adapter.old self.old.next adapter.new self.new.next
             (W.contents writer.old) (W.contents writer.new)) }
         ensures ends { OnOk result ((A.over adapter.new ≡ true) ⊎ IsAtEnd (R.remaining reader.new)) }
     {
         for turn in 0..u64::MAX {
+            if adapter.is_over() {
+                return Ok(());
+            }
             match self.serve_next(reader, writer, context, adapter) {
                 Ok(true) => {}
                 Ok(false) => return Ok(()),
@@ -92,7 +95,7 @@ impl Server {
         Err(Fault::Memory)
     }
 
-    /// Answers the next message, and tells whether others may follow.
+    /// Answers the next message, and tells whether there was one.
     fn serve_next<R: Read, W: Write, C, A: Adapter<C>>(
         &mut self,
         reader: &mut R,
@@ -100,10 +103,10 @@ impl Server {
         context: &C,
         adapter: &mut A,
     ) -> Result<bool, Fault>
-        ensures serves { IfOk result (λ more. Serves A.answers adapter.old self.old.next adapter.new self.new.next
+        requires { A.over adapter.old ≡ false }
+        ensures serves { IfOk result (λ more. Serves A.answers A.over adapter.old self.old.next adapter.new self.new.next
             (W.contents writer.old) (W.contents writer.new)) }
-        ensures ends { IfOk result (λ more.
-            more ≡ false → (A.over adapter.new ≡ true) ⊎ IsAtEnd (R.remaining reader.new)) }
+        ensures ends { IfOk result (λ more. more ≡ false → IsAtEnd (R.remaining reader.new)) }
     {
         match self.input.next(reader) {
             Ok(next) => self.serve_message(writer, context, adapter, next),
@@ -111,7 +114,7 @@ impl Server {
         }
     }
 
-    /// Answers a message, and tells whether others may follow.
+    /// Answers a message, and tells whether there was one.
     fn serve_message<W: Write, C, A: Adapter<C>>(
         &mut self,
         writer: &mut W,
@@ -119,9 +122,10 @@ impl Server {
         adapter: &mut A,
         next: Next,
     ) -> Result<bool, Fault>
-        ensures serves { IfOk result (λ more. Serves A.answers adapter.old self.old.next adapter.new self.new.next
+        requires { A.over adapter.old ≡ false }
+        ensures serves { IfOk result (λ more. Serves A.answers A.over adapter.old self.old.next adapter.new self.new.next
             (W.contents writer.old) (W.contents writer.new)) }
-        ensures ends { IfOk result (λ more. more ≡ false → (A.over adapter.new ≡ true) ⊎ (next ≡ comes.Next.End)) }
+        ensures ends { IfOk result (λ more. more ≡ false → next ≡ comes.Next.End) }
     {
         match next {
             Next::Body(from, to) => self.hear(writer, context, adapter, from, to),
@@ -130,7 +134,7 @@ impl Server {
         }
     }
 
-    /// Tells that a message was passed over, and that others may follow.
+    /// Tells that a message was passed over, and that there was one.
     fn pass_over<W: Write>(&mut self, writer: &mut W) -> Result<bool, Fault>
         ensures tells { IfOk result (λ more. (line : List ℕ)
             × Sends (short_line line self.old.next ∷ []) (W.contents writer.old) (W.contents writer.new) self.old.next
@@ -143,7 +147,7 @@ impl Server {
         }
     }
 
-    /// Answers the message that was read between these indexes, and tells whether others may follow.
+    /// Answers the message that was read between these indexes, and tells that there was one.
     fn hear<W: Write, C, A: Adapter<C>>(
         &mut self,
         writer: &mut W,
@@ -152,12 +156,13 @@ impl Server {
         from: usize,
         to: usize,
     ) -> Result<bool, Fault>
-        ensures serves { IfOk result (λ more. Serves A.answers adapter.old self.old.next adapter.new self.new.next
+        requires { A.over adapter.old ≡ false }
+        ensures serves { IfOk result (λ more. Serves A.answers A.over adapter.old self.old.next adapter.new self.new.next
             (W.contents writer.old) (W.contents writer.new)) }
-        ensures ends { IfOk result (λ more. more ≡ false → A.over adapter.new ≡ true) }
+        ensures on { IfOk result (λ more. more ≡ true) }
     {
         match self.take(writer, context, adapter, from, to) {
-            Ok(()) => Ok(!adapter.is_over()),
+            Ok(()) => Ok(true),
             Err(fault) => Err(fault),
         }
     }
@@ -171,7 +176,8 @@ impl Server {
         from: usize,
         to: usize,
     ) -> Result<(), Fault>
-        ensures { OnOk result (Serves A.answers adapter.old self.old.next adapter.new self.new.next
+        requires { A.over adapter.old ≡ false }
+        ensures { OnOk result (Serves A.answers A.over adapter.old self.old.next adapter.new self.new.next
             (W.contents writer.old) (W.contents writer.new)) }
     {
         match read_request(self.alloc, self.input.body(from, to)) {

@@ -2,7 +2,6 @@
 ghost use Rattle.std.specs.Prelude.{◌≡◌, ◌++◌, OnOk, codes, string_bytes};
 ghost use Rattle.std.specs.Fmt.{decimal};
 ghost use Rattle.dap_messages.specs.Messages.{event_name};
-ghost use Rattle.dap_messages.specs.declared.told.Stop as stops;
 ghost use Rattle.dap_server.specs.Short as model;
 
 use crate::gist::Gist;
@@ -22,7 +21,7 @@ pub(crate) fn write_response(
     begin_response(body, request.seq, seq)?;
     add_key(body)?;
     add_short_name(body, request)?;
-    add_result(body, request.kind, gist)
+    add_result(body, request, gist)
 }
 
 /// Writes the event that has to come behind the response to the request, in place of what was there.
@@ -110,30 +109,31 @@ fn add_text(body: &mut Vec<u8>, text: &str) -> Result<(), AllocError>
     body.extend_from_slice(text.as_bytes())
 }
 
-/// Adds what came of a request of this kind.
-fn add_result(body: &mut Vec<u8>, kind: Kind, gist: Gist) -> Result<(), AllocError>
-    ensures { OnOk result (body.new.items ≡ body.old.items ++ model.result_text kind gist) }
+/// Adds what came of the request.
+fn add_result(body: &mut Vec<u8>, request: &Request, gist: Gist) -> Result<(), AllocError>
+    ensures { OnOk result (body.new.items ≡ body.old.items ++ model.result_text request.now gist) }
 {
     match gist {
         Gist::Refused(why) => add_refusal(body, why, "there is no memory left to say why"),
         Gist::Untold => add_refusal(body, 1, "there is no memory left"),
-        Gist::Done => add_done(body, kind),
-        Gist::Due(_) => add_done(body, kind),
+        Gist::Done => add_done(body, request),
+        Gist::Due(_) => add_done(body, request),
     }
 }
 
 /// Adds that the request is done.
-fn add_done(body: &mut Vec<u8>, kind: Kind) -> Result<(), AllocError>
-    ensures { OnOk result (body.new.items ≡ body.old.items ++ model.done_text kind) }
+fn add_done(body: &mut Vec<u8>, request: &Request) -> Result<(), AllocError>
+    ensures { OnOk result (body.new.items ≡ body.old.items ++ model.done_text request.now) }
 {
-    if needs_more(kind) {
+    if needs_more(request.kind) {
         add_refusal(
             body,
             1,
             "it is done, and there is no memory left to tell more",
         )
     } else {
-        body.extend_from_slice(success_text(kind))
+        let single = request.flag("singleThread", false);
+        body.extend_from_slice(success_text(request.kind, single))
     }
 }
 
@@ -147,16 +147,27 @@ fn needs_more(kind: Kind) -> bool
     )
 }
 
-/// That another request is done.
-fn success_text(kind: Kind) -> &'static [u8]
-    ensures { result.now ≡ model.success_text kind }
+/// That another request is done, which is of one thread alone or not.
+fn success_text(kind: Kind, single: bool) -> &'static [u8]
+    ensures { result.now ≡ model.success_text kind single }
 {
     match kind {
-        Kind::Continue => b"\",\"success\":true,\"body\":{\"allThreadsContinued\":true}}",
+        Kind::Continue => continued_text(single),
         Kind::Evaluate => {
             b"\",\"success\":true,\"body\":{\"result\":\"done; there is no memory left to tell more\",\"variablesReference\":0}}"
         }
         _ => b"\",\"success\":true}",
+    }
+}
+
+/// That all threads go on, or one alone.
+fn continued_text(single: bool) -> &'static [u8]
+    ensures { result.now ≡ model.continued_text single }
+{
+    if single {
+        b"\",\"success\":true,\"body\":{\"allThreadsContinued\":false}}"
+    } else {
+        b"\",\"success\":true,\"body\":{\"allThreadsContinued\":true}}"
     }
 }
 
@@ -234,9 +245,12 @@ fn add_stop_head(body: &mut Vec<u8>, stop: Stop) -> Result<(), AllocError>
         Stop::AtLine => body.extend_from_slice(
             b"\",\"body\":{\"reason\":\"breakpoint\",\"threadId\":",
         ),
-        Stop::Refused(_) => body.extend_from_slice(
+        Stop::Refused(_, true) => body.extend_from_slice(
             b"\",\"body\":{\"reason\":\"exception\",\"threadId\":",
         ),
+        Stop::Refused(_, false) => {
+            body.extend_from_slice(b"\",\"body\":{\"reason\":\"step\",\"threadId\":")
+        }
     }
 }
 
@@ -251,13 +265,13 @@ fn add_stop_rest(body: &mut Vec<u8>, stop: Stop) -> Result<(), AllocError>
         Stop::AtLine => body.extend_from_slice(
             b",\"allThreadsStopped\":true,\"text\":\"stopped at a breakpoint; there is no memory left to tell more\"}}",
         ),
-        Stop::Refused(why) => add_refused(body, why),
+        Stop::Refused(why, _) => add_refused(body, why),
     }
 }
 
 /// Adds that a step was refused, for the reason of this number, and all that is left.
 fn add_refused(body: &mut Vec<u8>, why: u64) -> Result<(), AllocError>
-    ensures { OnOk result (body.new.items ≡ body.old.items ++ model.stop_rest (stops.Stop.Refused why)) }
+    ensures { OnOk result (body.new.items ≡ body.old.items ++ model.refused_rest why) }
 {
     body.extend_from_slice(b",\"allThreadsStopped\":true,\"text\":\"")?;
     add_refused_words(body, why)

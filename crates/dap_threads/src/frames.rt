@@ -212,7 +212,7 @@ fn stack(
             }
         }
     }
-    if places.is_empty() {
+    if places.is_empty() && first == 0 {
         list.push(done_frame(alloc, branch));
     }
     let mut body = Members::new(alloc);

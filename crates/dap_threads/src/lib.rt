@@ -5,4 +5,4 @@ mod frames;
 mod values;
 
 pub use frames::{frame_in, places_in, stack_trace, thread_in, threads};
-pub use values::{channel_words, scopes, variables};
+pub use values::{channel_words, handle_named, scopes, variables};

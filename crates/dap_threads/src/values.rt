@@ -90,14 +90,24 @@ pub fn variables(
     request: &Request,
     answer: &mut Answer,
 ) {
-    let threads = branch_count(machine.checked().system());
-    let instances = u32::try_from(program.index.count()).unwrap_or(u32::MAX);
-    if let Some(handle) = handle_in(request, instances, threads, answer) {
+    if let Some(handle) = handle_named(machine, program, request, answer) {
         let list = unfolded(alloc, machine, program, handle);
         let mut body = Members::new(alloc);
         body.list("variables", list);
         answer.body(body);
     }
+}
+
+/// What the request names, of all that is shown. It is refused where there is none with this number.
+pub fn handle_named(
+    machine: &Machine,
+    program: &Program,
+    request: &Request,
+    answer: &mut Answer,
+) -> Option<Handle> {
+    let threads = branch_count(machine.checked().system());
+    let instances = u32::try_from(program.index.count()).unwrap_or(u32::MAX);
+    handle_in(request, instances, threads, answer)
 }
 
 /// What the request names, of so many instances and threads. It is refused where there is none with this number.

@@ -25,17 +25,19 @@ turn_of watched branch _ = Turn.Ended Ended.Nothing
 
 -- a step was taken
 abbrev pub Took : Plan → List Choice → AtDesk → AtDesk → Turned → Type 0
-Took plan seen d d' t = TakesTurn d plan.lines.now seen t × (t.left ≡ d')
+Took plan seen d d' t = TakesTurn d plan.only plan.lines.now seen t × (t.left ≡ d')
 
 -- a turn of the run
 abbrev pub TakesOne : Plan → List Choice → AtDesk → AtDesk → Turn → Type 0
-TakesOne plan seen d d' (Turn.Went branch) = (t : Turned) × Took plan seen d d' t
+TakesOne plan seen d d' (Turn.Went branch) =
+    (t : Turned) × Took plan seen d d' t × (is_watched plan.watched.now t.event ≡ false)
 TakesOne plan seen d d' (Turn.Ended Ended.Nothing) = (d' ≡ d) × NothingGoes d plan.only
-TakesOne plan seen d d' (Turn.Ended (Ended.AtLine branch line)) = (d' ≡ d) × StandsBefore d plan.lines.now line
+TakesOne plan seen d d' (Turn.Ended (Ended.AtLine branch line)) =
+    (d' ≡ d) × StandsBefore d plan.only plan.lines.now seen line
 TakesOne plan seen d d' (Turn.Ended (Ended.Watched branch ticket)) =
     (t : Turned) × Took plan seen d d' t × (t.ticket ≡ ticket) × (is_watched plan.watched.now t.event ≡ true)
 TakesOne plan seen d d' (Turn.Ended (Ended.Most branch)) = ⊥
-TakesOne plan seen d d' (Turn.Ended (Ended.Refused branch why)) = (d' ≡ d) × IsHeld d plan.lines.now why
+TakesOne plan seen d d' (Turn.Ended (Ended.Refused branch why)) = (d' ≡ d) × IsHeld d plan.only plan.lines.now why
 
 -- what it keeps
 abbrev pub TurnKeeps : List ℕ → AtDesk → Turn → List Choice → Type 0

@@ -1,3 +1,4 @@
+use Rattle.std.proofs.Common.{inl, inr}
 use Rattle.dap.proofs.Going.{begins_only, ends_free}
 use Rattle.dap.proofs.begin.begin.Goals as goal
 
@@ -6,3 +7,9 @@ returns-then-launched-clause-sets c = ends_free c.args.launched.now.program c.if
 
 pub returns-else-launched-clause-sets : goal.returns-else-launched-clause-sets
 returns-else-launched-clause-sets c = begins_only c.args.launched.now.program
+
+pub returns-then-launched-clause-begins : goal.returns-then-launched-clause-begins
+returns-then-launched-clause-begins c = inr (c.if-launched.true, c.begin_free.ensures.ends)
+
+pub returns-else-launched-clause-begins : goal.returns-else-launched-clause-begins
+returns-else-launched-clause-begins c = inl c.begin_stopping.ensures.begins

@@ -1,14 +1,14 @@
-use Rattle.std.proofs.Common.{None, inl}
+use Rattle.std.proofs.Common.{None, inl, inr, refl}
 use Rattle.dap_messages.specs.declared.told.Stop.{Stop}
 use Rattle.dap_requests.specs.Forth.{going_of}
 use Rattle.dap.proofs.Going.{keeps_run}
 use Rattle.dap.proofs.begin.begin_stopping.Goals as goal
 
 pub returns-then-program-clause-begins : goal.returns-then-program-clause-begins
-returns-then-program-clause-begins c = inl (Stop.Stands, c.stop.ensures)
+returns-then-program-clause-begins c = (Stop.Stands, c.stop.ensures, inl (c.if-program.true, refl, refl))
 
 pub returns-else-program-clause-begins : goal.returns-else-program-clause-begins
-returns-else-program-clause-begins c = inl (c.run.ensures.goes.0, c.run.ensures.goes.1)
+returns-else-program-clause-begins c = (c.run.ensures.goes.0, c.run.ensures.goes.1, inr (c.if-program.false, c.run.ensures.goes.2))
 
 pub returns-else-program-clause-keeps : goal.returns-else-program-clause-keeps
 returns-else-program-clause-keeps c =

@@ -11,4 +11,4 @@ pub returns-in_default : goal.returns-in_default
 returns-in_default c =
     typed_goes c.args.launched.now c.args.request.now c.args.answer.now c.evaluate.new.answer c.evaluate.new.desk c.evaluate.new.memo
     c.requires.asks c.in_default.not-ConfigurationDone c.requires.running (asks_still c.args.request.now.kind c.requires.asks)
-    c.evaluate.ensures.led c.evaluate.ensures.looks c.evaluate.ensures.refused c.evaluate.ensures.keeps
+    c.evaluate.ensures.led c.evaluate.ensures.looks c.evaluate.ensures.does c.evaluate.ensures.refused c.evaluate.ensures.keeps

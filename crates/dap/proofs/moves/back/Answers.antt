@@ -9,13 +9,13 @@ pub returns-in-Some-clause-goes : goal.returns-in-Some-clause-goes
 returns-in-Some-clause-goes c =
     runs_in_thread c.args.answer.now c.thread_in.new.answer c.back_in.new.answer c.args.desk.now c.back_in.new.desk c.machine.result.now
     c.args.request.now c.thread_in.result c.in-Some.branch
-    (λ (k : Option ℕ) (stop : Stop). Backward c.args.desk.now k stop c.back_in.new.desk) c.machine.ensures c.thread_in.ensures.thread c.in-Some.is
+    (λ (k : Option ℕ) (stop : Stop). Backward c.args.program.now.excepts c.args.desk.now k stop c.back_in.new.desk) c.machine.ensures c.thread_in.ensures.thread c.in-Some.is
     c.in-Some.ensures.outcome (inr c.back_in.ensures.goes)
 
 pub returns-in-None-clause-goes : goal.returns-in-None-clause-goes
 returns-in-None-clause-goes c =
     runs_refused c.args.answer.now c.thread_in.new.answer c.args.desk.now c.args.desk.now
-    (λ (stop : Stop). Backward c.args.desk.now (thread_of c.args.desk.now c.args.request.now) stop c.args.desk.now) c.in-None.ensures.outcome.0
+    (λ (stop : Stop). Backward c.args.program.now.excepts c.args.desk.now (thread_of c.args.desk.now c.args.request.now) stop c.args.desk.now) c.in-None.ensures.outcome.0
     c.in-None.ensures.outcome.1 refl
 
 pub returns-in-Some-clause-keeps : goal.returns-in-Some-clause-keeps

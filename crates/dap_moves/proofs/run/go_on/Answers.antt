@@ -16,4 +16,4 @@ returns-in-Went-clause-runs c =
 
 pub returns-in-Ended-clause-runs : goal.returns-in-Ended-clause-runs
 returns-in-Ended-clause-runs c =
-    ends-first 0 c.args.plan.now c.args.plan.now.seen.now c.args.desk.now c.take_turn.new.desk c.in-Ended.ended c.in-Ended.ensures.takes
+    ends-first c.args.plan.now c.args.plan.now.seen.now c.args.desk.now c.take_turn.new.desk c.in-Ended.ended c.in-Ended.ensures.takes

@@ -7,7 +7,7 @@ pub loop-taken-init : goal.loop-taken-init
 loop-taken-init c = record {
   led = led_nowhere c.args.desk.now;
   system = refl;
-  runs = counted-none c.args.desk.now c.args.plan.now.lines.now;
+  runs = counted-none c.args.desk.now c.args.plan.now;
   kept = c.requires.empty;
 }
 
@@ -17,7 +17,7 @@ loop-taken-preserved c = record {
   system = c.take_turn.ensures.system ∙ c.loop-taken.invariant.system;
   runs =
       counted-more c.args.plan.now c.args.desk.now c.loop-taken.desk c.take_turn.new.desk c.loop-taken.taken c.in-Went.branch
-      c.loop-taken.invariant.runs c.in-Went.ensures.takes;
+      c.loop-taken-test.true c.loop-taken.invariant.runs c.in-Went.ensures.takes;
   kept = c.in-Went.ensures.keeps;
 }
 
@@ -30,8 +30,8 @@ returns-in-Ended-clause-system c = c.take_turn.ensures.system ∙ c.loop-taken.i
 
 pub returns-in-Ended-clause-runs : goal.returns-in-Ended-clause-runs
 returns-in-Ended-clause-runs c =
-    ends-behind 1 c.args.plan.now c.args.desk.now c.loop-taken.desk c.take_turn.new.desk c.loop-taken.invariant.runs.turns c.in-Ended.ended
-    c.loop-taken.invariant.runs.turned c.in-Ended.ensures.takes
+    ends-behind c.args.plan.now c.args.desk.now c.loop-taken.desk c.take_turn.new.desk c.loop-taken.taken c.in-Ended.ended
+    c.loop-taken-test.true c.loop-taken.invariant.runs c.in-Ended.ensures.takes
 
 pub returns-clause-runs : goal.returns-clause-runs
 returns-clause-runs c =

@@ -7,6 +7,6 @@ abbrev pub invariant-loop-taken : goal.invariant-loop-taken
 invariant-loop-taken l = record {
   led : Led l.initial.desk l.desk;
   system : l.desk.machine.checked ≡ l.initial.desk.machine.checked;
-  runs : Counted l.initial.desk l.desk l.plan.lines.now l.taken;
+  runs : Counted l.initial.desk l.desk l.plan l.taken;
   kept : l.kept.items ≡ [];
 }

@@ -1,5 +1,6 @@
-use Rattle.std.proofs.Common.{refl, ◌∙◌, subst, arith}
+use Rattle.std.proofs.Common.{ℕ, Option, refl, sym, ◌∙◌, subst, arith}
 use Rattle.locked_execution.specs.AtDesk.{AtDesk}
+use Rattle.dap_moves.specs.Passing.{MayGo}
 use Rattle.dap_moves.specs.Running.{IsIdle}
 use Rattle.dap_moves.proofs.Running.{idle-more}
 use Rattle.dap_moves.proofs.run.step_between.Goals as goal
@@ -16,3 +17,6 @@ loop-branch-preserved c =
           idle-more c.args.desk.now c.args.from at.branch at.invariant.idle
           (subst (λ (d : AtDesk). IsIdle d at.branch) at.invariant.same c.in_default.ensures.takes.1);
     }
+
+pub step_branch-requires-clause-may : goal.step_branch-requires-clause-may
+step_branch-requires-clause-may c = subst (λ (only : Option ℕ). MayGo only c.loop-branch.branch) (sym c.requires.all) tt

@@ -16,5 +16,5 @@ returns c =
       system = c.perform.ensures.system;
       takes =
           subst (λ (turn : Turn). TakesOne plan [] d d' turn) (sym c.told.ensures)
-          (branch_took plan d d' c.args.branch c.perform.result c.requires c.in_default.not-Idle c.perform.ensures.answers);
+          (branch_took plan d d' c.args.branch c.perform.result c.requires.free c.requires.may c.in_default.not-Idle c.perform.ensures.answers);
     }

@@ -8,7 +8,8 @@ step_freely-requires-clause-free c = none_left c.args.plan.now.lines.now (sym c.
 
 pub returns-then-is_empty-clause-takes : goal.returns-then-is_empty-clause-takes
 returns-then-is_empty-clause-takes c =
-    takes-one-widen c.args.plan.now c.args.seen.now c.args.desk.now c.step_freely.new.desk c.step_freely.result c.step_freely.ensures.takes
+    takes-one-widen c.args.plan.now c.args.seen.now c.args.desk.now c.step_freely.new.desk c.step_freely.result
+    (none_left c.args.plan.now.lines.now (sym c.is_empty.ensures ∙ c.if-is_empty.true)) c.step_freely.ensures.takes
 
 pub returns-then-is_empty-clause-keeps : goal.returns-then-is_empty-clause-keeps
 returns-then-is_empty-clause-keeps c =

@@ -1,3 +1,4 @@
+use Rattle.dap_requests.proofs.Lines.{does_back, does_rewind}
 use Rattle.dap_requests.proofs.public.Saying.{keeps_of}
 use Rattle.dap_requests.proofs.console.own_line.Goals as goal
 
@@ -14,3 +15,13 @@ returns-else-is_back-clause-done c = λ done. c.reverse_in.ensures.goes.1.done (
 pub returns-else-is_back-clause-keeps : goal.returns-else-is_back-clause-keeps
 returns-else-is_back-clause-keeps c =
     keeps_of c.args.desk.now c.reverse_in.new.desk c.reverse_in.new.answer c.args.memo.now.seen.items c.reverse_in.new.memo.seen.items c.reverse_in.ensures.keeps
+
+pub returns-then-is_back-clause-does : goal.returns-then-is_back-clause-does
+returns-then-is_back-clause-does c =
+    does_back c.args.program.now.excepts c.args.desk.now c.back_in.new.desk c.args.branch c.result.new.answer c.back_in.new.answer
+    c.back_in.ensures.goes
+
+pub returns-else-is_back-clause-does : goal.returns-else-is_back-clause-does
+returns-else-is_back-clause-does c =
+    does_rewind c.args.program.now.excepts c.args.desk.now c.reverse_in.new.desk c.result.new.answer c.reverse_in.new.answer
+    c.reverse_in.ensures.goes

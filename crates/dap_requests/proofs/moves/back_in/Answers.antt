@@ -9,7 +9,7 @@ use Rattle.dap_requests.proofs.moves.back_in.Goals as goal
 
 pub returns-clause-goes : goal.returns-clause-goes
 returns-clause-goes c = (
-  stop_back c.step_back-moved.result,
+  stop_back c.args.program.now.excepts c.step_back-moved.result,
   c.tell_moved_back.ensures.stops,
   (c.step_back-moved.result, c.step_back-moved.ensures.back, refl),
 )

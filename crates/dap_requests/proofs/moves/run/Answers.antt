@@ -11,5 +11,5 @@ returns-clause-goes c =
     let ended = c.run_on-ended.result in
     run_told going c.args.branch c.args.desk.now c.run_on-ended.new.desk before c.tell_ended.new.memo.seen.items c.args.answer.now
     c.tell_outputs.new.answer c.tell_ended.new.answer ended c.tell_outputs.ensures c.tell_ended.ensures.stops
-    (subst (λ (xs : List Choice). RunsBy going c.args.branch c.args.desk.now before (stop_at ended) c.run_on-ended.new.desk xs)
+    (subst (λ (xs : List Choice). RunsBy going c.args.branch c.args.desk.now before (stop_at going.excepts ended) c.run_on-ended.new.desk xs)
     (sym (ap (λ v. v.items) c.tell_ended.ensures.seen)) c.run_on-ended.ensures.goes)

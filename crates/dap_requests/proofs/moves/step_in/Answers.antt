@@ -7,13 +7,13 @@ use Rattle.dap_requests.proofs.moves.step_in.Goals as goal
 
 pub returns-in-Some-clause-goes : goal.returns-in-Some-clause-goes
 returns-in-Some-clause-goes c =
-    runs_target c.args.answer.now c.target_asked.new.answer c.next_in.new.answer c.args.desk.now c.next_in.new.desk c.args.branch
+    runs_target c.args.program.now.excepts c.args.answer.now c.target_asked.new.answer c.next_in.new.answer c.args.desk.now c.next_in.new.desk c.args.branch
     c.in-Some.number (target_in c.args.request.now) c.in-Some.ensures.1 c.in-Some.ensures.0 c.next_in.ensures.goes
 
 pub returns-in-None-clause-goes : goal.returns-in-None-clause-goes
 returns-in-None-clause-goes c =
     runs_refused c.args.answer.now c.target_asked.new.answer c.args.desk.now c.args.desk.now
-    (λ (stop : Stop). StepsForth c.args.desk.now c.args.branch (target_in c.args.request.now) stop c.args.desk.now) c.in-None.ensures.0
+    (λ (stop : Stop). StepsForth c.args.program.now.excepts c.args.desk.now c.args.branch (target_in c.args.request.now) stop c.args.desk.now) c.in-None.ensures.0
     c.in-None.ensures.1 refl
 
 pub returns-in-None-clause-keeps : goal.returns-in-None-clause-keeps

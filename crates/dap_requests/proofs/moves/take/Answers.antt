@@ -4,7 +4,7 @@ use Rattle.dap_requests.proofs.moves.take.Goals as goal
 
 pub returns-clause-goes : goal.returns-clause-goes
 returns-clause-goes c =
-    (stop_of c.step_at-reply.result, c.tell_took.ensures.stops, (c.step_at-reply.result, c.step_at-reply.ensures.steps, refl))
+    (stop_of c.args.program.now.excepts c.step_at-reply.result, c.tell_took.ensures.stops, (c.step_at-reply.result, c.step_at-reply.ensures.steps, refl))
 
 pub returns-clause-keeps : goal.returns-clause-keeps
 returns-clause-keeps c = ap (λ v. v.items) c.tell_took.ensures.seen ∙ c.clear.ensures.items

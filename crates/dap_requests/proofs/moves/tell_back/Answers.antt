@@ -15,8 +15,8 @@ returns-in-Refused-clause-seen c =
 
 pub returns-in-Refused-clause-stops : goal.returns-in-Refused-clause-stops
 returns-in-Refused-clause-stops c =
-    tells_as c.args.answer.now c.tell_kept.new.answer (Stop.Refused (refusal_number c.in-Refused.why)) (stop_of c.args.reply.now)
-    (ap (λ (x : Reply). stop_of x) (sym c.in-Refused.is)) c.tell_kept.ensures.stops
+    tells_as c.args.answer.now c.tell_kept.new.answer (Stop.Refused (refusal_number c.in-Refused.why) c.args.program.now.excepts) (stop_of c.args.program.now.excepts c.args.reply.now)
+    (ap (λ (x : Reply). stop_of c.args.program.now.excepts x) (sym c.in-Refused.is)) c.tell_kept.ensures.stops
 
 pub returns-in-Undone-clause-seen : goal.returns-in-Undone-clause-seen
 returns-in-Undone-clause-seen c =
@@ -25,8 +25,8 @@ returns-in-Undone-clause-seen c =
 
 pub returns-in-Undone-clause-stops : goal.returns-in-Undone-clause-stops
 returns-in-Undone-clause-stops c =
-    tells_as c.args.answer.now c.tell_undone.new.answer Stop.Stands (stop_of c.args.reply.now)
-    (ap (λ (x : Reply). stop_of x) (sym c.in-Undone.is)) c.tell_undone.ensures
+    tells_as c.args.answer.now c.tell_undone.new.answer Stop.Stands (stop_of c.args.program.now.excepts c.args.reply.now)
+    (ap (λ (x : Reply). stop_of c.args.program.now.excepts x) (sym c.in-Undone.is)) c.tell_undone.ensures
 
 pub returns-in_default-clause-seen : goal.returns-in_default-clause-seen
 returns-in_default-clause-seen c =
@@ -35,5 +35,5 @@ returns-in_default-clause-seen c =
 
 pub returns-in_default-clause-stops : goal.returns-in_default-clause-stops
 returns-in_default-clause-stops c =
-    tells_as c.args.answer.now c.stop.new.answer Stop.Stands (stop_of c.args.reply.now)
-    (sym (stop_other c.args.reply.now c.in_default.not-Refused)) c.stop.ensures
+    tells_as c.args.answer.now c.stop.new.answer Stop.Stands (stop_of c.args.program.now.excepts c.args.reply.now)
+    (sym (stop_other c.args.program.now.excepts c.args.reply.now c.in_default.not-Refused)) c.stop.ensures

@@ -13,8 +13,8 @@ returns-in-AtBeginning-clause-seen c =
 
 pub returns-in-AtBeginning-clause-stops : goal.returns-in-AtBeginning-clause-stops
 returns-in-AtBeginning-clause-stops c =
-    tells_as c.args.answer.now c.stop.new.answer Stop.Stands (stop_back c.args.moved.now)
-    (ap (λ (m : Back). stop_back m) (sym c.in-AtBeginning.is)) c.stop.ensures
+    tells_as c.args.answer.now c.stop.new.answer Stop.Stands (stop_back c.args.program.now.excepts c.args.moved.now)
+    (ap (λ (m : Back). stop_back c.args.program.now.excepts m) (sym c.in-AtBeginning.is)) c.stop.ensures
 
 pub returns-in-Asked-clause-seen : goal.returns-in-Asked-clause-seen
 returns-in-Asked-clause-seen c =
@@ -22,5 +22,5 @@ returns-in-Asked-clause-seen c =
 
 pub returns-in-Asked-clause-stops : goal.returns-in-Asked-clause-stops
 returns-in-Asked-clause-stops c =
-    tells_as c.args.answer.now c.tell_back.new.answer (stop_of c.in-Asked.reply) (stop_back c.args.moved.now)
-    (ap (λ (m : Back). stop_back m) (sym c.in-Asked.is)) c.tell_back.ensures.stops
+    tells_as c.args.answer.now c.tell_back.new.answer (stop_of c.args.program.now.excepts c.in-Asked.reply) (stop_back c.args.program.now.excepts c.args.moved.now)
+    (ap (λ (m : Back). stop_back c.args.program.now.excepts m) (sym c.in-Asked.is)) c.tell_back.ensures.stops

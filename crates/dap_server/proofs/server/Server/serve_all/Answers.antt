@@ -1,4 +1,4 @@
-use Rattle.std.proofs.Common.{◌≡◌, ◌⊎◌, Bool, false, true}
+use Rattle.std.proofs.Common.{◌≡◌, Bool, false, inr}
 use Rattle.std.specs.Io.KnownBytes.{IsAtEnd}
 use Rattle.std.proofs.lemmas.Result.{IfOk-at_ok}
 use Rattle.dap_server.specs.Session.{Serves}
@@ -6,31 +6,30 @@ use Rattle.dap_server.proofs.Sessions.{serves_nothing, serves_then}
 use Rattle.dap_server.proofs.server.Server.serve_all.Goals as goal
 
 pub loop-turn-init : goal.loop-turn-init
-loop-turn-init g c = serves_nothing g.A.Adapter.answers c.args.adapter.now c.args.self.now.next (g.W.Write.contents c.args.writer.now)
+loop-turn-init g c = serves_nothing g.A.Adapter.answers g.A.Adapter.over c.args.adapter.now c.args.self.now.next (g.W.Write.contents c.args.writer.now)
 
 pub loop-turn-preserved : goal.loop-turn-preserved
 loop-turn-preserved g c =
     let at = c.loop-turn in
-    serves_then g.A.Adapter.answers c.args.adapter.now at.adapter c.serve_next.new.adapter c.args.self.now.next at.self.next
+    serves_then g.A.Adapter.answers g.A.Adapter.over c.args.adapter.now at.adapter c.serve_next.new.adapter c.args.self.now.next at.self.next
     c.serve_next.new.self.next (g.W.Write.contents c.args.writer.now) (g.W.Write.contents at.writer) (g.W.Write.contents c.serve_next.new.writer)
     at.invariant
     (IfOk-at_ok
-    (λ (more : Bool). Serves g.A.Adapter.answers at.adapter at.self.next c.serve_next.new.adapter c.serve_next.new.self.next
+    (λ (more : Bool). Serves g.A.Adapter.answers g.A.Adapter.over at.adapter at.self.next c.serve_next.new.adapter c.serve_next.new.self.next
     (g.W.Write.contents at.writer) (g.W.Write.contents c.serve_next.new.writer)) c.in-Ok-true.is c.serve_next.ensures.serves)
 
 pub returns-in-Ok-false-clause-serves : goal.returns-in-Ok-false-clause-serves
 returns-in-Ok-false-clause-serves g c =
     let at = c.loop-turn in
-    serves_then g.A.Adapter.answers c.args.adapter.now at.adapter c.serve_next.new.adapter c.args.self.now.next at.self.next
+    serves_then g.A.Adapter.answers g.A.Adapter.over c.args.adapter.now at.adapter c.serve_next.new.adapter c.args.self.now.next at.self.next
     c.serve_next.new.self.next (g.W.Write.contents c.args.writer.now) (g.W.Write.contents at.writer) (g.W.Write.contents c.serve_next.new.writer)
     at.invariant
     (IfOk-at_ok
-    (λ (more : Bool). Serves g.A.Adapter.answers at.adapter at.self.next c.serve_next.new.adapter c.serve_next.new.self.next
+    (λ (more : Bool). Serves g.A.Adapter.answers g.A.Adapter.over at.adapter at.self.next c.serve_next.new.adapter c.serve_next.new.self.next
     (g.W.Write.contents at.writer) (g.W.Write.contents c.serve_next.new.writer)) c.in-Ok-false.is c.serve_next.ensures.serves)
 
 pub returns-in-Ok-false-clause-ends : goal.returns-in-Ok-false-clause-ends
 returns-in-Ok-false-clause-ends g c =
-    IfOk-at_ok
-    (λ (more : Bool). more ≡ false
-    → (g.A.Adapter.over c.serve_next.new.adapter ≡ true) ⊎ IsAtEnd (g.R.Read.remaining c.serve_next.new.reader))
-    c.in-Ok-false.is c.serve_next.ensures.ends c.in-Ok-false.field-0-test
+    inr
+    (IfOk-at_ok (λ (more : Bool). more ≡ false → IsAtEnd (g.R.Read.remaining c.serve_next.new.reader))
+    c.in-Ok-false.is c.serve_next.ensures.ends c.in-Ok-false.field-0-test)
