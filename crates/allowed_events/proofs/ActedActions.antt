@@ -59,7 +59,7 @@ syncs-on x c is b a y e h = partner y (ap (λ (z : ActionKind). met b z a y) (sy
 
 -- ---- the events of one action
 -- alone
-in-alone : (o : Option Event) (e : Event) → In e (those o []) → o ≡ Some e
+pub in-alone : (o : Option Event) (e : Event) → In e (those o []) → o ≡ Some e
 in-alone o e i = elim (those-in o e [] i) [ inl u ↦ u | inr u ↦ absurd u ]
 
 pub acted-alone : (S : State) (x : LocalAction) (old new : List Event) (made : Option Event) → made ≡ solo x.place x.action → new ≡ old ++ those made [] → ((b a : Place) (y : ActionKind) → met b x.action a y ≡ None)
