@@ -1,10 +1,10 @@
-use Rattle.std.proofs.Common.{◌≡◌, ◌<◌, ◌≤◌, ℕ, length, Option, None, MatchOption, sym, subst, arith, rules}
+use Rattle.std.proofs.Common.{◌≡◌, ◌<◌, ◌≤◌, ℕ, length, Option, None, MatchOption, refl, subst, arith, rules}
 use Rattle.last_events.specs.LastEvents.{Uses, LastUse}
 use Rattle.allowed_events.proofs.ByChannel.{made-all, made-more, made-none}
 use Rattle.allowed_events.proofs.among.add_with_partners.Goals as goal
 
 pub partners-init : goal.partners-init
-partners-init c = (omega arith, made-none c.args.events.now c.args.one.now c.args.channel c.len.result c.args.actions.now c.len.ensures)
+partners-init c = (omega arith, made-none c.args.events.now c.args.one.now c.args.channel (length c.args.actions.now) c.args.actions.now refl)
 
 pub partners-preserved : goal.partners-preserved
 partners-preserved c =
