@@ -121,7 +121,7 @@ set-some : (o : Option Bool) → is_set o ≡ true → o ≡ Some true
 set-some None h = cc
 set-some (Some b) h = ap (λ (c : Bool). Some c) h
 
--- of a partner that is not known, or of one that is
+-- of a partner that is not known is
 open-not : (o : Option Partner) → is_open o ≡ true → o ≡ Some partner.Open
 open-not None h = cc
 open-not (Some partner.Gone) h = cc
@@ -164,11 +164,11 @@ module _ (m : AtMachine) (S : State) (w : Waiting) (t : IsTold m S w) where
       ])
 
   settled-of : all_settled w.partners.items 0 w.actions ≡ true → (x : LocalAction) → Waits S x → is_outlet x.action ≡ false → partner_in S.residual x ≡ partner.Open → ⊥
-  settled-of all x waits inner open =
+  settled-of all x waits inner unknown =
       let at = found x waits in
       true≢false
       (sym (settled-at w.partners.items 0 w.actions all at.0 at.0 x (omega arith) at.1)
-      ∙ ap₂ (λ (b : Bool) (o : Option Partner). b || not (is_open o)) inner (partner-at at.0 x at.1 ∙ ap (λ (p : Partner). Some p) open))
+      ∙ ap₂ (λ (b : Bool) (o : Option Partner). b || not (is_open o)) inner (partner-at at.0 x at.1 ∙ ap (λ (p : Partner). Some p) unknown))
 
   all-of : ((x : LocalAction) → Waits S x → is_outlet x.action ≡ false → partner_in S.residual x ≡ partner.Open → ⊥) → all_settled w.partners.items 0 w.actions ≡ true
   all-of settled =
@@ -178,10 +178,10 @@ module _ (m : AtMachine) (S : State) (w : Waiting) (t : IsTold m S w) where
         | inr inner ↦ elim (cases_Bool (is_open (slice_get w.partners.items j))) [
           | inl on ↦
               let here : j ≡ k = omega (arith, e) in
-              let open : partner_in S.residual x ≡ partner.Open =
+              let unknown : partner_in S.residual x ≡ partner.Open =
               some-injective (partner_in S.residual x) partner.Open
               (sym (partner-at k x at) ∙ ap (slice_get w.partners.items) (sym here) ∙ open-not (slice_get w.partners.items j) on) in
-              absurd (settled x (waits-at k x at) inner open)
+              absurd (settled x (waits-at k x at) inner unknown)
           | inr off ↦ ap₂ (λ (b c : Bool). b || not c) inner off
         ]
       ])
@@ -204,24 +204,23 @@ module _ (m : AtMachine) (S : State) (w : Waiting) (t : IsTold m S w) where
 
   meant : lacks_input m w ≡ true → LacksInput m S
   meant h =
-      let stuck = and_parts (is_stuck w.progress)
-      (none_deadlocked w.deadlocked.items 0 w.actions && any_starved m w.partners.items 0 w.actions && all_settled w.partners.items 0 w.actions) h in
-      let none = and_parts (none_deadlocked w.deadlocked.items 0 w.actions) (any_starved m w.partners.items 0 w.actions && all_settled w.partners.items 0 w.actions) stuck.1 in
-      let any = and_parts (any_starved m w.partners.items 0 w.actions) (all_settled w.partners.items 0 w.actions) none.1 in record {
-        stuck = subst (λ (p : Progress). StandsLike S p) (stuck-is w.progress stuck.0) t.progress;
-        free = free-of none.0;
-        starved = starved-of any.0;
-        settled = settled-of any.1;
+      let all = and_parts (is_stuck w.progress && none_deadlocked w.deadlocked.items 0 w.actions && any_starved m w.partners.items 0 w.actions) (all_settled w.partners.items 0 w.actions) h in
+      let any = and_parts (is_stuck w.progress && none_deadlocked w.deadlocked.items 0 w.actions) (any_starved m w.partners.items 0 w.actions) all.0 in
+      let none = and_parts (is_stuck w.progress) (none_deadlocked w.deadlocked.items 0 w.actions) any.0 in record {
+        stuck = subst (λ (p : Progress). StandsLike S p) (stuck-is w.progress none.0) t.progress;
+        free = free-of none.1;
+        starved = starved-of any.1;
+        settled = settled-of all.1;
       }
 
   holds : LacksInput m S → lacks_input m w ≡ true
   holds l =
       let one = l.starved in
-      and_from (is_stuck w.progress)
-      (none_deadlocked w.deadlocked.items 0 w.actions && any_starved m w.partners.items 0 w.actions && all_settled w.partners.items 0 w.actions)
-      (stands-stuck S w.progress t.progress l.stuck)
-      (and_from (none_deadlocked w.deadlocked.items 0 w.actions) (any_starved m w.partners.items 0 w.actions && all_settled w.partners.items 0 w.actions) (none-of l.free)
-      (and_from (any_starved m w.partners.items 0 w.actions) (all_settled w.partners.items 0 w.actions) (any-of one.0 one.1 one.2 one.3) (all-of l.settled)))
+      and_from (is_stuck w.progress && none_deadlocked w.deadlocked.items 0 w.actions && any_starved m w.partners.items 0 w.actions) (all_settled w.partners.items 0 w.actions)
+      (and_from (is_stuck w.progress && none_deadlocked w.deadlocked.items 0 w.actions) (any_starved m w.partners.items 0 w.actions)
+      (and_from (is_stuck w.progress) (none_deadlocked w.deadlocked.items 0 w.actions) (stands-stuck S w.progress t.progress l.stuck) (none-of l.free))
+      (any-of one.0 one.1 one.2 one.3))
+      (all-of l.settled)
 
 pub lacks-told : (m : AtMachine) (S : State) (w : Waiting) → IsTold m S w → (lacks_input m w ≡ true) ↔ LacksInput m S
 lacks-told m S w t = (meant m S w t, holds m S w t)

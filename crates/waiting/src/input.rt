@@ -26,13 +26,20 @@ impl Waiting {
         ensures result { result ≡ tests.lacks_input machine.now self.now }
         ensures meant { (S : State) → IsTold machine.now S self.now → IsTrue result ↔ LacksInput machine.now S }
     {
-        let actions = self.actions.as_slice();
-        let partners = self.partners.as_slice();
-        is_stuck(self.progress)
-            && none_deadlocked(actions, self.deadlocked.as_slice())
-            && any_starved(machine, actions, partners)
-            && all_settled(actions, partners)
+        passes_tests(self, machine)
     }
+}
+
+/// Whether input is all that lacks, test by test.
+fn passes_tests(waiting: &Waiting, machine: &Machine) -> bool
+    ensures { result ≡ tests.lacks_input machine.now waiting.now }
+{
+    let actions = waiting.actions.as_slice();
+    let partners = waiting.partners.as_slice();
+    is_stuck(waiting.progress)
+        && none_deadlocked(actions, waiting.deadlocked.as_slice())
+        && any_starved(machine, actions, partners)
+        && all_settled(actions, partners)
 }
 
 /// For each of the actions whether it is helped from elsewhere, so that none of the others has to go on for it. It is
