@@ -1,3 +1,5 @@
-mod ListedPast
+mod Climbing
+mod Nearest
 mod Sweeping
+mod Telling
 mod Values

@@ -4,7 +4,7 @@ use Rattle.syntax.specs.Lists.{In}
 use Rattle.dependence.specs.internal.Marking.{MarkedAt}
 use Rattle.dependence.proofs.public.ListPlaces.{in-read, take-all}
 use Rattle.dependence.proofs.public.Markings.{marked-next}
-use Rattle.past.proofs.mark.mark_all.Goals as goal
+use Rattle.past.proofs.sweep.mark_all.Goals as goal
 
 pub index_of_live-index-requires : goal.index_of_live-index-requires
 index_of_live-index-requires c = c.requires.live _ (in-read c.args.tickets.now c.loop-ticket.ticket-index c.loop-ticket-test.true)

@@ -1,0 +1,362 @@
+-- The told events of a whole past: the places of their direct causes, and the list of them.
+use Rattle.std.proofs.Common.{◌≡◌, ◌≢◌, ◌⊎◌, ◌↔◌, inl, inr, ℕ, zero, suc, ◌+◌, ◌<◌, ◌≤◌, List, [], ◌∷◌, ◌++◌, Bool, true, false, ◌||◌, ◌==◌, cond, length, Some, get_or, refl, sym, ◌∙◌, ap, subst, arith, append_assoc, append-nil, length-append}
+use Rattle.std.specs.Prelude.{slice_get}
+use Rattle.std.proofs.lemmas.Bool.{cases_eq, cases_lt}
+use Rattle.std.proofs.lemmas.Option.{slice_get_within}
+use Rattle.syntax.specs.Lists.{In, Every}
+use Rattle.runs.specs.InOrder.{InOrder}
+use Rattle.runs.specs.Live.{Live, Rising, LiveAt, IsLive, DependsOn}
+use Rattle.runs.specs.declared.event.Event.{Event}
+use Rattle.runs.proofs.public.DependsOnLaw.{depends-up}
+use Rattle.runs.proofs.public.Lists.{in-left, in-right, in-parts, every-in, every-of}
+use Rattle.runs.proofs.public.Options.{none-some, some-injective}
+use Rattle.runs.proofs.public.Tickets.{rising-one}
+use Rattle.dependence.specs.Followers.{Follower, ListsLeads}
+use Rattle.dependence.proofs.public.Following.{follows-on}
+use Rattle.dependence.proofs.public.FollowerLaws.{direct-follows}
+use Rattle.dependence.proofs.public.ListPlaces.{in-at, index-in, at-one, at-within, got-here}
+use Rattle.past.specs.Past.{DirectCause, IsInPast, ListsCauses, Tells, carries, tickets_of}
+use Rattle.past.specs.declared.past.PastEvent.{PastEvent}
+use Rattle.past.specs.internal.Near.{AllNear, AllTold, AreLeads, AreNear, ArePlaces, Falling, HandedOn, IsNear, LeadDown, tickets_at, told, ToldAt}
+use Rattle.past.specs.internal.Swept.{IsWhole}
+use Rattle.past.specs.internal.Topmost.{IsTopHanded, Under, first, then_down}
+use Rattle.past.proofs.Nearest.{Candidate, cause-above, candidate-cause, candidate-other, candidate-told, top-cause, cause-top, all-told, one-untold}
+
+-- ---- places in a list that ascends
+pub order-at : (ts : List ℕ) (i j a b : ℕ) → InOrder ◌<◌ ts → slice_get ts i ≡ Some a → slice_get ts j ≡ Some b → i < j → a < b
+order-at [] i j a b o at_i at_j less = none-some a at_i
+order-at (x ∷ ts) zero zero a b o at_i at_j less = absurd (omega arith)
+order-at (x ∷ ts) zero (suc j) a b o at_i at_j less =
+    let here : x ≡ a = some-injective x a at_i in
+    let more : x < b = every-in (λ v. x < v) ts b o.0 (in-at ts j b at_j) in
+    omega arith
+order-at (x ∷ ts) (suc i) zero a b o at_i at_j less = absurd (omega arith)
+order-at (x ∷ ts) (suc i) (suc j) a b o at_i at_j less = let rest : i < j = omega arith in order-at ts i j a b o.1 at_i at_j rest
+
+pub one-place : (ts : List ℕ) (i j u : ℕ) → InOrder ◌<◌ ts → slice_get ts i ≡ Some u → slice_get ts j ≡ Some u → i ≡ j
+one-place ts i j u o at_i at_j = elim (cases_lt i j) [
+  | inl less ↦ let more : u < u = order-at ts i j u u o at_i at_j less in absurd (omega arith)
+  | inr up ↦ elim (cases_lt j i) [
+    | inl less ↦ let more : u < u = order-at ts j i u u o at_j at_i less in absurd (omega arith)
+    | inr down ↦ omega arith
+  ]
+]
+
+pub places-rise : (ts : List ℕ) (i j a b : ℕ) → InOrder ◌<◌ ts → slice_get ts i ≡ Some a → slice_get ts j ≡ Some b → a < b → i < j
+places-rise ts i j a b o at_i at_j less = elim (cases_lt i j) [
+  | inl up ↦ up
+  | inr not_up ↦ elim (cases_lt j i) [
+    | inl down ↦ let more : b < a = order-at ts j i b a o at_j at_i down in absurd (omega arith)
+    | inr not_down ↦
+        let is : i ≡ j = omega arith in
+        let same : a ≡ b = at-one ts j a b (subst (λ (k : ℕ). slice_get ts k ≡ Some a) is at_i) at_j in
+        absurd (omega arith)
+  ]
+]
+
+-- the places of tickets
+pub in-places : (ts some places : List ℕ) (p : ℕ) → ArePlaces ts some places → In p places → (u : ℕ) × (slice_get ts p ≡ Some u) × In u some
+in-places ts [] [] p are i = absurd i
+in-places ts [] (q ∷ places) p are i = absurd are
+in-places ts (u ∷ some) [] p are i = absurd i
+in-places ts (u ∷ some) (q ∷ places) p are i = elim i [
+  | inl is ↦ (u, ap (λ (k : ℕ). slice_get ts k) is ∙ are.0, inl refl)
+  | inr later ↦ let rest = in-places ts some places p are.1 later in (rest.0, rest.1, inr rest.2)
+]
+
+pub place-in : (ts some places : List ℕ) (p u : ℕ) → InOrder ◌<◌ ts → ArePlaces ts some places → slice_get ts p ≡ Some u → In u some → In p places
+place-in ts [] [] p u o are at i = absurd i
+place-in ts [] (q ∷ places) p u o are at i = absurd are
+place-in ts (v ∷ some) [] p u o are at i = absurd are
+place-in ts (v ∷ some) (q ∷ places) p u o are at i = elim i [
+  | inl is ↦ inl (one-place ts p q u o at (are.0 ∙ ap (λ (k : ℕ). Some k) (sym is)))
+  | inr later ↦ inr (place-in ts some places p u o are.1 at later)
+]
+
+pub places-fall : (ts some places : List ℕ) → InOrder ◌<◌ ts → ArePlaces ts some places → Falling some → Falling places
+places-fall ts [] [] o are fall = tt
+places-fall ts [] (q ∷ places) o are fall = absurd are
+places-fall ts (v ∷ some) [] o are fall = absurd are
+places-fall ts (v ∷ some) (q ∷ places) o are fall = (
+  every-of (λ (p : ℕ). p < q) places (λ p i.
+      let at = in-places ts some places p are.1 i in
+      let less : at.0 < v = every-in (λ (u : ℕ). u < v) some at.0 fall.0 at.2 in
+      places-rise ts p q at.0 v o at.1 are.0 less),
+  places-fall ts some places o are.1 fall.1,
+)
+
+pub places-more : (ts some places : List ℕ) (u p : ℕ) → ArePlaces ts some places → slice_get ts p ≡ Some u → ArePlaces ts (some ++ u ∷ []) (places ++ p ∷ [])
+places-more ts [] [] u p are at = (at, tt)
+places-more ts [] (q ∷ places) u p are at = absurd are
+places-more ts (v ∷ some) [] u p are at = absurd are
+places-more ts (v ∷ some) (q ∷ places) u p are at = (are.0, places-more ts some places u p are.1 at)
+
+pub leads-placed : (l : Live) (ts some places : List ℕ) (s : ℕ) → InOrder ◌<◌ ts → ArePlaces ts some places → ListsLeads l s some → AreLeads l ts s places
+leads-placed l ts some places s o are lists = record {
+  exactly = λ p. (
+    (λ i. let at = in-places ts some places p are i in (at.0, at.1, (lists.exactly at.0).0 at.2)),
+    (λ h. place-in ts some places p h.0 o are h.1 ((lists.exactly h.0).1 h.2)),
+  );
+  falling = places-fall ts some places o are lists.falling;
+}
+
+-- ---- the tickets of events
+pub ticket-at : (whole : List PastEvent) (p : ℕ) (x : PastEvent) → slice_get whole p ≡ Some x → slice_get (tickets_of whole) p ≡ Some x.ticket
+ticket-at [] p x at = none-some x at
+ticket-at (y ∷ whole) zero x at = ap (λ (z : PastEvent). Some z.ticket) (some-injective y x at)
+ticket-at (y ∷ whole) (suc p) x at = ticket-at whole p x at
+
+pub tickets-length : (whole : List PastEvent) → length (tickets_of whole) ≡ length whole
+tickets-length [] = refl
+tickets-length (y ∷ whole) = ap suc (tickets-length whole)
+
+-- a place further down, and further down from there
+under-join : (near : List (List ℕ)) (c q p : ℕ) → Under near c q → Under near q p → Under near c p
+under-join near c q p h (first places at i) = then_down places h at i
+under-join near c q p h (then_down {q = m} places before at i) = then_down places (under-join near c q m h before) at i
+
+module _ (low next : ℕ) (l : Live) (t : ℕ) (last : Event) (r : Rising low l next) (at_last : LiveAt l t last) (whole : List PastEvent) (w : IsWhole l t whole) where
+  -- the event at a place
+  pub event-at : (p u : ℕ) → slice_get (tickets_of whole) p ≡ Some u → (x : PastEvent) × (slice_get whole p ≡ Some x) × (x.ticket ≡ u)
+  event-at p u at =
+      let size = tickets-length whole in
+      let inside : p < length (tickets_of whole) = slice_get_within (tickets_of whole) p u at in
+      let found = at-within whole p (omega arith) in
+      (found.0, found.1, at-one (tickets_of whole) p found.0.ticket u (ticket-at whole p found.0 found.1) at)
+
+  -- what is told has a place
+  pub place-of : (all : Bool) (u : ℕ) → IsInPast all l t u → (p : ℕ) × (slice_get (tickets_of whole) p ≡ Some u)
+  place-of all u h = index-in (tickets_of whole) u ((w.tickets.exactly u).1 (h.0, h.1, h.2, refl))
+
+  pub past-at : (p u : ℕ) → slice_get (tickets_of whole) p ≡ Some u → IsInPast true l t u
+  past-at p u at = (w.tickets.exactly u).0 (in-at (tickets_of whole) p u at)
+
+  tells-at : (p : ℕ) (x : PastEvent) → slice_get whole p ≡ Some x → Tells l x
+  tells-at p x at = every-in (λ (y : PastEvent). Tells l y) whole x w.tells (in-at whole p x at)
+
+  told-same : (p : ℕ) (x : PastEvent) (at : slice_get whole p ≡ Some x) (e : Event) → LiveAt l x.ticket e → told t x ≡ (carries e || (x.ticket == t))
+  told-same p x at e live =
+      let tells = tells-at p x at in
+      let one : tells.event ≡ e = rising-one low next l x.ticket tells.event e r (in-at l x.index (x.ticket, tells.event) tells.stands) live in
+      ap (λ (b : Bool). b || (x.ticket == t)) (tells.carries ∙ ap (λ (f : Event). carries f) one)
+
+  pub told-is : (p : ℕ) (x : PastEvent) → slice_get whole p ≡ Some x → told t x ≡ true → IsInPast false l t x.ticket
+  told-is p x at on =
+      let past = past-at p x.ticket (ticket-at whole p x at) in
+      (past.0, past.1, past.2, sym (told-same p x at past.0 past.1) ∙ on)
+
+  pub is-told : (p : ℕ) (x : PastEvent) → slice_get whole p ≡ Some x → IsInPast false l t x.ticket → told t x ≡ true
+  is-told p x at h = told-same p x at h.0 h.1 ∙ h.3
+
+  pub untold-is : (p : ℕ) (x : PastEvent) → slice_get whole p ≡ Some x → told t x ≡ false → IsInPast false l t x.ticket → ⊥
+  untold-is p x at off h = let both : true ≡ false = sym (is-told p x at h) ∙ off in cc
+
+  not-told : (p : ℕ) (x : PastEvent) → slice_get whole p ≡ Some x → (IsInPast false l t x.ticket → ⊥) → told t x ≡ false
+  not-told p x at out = pick (told t x) refl
+    where
+      pick : (b : Bool) → told t x ≡ b → told t x ≡ false
+      pick true is = absurd (out (told-is p x at is))
+      pick false is = is
+
+  -- the lists of places lead down
+  module _ (near : List (List ℕ)) (size : length near ≤ length whole) (are : AreNear l t (tickets_of whole) near) where
+    near-at : (q : ℕ) (places : List ℕ) → slice_get near q ≡ Some places → (s : ℕ) × (slice_get (tickets_of whole) q ≡ Some s) × IsNear l t (tickets_of whole) s places
+    near-at q places at =
+        let count = tickets-length whole in
+        let inside : q < length near = slice_get_within near q places at in
+        let found = at-within (tickets_of whole) q (omega arith) in
+        (found.0, found.1, are q found.0 places found.1 at)
+
+    pub near-down : LeadDown near
+    near-down q p places at i =
+        let here = near-at q places at in
+        let cause = (here.2.exactly p).0 i in
+        let up : cause.0 ≤ here.0 = depends-up l cause.0 here.0 cause.2.cause in
+        let other : cause.0 ≢ here.0 = cause.2.other in
+        places-rise (tickets_of whole) p q cause.0 here.0 w.tickets.in_order cause.1 here.1 (omega (arith, other))
+
+    under-down : (c p : ℕ) → Under near c p → p < c
+    under-down c p (first places at i) = near-down c p places at i
+    under-down c p (then_down {q = q} places before at i) =
+        let less : p < q = near-down q p places at i in
+        let more : q < c = under-down c q before in
+        omega arith
+
+    -- a place that is led to is that of a cause
+    under-on : (c p a : ℕ) → Under near c p → slice_get (tickets_of whole) c ≡ Some a → (u : ℕ) × (slice_get (tickets_of whole) p ≡ Some u) × DependsOn l u a
+    under-on c p a (first places at i) at_c = let cause = ((are c a places at_c at).exactly p).0 i in (cause.0, cause.1, cause.2.cause)
+    under-on c p a (then_down {q = q} places before at i) at_c =
+        let above = under-on c q a before at_c in
+        let cause = ((are q above.0 places above.1 at).exactly p).0 i in
+        (cause.0, cause.1, follows-on l cause.0 above.0 a cause.2.cause above.2)
+
+    -- the place of a told cause is led to
+    on-within : (n c p a u : ℕ) → a ≤ u + n → c < length near → slice_get (tickets_of whole) c ≡ Some a → slice_get (tickets_of whole) p ≡ Some u →
+        IsInPast false l t u → u ≢ a → DependsOn l u a → Under near c p
+    on-within zero c p a u close inside at_c at_p told differs on =
+        let up : u ≤ a = depends-up l u a on in
+        let is : u ≡ a = omega arith in
+        absurd (differs is)
+    on-within (suc n) c p a u close inside at_c at_p told differs on =
+        let past = past-at c a at_c in
+        let above = cause-above low next false l t last r at_last u a past.0 past.1 told differs on in
+        let k : ℕ = above.ticket in
+        let place = place-of false k above.direct.told in
+        let list = at-within near c inside in
+        let in_list : In place.0 list.0 = ((are c a list.0 at_c list.1).exactly place.0).1 (k, place.1, above.direct) in
+        let down : place.0 < c = near-down c place.0 list.0 list.1 in_list in
+        elim (cases_eq u k) [
+          | inl is ↦
+              let same_place : p ≡ place.0 = one-place (tickets_of whole) p place.0 u w.tickets.in_order at_p (place.1 ∙ ap (λ (v : ℕ). Some v) (sym is)) in
+              first list.0 list.1 (subst (λ (q : ℕ). In q list.0) (sym same_place) in_list)
+          | inr more ↦
+              let up : k ≤ a = depends-up l k a above.direct.cause in
+              let other : k ≢ a = above.direct.other in
+              let near_by : k ≤ u + n = omega (arith, other) in
+              let lower : place.0 < length near = omega arith in
+              under-join near c place.0 p (first list.0 list.1 in_list)
+              (on-within n place.0 p k u near_by lower place.1 at_p told more above.on)
+        ]
+
+    -- ---- of an event at the next place
+    module _ (s : ℕ) (leads : List ℕ) (at_s : slice_get (tickets_of whole) (length near) ≡ Some s) (placed : AreLeads l (tickets_of whole) s leads) where
+      s-on : DependsOn l s t
+      s-on = (past-at (length near) s at_s).2
+
+      lead-past : (f : ℕ) → Follower l f s → (p : ℕ) × (slice_get (tickets_of whole) p ≡ Some f)
+      lead-past f follower =
+          let d = follower.dependent in
+          place-of true f (d.event, d.live, follows-on l f s t (direct-follows l f s d) s-on, refl)
+
+      handed-candidate : (p : ℕ) → HandedOn t whole near leads p → (u : ℕ) × (slice_get (tickets_of whole) p ≡ Some u) × Candidate low next false l t last r at_last s u
+      handed-candidate p h =
+          let q : ℕ = h.0 in
+          let f = (placed.exactly q).0 h.1 in
+          let is-at : (x : PastEvent) → slice_get whole q ≡ Some x → x.ticket ≡ f.0 =
+          λ x at. at-one (tickets_of whole) q x.ticket f.0 (ticket-at whole q x at) f.1 in
+          elim h.2 [
+            | inl own ↦
+                let x = own.0 in (
+                  f.0,
+                  subst (λ (k : ℕ). slice_get (tickets_of whole) k ≡ Some f.0) (sym own.1) f.1,
+                  (f.0, f.2, inl (subst (λ (v : ℕ). IsInPast false l t v) (is-at x.0 x.1) (told-is q x.0 x.1 x.2), refl)),
+                )
+            | inr further ↦
+                let x = further.0 in
+                let list = further.1 in
+                let cause = ((are q f.0 list.0 f.1 list.1).exactly p).0 list.2 in
+                let out : IsInPast false l t f.0 → ⊥ =
+                λ told. untold-is q x.0 x.1 x.2 (subst (λ (v : ℕ). IsInPast false l t v) (sym (is-at x.0 x.1)) told) in
+                (cause.0, cause.1, (f.0, f.2, inr (out, cause.2)))
+          ]
+
+      candidate-handed : (p u : ℕ) → slice_get (tickets_of whole) p ≡ Some u → Candidate low next false l t last r at_last s u → HandedOn t whole near leads p
+      candidate-handed p u at_p h =
+          let f : ℕ = h.0 in
+          let place = lead-past f h.1 in
+          let q : ℕ = place.0 in
+          let inside : In q leads = (placed.exactly q).1 (f, place.1, h.1) in
+          let x = event-at q f place.1 in
+          let lower : q < length near = places-rise (tickets_of whole) q (length near) f s w.tickets.in_order place.1 at_s h.1.dependent.less in
+          elim h.2 [
+            | inl own ↦ (
+              q,
+              inside,
+              inl (
+                (x.0, x.1, is-told q x.0 x.1 (subst (λ (v : ℕ). IsInPast false l t v) (sym x.2) own.0)),
+                one-place (tickets_of whole) p q f w.tickets.in_order (at_p ∙ ap (λ (v : ℕ). Some v) own.1) place.1,
+              ),
+            )
+            | inr further ↦
+                let list = at-within near q lower in (
+                  q,
+                  inside,
+                  inr (
+                    (x.0, x.1, not-told q x.0 x.1 (λ told. further.0 (subst (λ (v : ℕ). IsInPast false l t v) x.2 told))),
+                    (list.0, list.1, ((are q f list.0 place.1 list.1).exactly p).1 (u, at_p, further.1)),
+                  ),
+                )
+          ]
+
+      candidate-lower : (p u : ℕ) → slice_get (tickets_of whole) p ≡ Some u → Candidate low next false l t last r at_last s u → p < length near
+      candidate-lower p u at_p h =
+          let up : u ≤ s = depends-up l u s (candidate-cause low next false l t last r at_last s u h) in
+          let other : u ≢ s = candidate-other low next false l t last r at_last s u h in
+          places-rise (tickets_of whole) p (length near) u s w.tickets.in_order at_p at_s (omega (arith, other))
+
+      -- the topmost of what is handed on are its direct causes
+      pub top-near : (kept : List ℕ) → Falling kept → ((p : ℕ) → In p kept ↔ IsTopHanded t whole near leads p) → IsNear l t (tickets_of whole) s kept
+      top-near kept fall tops = record {
+        exactly = λ p. (
+          (λ i.
+              let top = (tops p).0 i in
+              let at = handed-candidate p top.0 in
+              (at.0, at.1, top-cause low next false l t last r at_last s at.0 (
+                at.2,
+                λ c h on. elim (cases_eq at.0 c) [
+                  | inl is ↦ sym is
+                  | inr differs ↦
+                      let place = place-of false c (candidate-told low next false l t last r at_last s c h) in
+                      let under =
+                      on-within c place.0 p c at.0 (omega arith) (candidate-lower place.0 c place.1 h) place.1 at.1
+                      (candidate-told low next false l t last r at_last s at.0 at.2) differs on in
+                      absurd (top.1 place.0 (candidate-handed place.0 c place.1 h) under)
+                ],
+              ))),
+          (λ h.
+              let top = cause-top low next false l t last r at_last s h.0 h.2 in
+              (tops p).1 (
+                candidate-handed p h.0 h.1 top.0,
+                λ c handed under.
+                    let above = handed-candidate c handed in
+                    let below = under-on c p above.0 under above.1 in
+                    let same_ticket : below.0 ≡ h.0 = at-one (tickets_of whole) p below.0 h.0 below.1 h.1 in
+                    let one : above.0 ≡ h.0 = top.1 above.0 above.2 (subst (λ (v : ℕ). DependsOn l v above.0) same_ticket below.2) in
+                    let same_place : c ≡ p =
+                    one-place (tickets_of whole) c p h.0 w.tickets.in_order (above.1 ∙ ap (λ (v : ℕ). Some v) one) h.1 in
+                    let less : p < c = under-down c p under in
+                    omega arith,
+              )),
+        );
+        falling = fall;
+      }
+
+      -- where all that it follows are told, they are
+      pub told-near : AllTold t whole leads → IsNear l t (tickets_of whole) s leads
+      told-near all =
+          let told_lead : (f : ℕ) → Follower l f s → IsInPast false l t f = λ f follower.
+          let place = lead-past f follower in
+          let x = all place.0 ((placed.exactly place.0).1 (f, place.1, follower)) in
+          subst (λ (v : ℕ). IsInPast false l t v)
+          (at-one (tickets_of whole) place.0 x.0.ticket f (ticket-at whole place.0 x.0 x.1) place.1) (told-is place.0 x.0 x.1 x.2) in
+          record {
+            exactly = λ p. (
+              (λ i. let f = (placed.exactly p).0 i in (f.0, f.1, (all-told low next false l t last r at_last s f.0 told_lead).1 f.2)),
+              (λ h. (placed.exactly p).1 (h.0, h.1, (all-told low next false l t last r at_last s h.0 told_lead).0 h.2)),
+            );
+            falling = placed.falling;
+          }
+
+      -- where it follows one that is not told, those of that are
+      pub untold-near : (q : ℕ) (places : List ℕ) → leads ≡ q ∷ [] → ToldAt t whole q false → slice_get near q ≡ Some places → IsNear l t (tickets_of whole) s places
+      untold-near q places is x at =
+          let inside : In q leads = subst (λ (k : List ℕ). In q k) (sym is) (inl refl) in
+          let f = (placed.exactly q).0 inside in
+          let same_ticket : x.0.ticket ≡ f.0 = at-one (tickets_of whole) q x.0.ticket f.0 (ticket-at whole q x.0 x.1) f.1 in
+          let out : IsInPast false l t f.0 → ⊥ =
+          λ told. untold-is q x.0 x.1 x.2 (subst (λ (v : ℕ). IsInPast false l t v) (sym same_ticket) told) in
+          let only : (g : ℕ) → Follower l g s → g ≡ f.0 = λ g follower.
+          let place = lead-past g follower in
+          let there : In place.0 (q ∷ []) = subst (λ (k : List ℕ). In place.0 k) is ((placed.exactly place.0).1 (g, place.1, follower)) in
+          elim there [
+            | inl one ↦ at-one (tickets_of whole) q g f.0 (subst (λ (k : ℕ). slice_get (tickets_of whole) k ≡ Some g) one place.1) f.1
+            | inr none ↦ absurd none
+          ] in
+          let below = are q f.0 places f.1 at in
+          record {
+            exactly = λ p. (
+              (λ i. let h = (below.exactly p).0 i in (h.0, h.1, (one-untold low next false l t last r at_last f.0 s h.0 f.2 only out).1 h.2)),
+              (λ h. (below.exactly p).1 (h.0, h.1, (one-untold low next false l t last r at_last f.0 s h.0 f.2 only out).0 h.2)),
+            );
+            falling = below.falling;
+          }
