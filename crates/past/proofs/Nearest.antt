@@ -1,6 +1,6 @@
 -- Direct causes from those of what an event follows.
 use Rattle.std.proofs.Common.{◌≡◌, ◌≢◌, ◌⊎◌, ◌↔◌, inl, inr, ℕ, zero, suc, ◌+◌, ◌<◌, ◌≤◌, Bool, true, false, refl, sym, ◌∙◌, ap, subst, arith}
-use Rattle.std.proofs.lemmas.Bool.{cases_eq}
+use Rattle.std.proofs.lemmas.Bool.{cases_eq, cases_lt}
 use Rattle.syntax.specs.Lists.{In}
 use Rattle.runs.specs.Live.{Live, Rising, LiveAt, IsLive, DependsOn, same}
 use Rattle.runs.specs.declared.event.Event.{Event}
@@ -25,6 +25,38 @@ last-reached l u s (along {u = v} before f) differs = record { ticket = v; on = 
 pub last-step : (low next : ℕ) (l : Live) (u s : ℕ) → Rising low l next → DependsOn l u s → u ≢ s → LastStep l u s
 last-step low next l u s r follows differs = last-reached l u s ((reached-through-followers low next l u s r).0 follows) differs
 
+pub strictly : (u v : ℕ) → u ≤ v → v ≢ u → u < v
+strictly u v up other = elim (cases_lt u v) [
+  | inl less ↦ less
+  | inr not_less ↦ let is : v ≡ u = omega arith in absurd (other is)
+]
+
+-- it is told and lies between u and s
+pub record Between (all : Bool) (l : Live) (t u s v : ℕ) : Type 0 where
+  pub told : IsInPast all l t v
+  pub from : DependsOn l u v
+  pub to : DependsOn l v s
+  pub not_first : v ≢ u
+  pub not_last : v ≢ s
+
+-- a direct cause of s that is u or depends on it
+pub record CauseAbove (all : Bool) (l : Live) (t u s : ℕ) : Type 0 where
+  pub ticket : ℕ
+  pub direct : DirectCause all l t s ticket
+  pub on : DependsOn l u ticket
+
+-- what an event hands on to those that follow it: itself where it is told, else its direct causes
+abbrev pub Hands : Bool → Live → ℕ → ℕ → ℕ → Type 0
+Hands all l t f c = (IsInPast all l t f × (c ≡ f)) ⊎ ((IsInPast all l t f → ⊥) × DirectCause all l t f c)
+
+-- what is handed on to s
+abbrev pub Candidate : Bool → Live → ℕ → ℕ → ℕ → Type 0
+Candidate all l t s c = (f : ℕ) × Follower l f s × Hands all l t f c
+
+-- of what is handed on, what nothing else of it depends on
+abbrev pub Top : Bool → Live → ℕ → ℕ → ℕ → Type 0
+Top all l t s u = Candidate all l t s u × ((c : ℕ) → Candidate all l t s c → DependsOn l u c → c ≡ u)
+
 module _ (low next : ℕ) (all : Bool) (l : Live) (t : ℕ) (last : Event) (r : Rising low l next) (at_last : LiveAt l t last) where
   -- a live event is told, or it is not
   pub told-live? : (u : ℕ) (e : Event) → LiveAt l u e → Or (IsInPast all l t u)
@@ -40,15 +72,7 @@ module _ (low next : ℕ) (all : Bool) (l : Live) (t : ℕ) (last : Event) (r : 
           let both : true ≡ false = sym h.3 ∙ ap (λ (f : Event). is_told all t u f) one ∙ is in
           cc)
 
-  -- it is told and lies between u and s
-  pub record Between (u s v : ℕ) : Type 0 where
-    pub told : IsInPast all l t v
-    pub from : DependsOn l u v
-    pub to : DependsOn l v s
-    pub not_first : v ≢ u
-    pub not_last : v ≢ s
-
-  between? : (u s : ℕ) (g : Event) → LiveAt l s g → (x : ℕ × Event) → In x l → Or (Between u s x.0)
+  between? : (u s : ℕ) (g : Event) → LiveAt l s g → (x : ℕ × Event) → In x l → Or (Between all l t u s x.0)
   between? u s g is x ix = elim (cases_eq x.0 u) [
     | inl one ↦ inr (λ h. h.not_first one)
     | inr first ↦ elim (cases_eq x.0 s) [
@@ -67,8 +91,8 @@ module _ (low next : ℕ) (all : Bool) (l : Live) (t : ℕ) (last : Event) (r : 
   ]
 
   -- a told cause is direct, or one lies between
-  direct? : (u s : ℕ) (g : Event) → LiveAt l s g → IsInPast all l t u → u ≢ s → DependsOn l u s → DirectCause all l t s u ⊎ ((v : ℕ) × Between u s v)
-  direct? u s g is told differs on = elim (search-list (λ (x : ℕ × Event). Between u s x.0) l (between? u s g is)) [
+  direct? : (u s : ℕ) (g : Event) → LiveAt l s g → IsInPast all l t u → u ≢ s → DependsOn l u s → DirectCause all l t s u ⊎ ((v : ℕ) × Between all l t u s v)
+  direct? u s g is told differs on = elim (search-list (λ (x : ℕ × Event). Between all l t u s x.0) l (between? u s g is)) [
     | inl found ↦ inr (found.0.0, found.2)
     | inr none ↦ inl (record {
       told = told;
@@ -84,13 +108,7 @@ module _ (low next : ℕ) (all : Bool) (l : Live) (t : ℕ) (last : Event) (r : 
     })
   ]
 
-  -- a direct cause of s that is u or depends on it
-  pub record CauseAbove (u s : ℕ) : Type 0 where
-    pub ticket : ℕ
-    pub direct : DirectCause all l t s ticket
-    pub on : DependsOn l u ticket
-
-  above-within : (n u s : ℕ) (g : Event) → s ≤ u + n → LiveAt l s g → IsInPast all l t u → u ≢ s → DependsOn l u s → CauseAbove u s
+  above-within : (n u s : ℕ) (g : Event) → s ≤ u + n → LiveAt l s g → IsInPast all l t u → u ≢ s → DependsOn l u s → CauseAbove all l t u s
   above-within zero u s g near is told differs on =
       let up : u ≤ s = depends-up l u s on in
       let one : u ≡ s = omega arith in
@@ -100,23 +118,14 @@ module _ (low next : ℕ) (all : Bool) (l : Live) (t : ℕ) (last : Event) (r : 
     | inr found ↦
         let v : ℕ = found.0 in
         let b = found.1 in
-        let up : u ≤ v = depends-up l u v b.from in
-        let other : v ≢ u = b.not_first in
-        let close : s ≤ v + n = omega (arith, other) in
+        let up : u < v = strictly u v (depends-up l u v b.from) b.not_first in
+        let close : s ≤ v + n = omega arith in
         let more = above-within n v s g close is b.told b.not_last b.to in
         record { ticket = more.ticket; direct = more.direct; on = follows-on l u v more.ticket b.from more.on }
   ]
 
-  pub cause-above : (u s : ℕ) (g : Event) → LiveAt l s g → IsInPast all l t u → u ≢ s → DependsOn l u s → CauseAbove u s
+  pub cause-above : (u s : ℕ) (g : Event) → LiveAt l s g → IsInPast all l t u → u ≢ s → DependsOn l u s → CauseAbove all l t u s
   cause-above u s g is told differs on = above-within s u s g (omega arith) is told differs on
-
-  -- what an event hands on to those that follow it: itself where it is told, else its direct causes
-  pub Hands : ℕ → ℕ → Type 0
-  Hands f c = (IsInPast all l t f × (c ≡ f)) ⊎ ((IsInPast all l t f → ⊥) × DirectCause all l t f c)
-
-  -- what is handed on to s
-  pub Candidate : ℕ → ℕ → Type 0
-  Candidate s c = (f : ℕ) × Follower l f s × Hands f c
 
   below-follower : (f s u : ℕ) → Follower l f s → DependsOn l u f → u ≢ s
   below-follower f s u follower on is =
@@ -124,7 +133,7 @@ module _ (low next : ℕ) (all : Bool) (l : Live) (t : ℕ) (last : Event) (r : 
       let less : f < s = follower.dependent.less in
       omega arith
 
-  pub cause-candidate : (s u : ℕ) → DirectCause all l t s u → Candidate s u
+  pub cause-candidate : (s u : ℕ) → DirectCause all l t s u → Candidate all l t s u
   cause-candidate s u d =
       let step = last-step low next l u s r d.cause d.other in
       let f : ℕ = step.ticket in
@@ -146,20 +155,20 @@ module _ (low next : ℕ) (all : Bool) (l : Live) (t : ℕ) (last : Event) (r : 
       ]
 
   -- what is handed on is a told cause
-  pub candidate-told : (s c : ℕ) → Candidate s c → IsInPast all l t c
+  pub candidate-told : (s c : ℕ) → Candidate all l t s c → IsInPast all l t c
   candidate-told s c h = elim h.2 [ inl own ↦ subst (λ (v : ℕ). IsInPast all l t v) (sym own.1) own.0 | inr further ↦ further.1.told ]
 
-  candidate-on : (s c : ℕ) (h : Candidate s c) → DependsOn l c h.0
+  candidate-on : (s c : ℕ) (h : Candidate all l t s c) → DependsOn l c h.0
   candidate-on s c h = elim h.2 [ inl own ↦ subst (λ (v : ℕ). DependsOn l v h.0) (sym own.1) same | inr further ↦ further.1.cause ]
 
-  pub candidate-cause : (s c : ℕ) → Candidate s c → DependsOn l c s
+  pub candidate-cause : (s c : ℕ) → Candidate all l t s c → DependsOn l c s
   candidate-cause s c h = follows-on l c h.0 s (candidate-on s c h) (direct-follows l h.0 s h.1.dependent)
 
-  pub candidate-other : (s c : ℕ) → Candidate s c → c ≢ s
+  pub candidate-other : (s c : ℕ) → Candidate all l t s c → c ≢ s
   candidate-other s c h = below-follower h.0 s c h.1 (candidate-on s c h)
 
   -- a told cause is one of what is handed on, or one of that depends on it
-  covered : (s v : ℕ) → IsInPast all l t v → v ≢ s → DependsOn l v s → (c : ℕ) × Candidate s c × DependsOn l v c
+  covered : (s v : ℕ) → IsInPast all l t v → v ≢ s → DependsOn l v s → (c : ℕ) × Candidate all l t s c × DependsOn l v c
   covered s v told differs on =
       let step = last-step low next l v s r on differs in
       let f : ℕ = step.ticket in
@@ -172,11 +181,7 @@ module _ (low next : ℕ) (all : Bool) (l : Live) (t : ℕ) (last : Event) (r : 
             (above.ticket, (f, step.follower, inr (out, above.direct)), above.on)
       ]
 
-  -- of what is handed on, what nothing else of it depends on
-  pub Top : ℕ → ℕ → Type 0
-  Top s u = Candidate s u × ((c : ℕ) → Candidate s c → DependsOn l u c → c ≡ u)
-
-  pub top-cause : (s u : ℕ) → Top s u → DirectCause all l t s u
+  pub top-cause : (s u : ℕ) → Top all l t s u → DirectCause all l t s u
   top-cause s u top = record {
     told = candidate-told s u top.0;
     other = candidate-other s u top.0;
@@ -192,7 +197,7 @@ module _ (low next : ℕ) (all : Bool) (l : Live) (t : ℕ) (last : Event) (r : 
     ];
   }
 
-  pub cause-top : (s u : ℕ) → DirectCause all l t s u → Top s u
+  pub cause-top : (s u : ℕ) → DirectCause all l t s u → Top all l t s u
   cause-top s u d = (
     cause-candidate s u d,
     λ c h on. elim (d.next c (candidate-told s c h) on (candidate-cause s c h)) [

@@ -1,8 +1,8 @@
 -- The told events of a whole past: the places of their direct causes, and the list of them.
-use Rattle.std.proofs.Common.{◌≡◌, ◌≢◌, ◌⊎◌, ◌↔◌, inl, inr, ℕ, zero, suc, ◌+◌, ◌<◌, ◌≤◌, List, [], ◌∷◌, ◌++◌, Bool, true, false, ◌||◌, ◌==◌, cond, length, Some, get_or, refl, sym, ◌∙◌, ap, subst, arith, append_assoc, append-nil, length-append}
-use Rattle.std.specs.Prelude.{slice_get}
+use Rattle.std.proofs.Common.{◌≡◌, ◌≢◌, ◌⊎◌, ◌↔◌, inl, inr, ℕ, zero, suc, ◌+◌, ◌<◌, ◌≤◌, List, [], ◌∷◌, ◌++◌, Bool, true, false, ◌||◌, ◌==◌, cond, length, Some, get_or, take, refl, sym, ◌∙◌, ap, subst, arith, append_assoc, append-nil, length-append}
+use Rattle.std.specs.Prelude.{slice_get, slice_index}
 use Rattle.std.proofs.lemmas.Bool.{cases_eq, cases_lt}
-use Rattle.std.proofs.lemmas.Option.{slice_get_within}
+use Rattle.std.proofs.lemmas.Option.{slice_get_within, slice_get-get_or}
 use Rattle.syntax.specs.Lists.{In, Every}
 use Rattle.runs.specs.InOrder.{InOrder}
 use Rattle.runs.specs.Live.{Live, Rising, LiveAt, IsLive, DependsOn}
@@ -14,13 +14,14 @@ use Rattle.runs.proofs.public.Tickets.{rising-one}
 use Rattle.dependence.specs.Followers.{Follower, ListsLeads}
 use Rattle.dependence.proofs.public.Following.{follows-on}
 use Rattle.dependence.proofs.public.FollowerLaws.{direct-follows}
-use Rattle.dependence.proofs.public.ListPlaces.{in-at, index-in, at-one, at-within, got-here}
-use Rattle.past.specs.Past.{DirectCause, IsInPast, ListsCauses, Tells, carries, tickets_of}
+use Rattle.dependence.proofs.public.ListPlaces.{in-at, index-in, at-one, at-within, got-here, take-next}
+use Rattle.past.specs.Past.{DirectCause, IsInPast, ListsCauses, ListsPast, ListsTickets, Tells, carries, tickets_of}
+use Rattle.past.specs.declared.past.Past.{Past}
 use Rattle.past.specs.declared.past.PastEvent.{PastEvent}
-use Rattle.past.specs.internal.Near.{AllNear, AllTold, AreLeads, AreNear, ArePlaces, Falling, HandedOn, IsNear, LeadDown, tickets_at, told, ToldAt}
-use Rattle.past.specs.internal.Swept.{IsWhole}
+use Rattle.past.specs.internal.Near.{AllNear, AllTold, AreLeads, AreNear, ArePlaces, Falling, HandedOn, IsNear, LeadDown, tickets_at, told, told_tickets, Told, ToldAt, untold}
+use Rattle.past.specs.internal.Swept.{FollowsAt, IsWhole}
 use Rattle.past.specs.internal.Topmost.{IsTopHanded, Under, first, then_down}
-use Rattle.past.proofs.Nearest.{Candidate, cause-above, candidate-cause, candidate-other, candidate-told, top-cause, cause-top, all-told, one-untold}
+use Rattle.past.proofs.Nearest.{Candidate, strictly, cause-above, candidate-cause, candidate-other, candidate-told, top-cause, cause-top, all-told, one-untold}
 
 -- ---- places in a list that ascends
 pub order-at : (ts : List ℕ) (i j a b : ℕ) → InOrder ◌<◌ ts → slice_get ts i ≡ Some a → slice_get ts j ≡ Some b → i < j → a < b
@@ -171,9 +172,8 @@ module _ (low next : ℕ) (l : Live) (t : ℕ) (last : Event) (r : Rising low l 
     near-down q p places at i =
         let here = near-at q places at in
         let cause = (here.2.exactly p).0 i in
-        let up : cause.0 ≤ here.0 = depends-up l cause.0 here.0 cause.2.cause in
-        let other : cause.0 ≢ here.0 = cause.2.other in
-        places-rise (tickets_of whole) p q cause.0 here.0 w.tickets.in_order cause.1 here.1 (omega (arith, other))
+        places-rise (tickets_of whole) p q cause.0 here.0 w.tickets.in_order cause.1 here.1
+        (strictly cause.0 here.0 (depends-up l cause.0 here.0 cause.2.cause) (λ is. cause.2.other (sym is)))
 
     under-down : (c p : ℕ) → Under near c p → p < c
     under-down c p (first places at i) = near-down c p places at i
@@ -210,9 +210,8 @@ module _ (low next : ℕ) (l : Live) (t : ℕ) (last : Event) (r : Rising low l 
               let same_place : p ≡ place.0 = one-place (tickets_of whole) p place.0 u w.tickets.in_order at_p (place.1 ∙ ap (λ (v : ℕ). Some v) (sym is)) in
               first list.0 list.1 (subst (λ (q : ℕ). In q list.0) (sym same_place) in_list)
           | inr more ↦
-              let up : k ≤ a = depends-up l k a above.direct.cause in
-              let other : k ≢ a = above.direct.other in
-              let near_by : k ≤ u + n = omega (arith, other) in
+              let up : k < a = strictly k a (depends-up l k a above.direct.cause) (λ is. above.direct.other (sym is)) in
+              let near_by : k ≤ u + n = omega arith in
               let lower : place.0 < length near = omega arith in
               under-join near c place.0 p (first list.0 list.1 in_list)
               (on-within n place.0 p k u near_by lower place.1 at_p told more above.on)
@@ -228,7 +227,7 @@ module _ (low next : ℕ) (l : Live) (t : ℕ) (last : Event) (r : Rising low l 
           let d = follower.dependent in
           place-of true f (d.event, d.live, follows-on l f s t (direct-follows l f s d) s-on, refl)
 
-      handed-candidate : (p : ℕ) → HandedOn t whole near leads p → (u : ℕ) × (slice_get (tickets_of whole) p ≡ Some u) × Candidate low next false l t last r at_last s u
+      handed-candidate : (p : ℕ) → HandedOn t whole near leads p → (u : ℕ) × (slice_get (tickets_of whole) p ≡ Some u) × Candidate false l t s u
       handed-candidate p h =
           let q : ℕ = h.0 in
           let f = (placed.exactly q).0 h.1 in
@@ -250,7 +249,7 @@ module _ (low next : ℕ) (l : Live) (t : ℕ) (last : Event) (r : Rising low l 
                 (cause.0, cause.1, (f.0, f.2, inr (out, cause.2)))
           ]
 
-      candidate-handed : (p u : ℕ) → slice_get (tickets_of whole) p ≡ Some u → Candidate low next false l t last r at_last s u → HandedOn t whole near leads p
+      candidate-handed : (p u : ℕ) → slice_get (tickets_of whole) p ≡ Some u → Candidate false l t s u → HandedOn t whole near leads p
       candidate-handed p u at_p h =
           let f : ℕ = h.0 in
           let place = lead-past f h.1 in
@@ -278,11 +277,11 @@ module _ (low next : ℕ) (l : Live) (t : ℕ) (last : Event) (r : Rising low l 
                 )
           ]
 
-      candidate-lower : (p u : ℕ) → slice_get (tickets_of whole) p ≡ Some u → Candidate low next false l t last r at_last s u → p < length near
+      candidate-lower : (p u : ℕ) → slice_get (tickets_of whole) p ≡ Some u → Candidate false l t s u → p < length near
       candidate-lower p u at_p h =
-          let up : u ≤ s = depends-up l u s (candidate-cause low next false l t last r at_last s u h) in
-          let other : u ≢ s = candidate-other low next false l t last r at_last s u h in
-          places-rise (tickets_of whole) p (length near) u s w.tickets.in_order at_p at_s (omega (arith, other))
+          places-rise (tickets_of whole) p (length near) u s w.tickets.in_order at_p at_s
+          (strictly u s (depends-up l u s (candidate-cause low next false l t last r at_last s u h))
+          (λ is. candidate-other low next false l t last r at_last s u h (sym is)))
 
       -- the topmost of what is handed on are its direct causes
       pub top-near : (kept : List ℕ) → Falling kept → ((p : ℕ) → In p kept ↔ IsTopHanded t whole near leads p) → IsNear l t (tickets_of whole) s kept
@@ -360,3 +359,249 @@ module _ (low next : ℕ) (l : Live) (t : ℕ) (last : Event) (r : Rising low l 
             );
             falling = below.falling;
           }
+
+-- ---- the list of those that are told
+told-part : (b c : Bool) (v u : ℕ) (rest : List ℕ) → b ≡ c → In u (cond b (v ∷ rest) rest) → ((b ≡ true) × (u ≡ v)) ⊎ In u rest
+told-part true c v u rest is (inl one) = inl (refl, one)
+told-part true c v u rest is (inr later) = inr later
+told-part false c v u rest is i = inr i
+
+part-here : (b : Bool) (v : ℕ) (rest : List ℕ) → b ≡ true → In v (cond b (v ∷ rest) rest)
+part-here true v rest h = inl refl
+part-here false v rest h = cc
+
+part-later : (b : Bool) (v u : ℕ) (rest : List ℕ) → In u rest → In u (cond b (v ∷ rest) rest)
+part-later true v u rest i = inr i
+part-later false v u rest i = i
+
+part-order : (b : Bool) (v : ℕ) (rest : List ℕ) → Every (λ u. v < u) rest → InOrder ◌<◌ rest → InOrder ◌<◌ (cond b (v ∷ rest) rest)
+part-order true v rest e o = (e, o)
+part-order false v rest e o = o
+
+part-count : (b : Bool) (v n k : ℕ) (rest : List ℕ) → k ≡ length rest + n → suc k ≡ length (cond b (v ∷ rest) rest) + cond b n (n + 1)
+part-count true v n k rest h = omega arith
+part-count false v n k rest h = omega arith
+
+in-told : (t : ℕ) (xs : List PastEvent) (u : ℕ) → In u (told_tickets t xs) → (x : PastEvent) × In x xs × (told t x ≡ true) × (u ≡ x.ticket)
+in-told t [] u i = absurd i
+in-told t (x ∷ xs) u i = elim (told-part (told t x) (told t x) x.ticket u (told_tickets t xs) refl i) [
+  | inl found ↦ (x, inl refl, found.0, found.1)
+  | inr later ↦ let rest = in-told t xs u later in (rest.0, inr rest.1, rest.2, rest.3)
+]
+
+told-in : (t : ℕ) (xs : List PastEvent) (x : PastEvent) → In x xs → told t x ≡ true → In x.ticket (told_tickets t xs)
+told-in t [] x i on = absurd i
+told-in t (y ∷ xs) x i on = elim i [
+  | inl is ↦ subst (λ (z : PastEvent). In z.ticket (told_tickets t (y ∷ xs))) (sym is)
+      (part-here (told t y) y.ticket (told_tickets t xs) (subst (λ (z : PastEvent). told t z ≡ true) is on))
+  | inr later ↦ part-later (told t y) y.ticket x.ticket (told_tickets t xs) (told-in t xs x later on)
+]
+
+ticket-in : (xs : List PastEvent) (x : PastEvent) → In x xs → In x.ticket (tickets_of xs)
+ticket-in [] x i = absurd i
+ticket-in (y ∷ xs) x i = elim i [
+  | inl is ↦ inl (ap (λ (z : PastEvent). z.ticket) is)
+  | inr later ↦ inr (ticket-in xs x later)
+]
+
+told-order : (t : ℕ) (xs : List PastEvent) → InOrder ◌<◌ (tickets_of xs) → InOrder ◌<◌ (told_tickets t xs)
+told-order t [] o = tt
+told-order t (x ∷ xs) o = part-order (told t x) x.ticket (told_tickets t xs)
+    (every-of (λ u. x.ticket < u) (told_tickets t xs) (λ u i.
+    let at = in-told t xs u i in
+    subst (λ (v : ℕ). x.ticket < v) (sym at.3) (every-in (λ v. x.ticket < v) (tickets_of xs) at.0.ticket o.0 (ticket-in xs at.0 at.1))))
+    (told-order t xs o.1)
+
+told-count : (t : ℕ) (xs : List PastEvent) → length xs ≡ length (told_tickets t xs) + untold t xs
+told-count t [] = refl
+told-count t (x ∷ xs) = part-count (told t x) x.ticket (untold t xs) (length xs) (told_tickets t xs) (told-count t xs)
+
+tickets-more : (events : List PastEvent) (one : PastEvent) → tickets_of (events ++ one ∷ []) ≡ tickets_of events ++ one.ticket ∷ []
+tickets-more [] one = refl
+tickets-more (e ∷ events) one = ap (λ (ts : List ℕ). e.ticket ∷ ts) (tickets-more events one)
+
+every-more : (P : PastEvent → Type 0) (events : List PastEvent) (one : PastEvent) → Every P events → P one → Every P (events ++ one ∷ [])
+every-more P [] one e p = (p, tt)
+every-more P (x ∷ events) one e p = (e.0, every-more P events one e.1 p)
+
+-- the next is told, or it is not
+pub told-passed : (l : Live) (t : ℕ) (whole left rest : List PastEvent) (x one : PastEvent) (events : List PastEvent) (n : ℕ) → Told l t whole left events n →
+    left ≡ x ∷ rest → told t x ≡ true → one.ticket ≡ x.ticket → Tells l one → ListsCauses false l t one.ticket one.causes → Told l t whole rest (events ++ one ∷ []) n
+told-passed l t whole left rest x one events n p is on same tells causes =
+    let shown : told_tickets t left ≡ x.ticket ∷ told_tickets t rest =
+    ap (λ (k : List PastEvent). told_tickets t k) is ∙ ap (λ (b : Bool). cond b (x.ticket ∷ told_tickets t rest) (told_tickets t rest)) on in
+    let hidden : untold t left ≡ untold t rest =
+    ap (λ (k : List PastEvent). untold t k) is ∙ ap (λ (b : Bool). cond b (untold t rest) (untold t rest + 1)) on in
+    record {
+      tickets = ap (λ (ts : List ℕ). ts ++ told_tickets t rest) (tickets-more events one)
+          ∙ append_assoc (tickets_of events) (one.ticket ∷ []) (told_tickets t rest)
+          ∙ ap (λ (u : ℕ). tickets_of events ++ u ∷ told_tickets t rest) same
+          ∙ ap (λ (ts : List ℕ). tickets_of events ++ ts) (sym shown)
+          ∙ p.tickets;
+      tells = every-more (λ (q : PastEvent). Tells l q) events one p.tells tells;
+      causes = every-more (λ (q : PastEvent). ListsCauses false l t q.ticket q.causes) events one p.causes causes;
+      left_out = ap (λ (u : ℕ). n + u) (sym hidden) ∙ p.left_out;
+    }
+
+pub untold-passed : (l : Live) (t : ℕ) (whole left rest : List PastEvent) (x : PastEvent) (events : List PastEvent) (n : ℕ) → Told l t whole left events n →
+    left ≡ x ∷ rest → told t x ≡ false → Told l t whole rest events (n + 1)
+untold-passed l t whole left rest x events n p is off =
+    let shown : told_tickets t left ≡ told_tickets t rest =
+    ap (λ (k : List PastEvent). told_tickets t k) is ∙ ap (λ (b : Bool). cond b (x.ticket ∷ told_tickets t rest) (told_tickets t rest)) off in
+    let hidden : untold t left ≡ untold t rest + 1 =
+    ap (λ (k : List PastEvent). untold t k) is ∙ ap (λ (b : Bool). cond b (untold t rest) (untold t rest + 1)) off in
+    let sum = p.left_out in
+    record {
+      tickets = ap (λ (ts : List ℕ). tickets_of events ++ ts) (sym shown) ∙ p.tickets;
+      tells = p.tells;
+      causes = p.causes;
+      left_out = omega arith;
+    }
+
+-- none is left
+module _ (low next : ℕ) (l : Live) (t : ℕ) (last : Event) (r : Rising low l next) (at_last : LiveAt l t last) (whole : List PastEvent) (w : IsWhole l t whole) where
+  tickets-listed : ListsTickets false l t (told_tickets t whole)
+  tickets-listed = record {
+    exactly = λ u. (
+      (λ i.
+          let at = in-told t whole u i in
+          let place = index-in whole at.0 at.1 in
+          subst (λ (v : ℕ). IsInPast false l t v) (sym at.3) (told-is low next l t last r at_last whole w place.0 at.0 place.1 at.2)),
+      (λ h.
+          let place = place-of low next l t last r at_last whole w false u h in
+          let x = event-at low next l t last r at_last whole w place.0 u place.1 in
+          let on = is-told low next l t last r at_last whole w place.0 x.0 x.1 (subst (λ (v : ℕ). IsInPast false l t v) (sym x.2) h) in
+          subst (λ (v : ℕ). In v (told_tickets t whole)) x.2 (told-in t whole x.0 (in-at whole place.0 x.0 x.1) on)),
+    );
+    in_order = told-order t whole w.tickets.in_order;
+  }
+
+  pub told-all : (left events : List PastEvent) (n : ℕ) → Told l t whole left events n → left ≡ [] → ListsPast false l t (record { events = events; left_out = n })
+  told-all left events n p none =
+      let shown : tickets_of events ++ [] ≡ told_tickets t whole =
+      subst (λ (k : List PastEvent). tickets_of events ++ told_tickets t k ≡ told_tickets t whole) none p.tickets in
+      let same : tickets_of events ≡ told_tickets t whole = sym (append-nil (tickets_of events)) ∙ shown in
+      let sum : n + 0 ≡ untold t whole = subst (λ (k : List PastEvent). n + untold t k ≡ untold t whole) none p.left_out in
+      let counted = told-count t whole in
+      let size = tickets-length whole in
+      let listed : length (tickets_of events) ≡ length (told_tickets t whole) = ap (λ (ts : List ℕ). length ts) same in
+      record {
+        live = (last, at_last);
+        tickets = subst (λ (ts : List ℕ). ListsTickets false l t ts) (sym same) tickets-listed;
+        tells = p.tells;
+        causes = p.causes;
+        left_out = (tickets_of whole, w.tickets, omega arith);
+      }
+
+  -- the whole past, of which nothing is left out
+  pub whole-past : (all : Bool) (past : Past) → all ≡ true → past ≡ record { events = whole; left_out = 0 } → ListsPast all l t past
+  whole-past all past on is = subst (λ (b : Bool). ListsPast b l t past) (sym on) (subst (λ (q : Past). ListsPast true l t q) (sym is) (record {
+    live = (last, at_last);
+    tickets = w.tickets;
+    tells = w.tells;
+    causes = every-of (λ (x : PastEvent). ListsCauses true l t x.ticket x.causes) whole (λ x i.
+        let lists = every-in (λ (y : PastEvent). FollowsAt l y) whole x w.follows i in
+        let past_x = (w.tickets.exactly x.ticket).0 (ticket-in whole x i) in
+        let told_lead : (f : ℕ) → Follower l f x.ticket → IsInPast true l t f =
+        λ f follower. (
+          follower.dependent.event,
+          follower.dependent.live,
+          follows-on l f x.ticket t (direct-follows l f x.ticket follower.dependent) past_x.2,
+          refl,
+        ) in
+        record {
+          exactly = λ u. (
+            (λ j. (all-told low next true l t last r at_last x.ticket u told_lead).1 ((lists.exactly u).0 j)),
+            (λ d. (lists.exactly u).1 ((all-told low next true l t last r at_last x.ticket u told_lead).0 d)),
+          );
+          falling = lists.falling;
+        });
+    left_out = (tickets_of whole, w.tickets, omega arith);
+  }))
+
+  -- the tickets at the places of direct causes
+  in-tickets : (ts places : List ℕ) (u : ℕ) → In u (tickets_at ts places) → (p : ℕ) × In p places × (u ≡ slice_index ts p)
+  in-tickets ts [] u i = absurd i
+  in-tickets ts (q ∷ places) u i = elim i [
+    | inl is ↦ (q, inl refl, is)
+    | inr later ↦ let rest = in-tickets ts places u later in (rest.0, inr rest.1, rest.2)
+  ]
+
+  tickets-in : (ts places : List ℕ) (p : ℕ) → In p places → In (slice_index ts p) (tickets_at ts places)
+  tickets-in ts [] p i = absurd i
+  tickets-in ts (q ∷ places) p i = elim i [
+    | inl is ↦ inl (ap (λ (k : ℕ). slice_index ts k) is)
+    | inr later ↦ inr (tickets-in ts places p later)
+  ]
+
+  tickets-fall : (ts places : List ℕ) → InOrder ◌<◌ ts → ((p : ℕ) → In p places → (u : ℕ) × (slice_get ts p ≡ Some u)) → Falling places → Falling (tickets_at ts places)
+  tickets-fall ts [] o within fall = tt
+  tickets-fall ts (q ∷ places) o within fall = (
+    every-of (λ (u : ℕ). u < slice_index ts q) (tickets_at ts places) (λ u i.
+        let at = in-tickets ts places u i in
+        let here = within q (inl refl) in
+        let there = within at.0 (inr at.1) in
+        let less = order-at ts at.0 q there.0 here.0 o there.1 here.1 (every-in (λ (p : ℕ). p < q) places at.0 fall.0 at.1) in
+        let first_is : slice_index ts q ≡ here.0 = got-here ts q here.0 0 here.1 in
+        let other_is : slice_index ts at.0 ≡ there.0 = got-here ts at.0 there.0 0 there.1 in
+        let is : u ≡ slice_index ts at.0 = at.2 in
+        omega arith),
+    tickets-fall ts places o (λ p i. within p (inr i)) fall.1,
+  )
+
+  pub near-causes : (s : ℕ) (places : List ℕ) → IsNear l t (tickets_of whole) s places → ListsCauses false l t s (tickets_at (tickets_of whole) places)
+  near-causes s places near = record {
+    exactly = λ u. (
+      (λ i.
+          let at = in-tickets (tickets_of whole) places u i in
+          let cause = (near.exactly at.0).0 at.1 in
+          let is : slice_index (tickets_of whole) at.0 ≡ cause.0 = got-here (tickets_of whole) at.0 cause.0 0 cause.1 in
+          subst (λ (v : ℕ). DirectCause false l t s v) (sym (at.2 ∙ is)) cause.2),
+      (λ d.
+          let place = place-of low next l t last r at_last whole w false u d.told in
+          let is : slice_index (tickets_of whole) place.0 ≡ u = got-here (tickets_of whole) place.0 u 0 place.1 in
+          subst (λ (v : ℕ). In v (tickets_at (tickets_of whole) places)) is
+          (tickets-in (tickets_of whole) places place.0 ((near.exactly place.0).1 (u, place.1, d)))),
+    );
+    falling = tickets-fall (tickets_of whole) places w.tickets.in_order (λ p i. let cause = (near.exactly p).0 i in (cause.0, cause.1)) near.falling;
+  }
+
+-- ---- one place more
+pub in-take-next : (xs : List ℕ) (i p : ℕ) → i < length xs → In p (take (i + 1) xs) ↔ (In p (take i xs) ⊎ (p ≡ get_or xs i 0))
+in-take-next xs i p less =
+    let next : suc i ≡ i + 1 = omega arith in
+    let is : take (i + 1) xs ≡ take i xs ++ get_or xs i 0 ∷ [] =
+    ap (λ (k : ℕ). take k xs) (sym next) ∙ take-next xs i (get_or xs i 0) (slice_get-get_or xs i 0 less) in (
+      (λ h. elim (in-parts p (take i xs) (get_or xs i 0 ∷ []) (subst (λ (k : List ℕ). In p k) is h)) [
+        | inl before ↦ inl before
+        | inr (inl own) ↦ inr own
+        | inr (inr none) ↦ absurd none
+      ]),
+      (λ h. subst (λ (k : List ℕ). In p k) (sym is) (elim h [
+        | inl before ↦ in-left p (take i xs) (get_or xs i 0 ∷ []) before
+        | inr own ↦ in-right p (take i xs) (get_or xs i 0 ∷ []) (inl own)
+      ])),
+    )
+
+-- one list more
+pub near-more : (l : Live) (t : ℕ) (ts : List ℕ) (near : List (List ℕ)) (places : List ℕ) (s : ℕ) → AreNear l t ts near → slice_get ts (length near) ≡ Some s →
+    IsNear l t ts s places → AreNear l t ts (near ++ places ∷ [])
+near-more l t ts near places s are at_s is p u list at_p at_list = elim (cases_lt p (length near)) [
+  | inl below ↦ are p u list at_p (sym (get-left near (places ∷ []) p below) ∙ at_list)
+  | inr above ↦
+      let size = length-append near (places ∷ []) in
+      let inside : p < length (near ++ places ∷ []) = slice_get_within (near ++ places ∷ []) p list at_list in
+      let one : p ≡ length near = omega arith in
+      let same_list : places ≡ list = some-injective places list (sym (get-last near places) ∙ subst (λ (k : ℕ). slice_get (near ++ places ∷ []) k ≡ Some list) one at_list) in
+      let same_ticket : s ≡ u = at-one ts (length near) s u at_s (subst (λ (k : ℕ). slice_get ts k ≡ Some u) one at_p) in
+      subst (λ (v : ℕ). IsNear l t ts v list) same_ticket (subst (λ (k : List ℕ). IsNear l t ts s k) same_list is)
+]
+  where
+    get-last : (xs : List (List ℕ)) (x : List ℕ) → slice_get (xs ++ x ∷ []) (length xs) ≡ Some x
+    get-last [] x = refl
+    get-last (y ∷ xs) x = get-last xs x
+
+    get-left : (xs ys : List (List ℕ)) (k : ℕ) → k < length xs → slice_get (xs ++ ys) k ≡ slice_get xs k
+    get-left [] ys k h = absurd (omega arith)
+    get-left (y ∷ xs) ys zero h = refl
+    get-left (y ∷ xs) ys (suc k) h = let less : k < length xs = omega arith in get-left xs ys k less

@@ -52,11 +52,15 @@ ArePlaces tickets (u ∷ some) (p ∷ places) = (slice_get tickets p ≡ Some u)
 abbrev pub ToldAt : ℕ → List PastEvent → ℕ → Bool → Type 0
 ToldAt t whole q b = (x : PastEvent) × (slice_get whole q ≡ Some x) × (told t x ≡ b)
 
+-- p is in the list of the place q
+abbrev pub ListedAt : List (List ℕ) → ℕ → ℕ → Type 0
+ListedAt near q p = (places : List ℕ) × (slice_get near q ≡ Some places) × In p places
+
 -- what the event at the place q hands on to one that follows it: itself where it is told, else its direct causes
 abbrev pub HandsOn : ℕ → List PastEvent → List (List ℕ) → ℕ → ℕ → Type 0
 HandsOn t whole near q p =
     (ToldAt t whole q true × (p ≡ q))
-    ⊎ (ToldAt t whole q false × ((places : List ℕ) × (slice_get near q ≡ Some places) × In p places))
+    ⊎ (ToldAt t whole q false × ListedAt near q p)
 
 -- what one of these hands on
 abbrev pub HandedOn : ℕ → List PastEvent → List (List ℕ) → List ℕ → ℕ → Type 0
