@@ -1,17 +1,18 @@
 -- Down from the last of some places to the first: what is led to from one of them, and which are topmost.
-use Rattle.std.proofs.Common.{◌≡◌, ◌≢◌, ◌⊎◌, ◌↔◌, inl, inr, ℕ, zero, suc, ◌+◌, ◌-◌, ◌<◌, ◌≤◌, List, [], ◌∷◌, ◌++◌, Bool, true, false, ◌||◌, ◌&&◌, not, cond, length, Some, get_or, refl, sym, ◌∙◌, ap, subst, arith}
+use Rattle.std.proofs.Common.{◌≡◌, ◌≢◌, ◌⊎◌, ◌↔◌, inl, inr, ℕ, zero, suc, ◌+◌, ◌-◌, ◌<◌, ◌≤◌, List, [], ◌∷◌, ◌++◌, Bool, true, false, ◌||◌, ◌&&◌, not, cond, ◌==◌, length, Some, get_or, take, refl, sym, ◌∙◌, ap, subst, arith}
 use Rattle.std.specs.Prelude.{slice_get, slice_set}
 use Rattle.std.specs.List.Sorted.{IsNonDecreasing}
 use Rattle.std.proofs.lemmas.Bool.{cases_eq, cases_lt}
-use Rattle.std.proofs.lemmas.Option.{slice_get_within}
+use Rattle.std.proofs.lemmas.Bool.Decides.{nat_tests}
+use Rattle.std.proofs.lemmas.Option.{slice_get_within, slice_get-get_or}
 use Rattle.syntax.specs.Lists.{In}
 use Rattle.system.specs.Expression.{is_in}
 use Rattle.runs.proofs.public.Lists.{in-left, in-right, in-parts}
 use Rattle.runs.proofs.public.Options.{none-some}
 use Rattle.runs.proofs.public.ReadTests.{is-in, in-is}
-use Rattle.dependence.proofs.public.ListPlaces.{index-in, at-one, in-read, in-order-more, got-here, set-here, set-other}
+use Rattle.dependence.proofs.public.ListPlaces.{index-in, at-one, in-read, in-order-more, got-here, set-here, set-other, take-next}
 use Rattle.past.specs.internal.Near.{Falling, LeadDown}
-use Rattle.past.specs.internal.Topmost.{Climbed, IsPassed, IsReached, IsTop, Under, first, then_down}
+use Rattle.past.specs.internal.Topmost.{AreTop, Climbed, IsPassed, IsReached, IsTop, Under, first, then_down}
 
 -- ---- numbers that ascend
 pub found-among : (ns : List ℕ) (n i : ℕ) → (i < length ns) × (get_or ns i 0 ≡ n) → true ≡ is_in n ns
@@ -43,6 +44,23 @@ between-ends ns rise n i =
     let high : get_or ns k.0 0 ≤ get_or ns (length ns - 1) 0 = rise k.0 (length ns - 1) 0 (omega arith) (omega arith) in
     (omega arith, omega arith)
 
+-- ---- one place more
+pub in-take-next : (xs : List ℕ) (i p : ℕ) → i < length xs → In p (take (i + 1) xs) ↔ (In p (take i xs) ⊎ (p ≡ get_or xs i 0))
+in-take-next xs i p less =
+    let next : suc i ≡ i + 1 = omega arith in
+    let is : take (i + 1) xs ≡ take i xs ++ get_or xs i 0 ∷ [] =
+    ap (λ (k : ℕ). take k xs) (sym next) ∙ take-next xs i (get_or xs i 0) (slice_get-get_or xs i 0 less) in (
+      (λ h. elim (in-parts p (take i xs) (get_or xs i 0 ∷ []) (subst (λ (k : List ℕ). In p k) is h)) [
+        | inl before ↦ inl before
+        | inr (inl own) ↦ inr own
+        | inr (inr none) ↦ absurd none
+      ]),
+      (λ h. subst (λ (k : List ℕ). In p k) (sym is) (elim h [
+        | inl before ↦ in-left p (take i xs) (get_or xs i 0 ∷ []) before
+        | inr own ↦ in-right p (take i xs) (get_or xs i 0 ∷ []) (inl own)
+      ])),
+    )
+
 -- ---- marks that begin at a place
 pub set-reached : (reached : List Bool) (low place p : ℕ) → low ≤ place → place < low + length reached →
     IsReached (slice_set reached (place - low) true) low p ↔ (IsReached reached low p ⊎ ((low ≤ p) × (p ≡ place)))
@@ -65,6 +83,28 @@ set-reached reached low place p up within = (
           let other : (p - low) ≢ (place - low) = λ is. let one : p ≡ place = omega arith in differs one in
           (old.0, set-other reached (place - low) (p - low) true other ∙ old.1)
       | inr own ↦ absurd (differs own.1)
+    ]
+  ]),
+)
+
+-- one more of them is marked
+pub mark-next : (old now new : List Bool) (low : ℕ) (places : List ℕ) (i : ℕ) → i < length places →
+    ((p : ℕ) → IsReached now low p ↔ (IsReached old low p ⊎ ((low ≤ p) × In p (take i places)))) →
+    ((p : ℕ) → IsReached new low p ↔ (IsReached now low p ⊎ ((low ≤ p) × (p ≡ get_or places i 0)))) →
+    (p : ℕ) → IsReached new low p ↔ (IsReached old low p ⊎ ((low ≤ p) × In p (take (i + 1) places)))
+mark-next old now new low places i less before step p = (
+  (λ h. elim ((step p).0 h) [
+    | inl was ↦ elim ((before p).0 was) [
+      | inl a ↦ inl a
+      | inr a ↦ inr (a.0, (in-take-next places i p less).1 (inl a.1))
+    ]
+    | inr own ↦ inr (own.0, (in-take-next places i p less).1 (inr own.1))
+  ]),
+  (λ h. elim h [
+    | inl a ↦ (step p).1 (inl ((before p).1 (inl a)))
+    | inr a ↦ elim ((in-take-next places i p less).0 a.1) [
+      | inl was ↦ (step p).1 (inl ((before p).1 (inr (a.0, was))))
+      | inr own ↦ (step p).1 (inr (a.0, own))
     ]
   ]),
 )
@@ -149,20 +189,20 @@ module _ (near : List (List ℕ)) (cs : List ℕ) (low high place : ℕ) (reache
         let above : suc place ≤ q = omega arith in
         let old : In q cs ⊎ IsReached reached low q = elim h [
           | inl own ↦ inl own
-          | inr on ↦ elim ((passed.reached q).0 on) [ inl before ↦ inr before | inr added ↦ absurd (not-above q above added.2) ]
+          | inr on ↦ elim ((passed.marked q).0 on) [ inl before ↦ inr before | inr added ↦ absurd (not-above q above added.2) ]
         ] in
-        (passed.reached p).1 (inl (b.onward q p places above old at i low_p))
+        (passed.marked p).1 (inl (b.onward q p places above old at i low_p))
     | inr under ↦
         let is : q ≡ place = omega arith in
         let same_list : places ≡ causes = at-one near place places causes (subst (λ (k : ℕ). slice_get near k ≡ Some places) is at) at_place in
         let on : (is_in place cs || passed.below) ≡ true = true-either (is_in place cs) passed.below (elim h [
           | inl own ↦ inl (in-is place cs (subst (λ (k : ℕ). In k cs) is own))
-          | inr on ↦ elim ((passed.reached q).0 on) [
+          | inr on ↦ elim ((passed.marked q).0 on) [
             | inl before ↦ inr (passed.below_is.1 (subst (λ (k : ℕ). IsReached reached low k) is before))
             | inr added ↦ let less : q < place = down place q causes at_place added.2 in absurd (omega arith)
           ]
         ]) in
-        (passed.reached p).1 (inr (on, low_p, subst (λ (k : List ℕ). In p k) same_list i))
+        (passed.marked p).1 (inr (on, low_p, subst (λ (k : List ℕ). In p k) same_list i))
   ]
 
   -- it is kept where it is one of cs, and nothing led to it
@@ -211,19 +251,40 @@ module _ (near : List (List ℕ)) (cs : List ℕ) (low high place : ℕ) (reache
   pub climbed-next : Climbed near cs low high place new_reached new_kept
   climbed-next = record {
     count = let size = passed.size in let count = b.count in omega arith;
-    sound = λ p h. elim ((passed.reached p).0 h) [
+    sound = λ p h. elim ((passed.marked p).0 h) [
       | inl before ↦ b.sound p before
       | inr added ↦ led added.0 p added.2
     ];
     onward = on-new;
-    chosen = λ p. subst (λ (k : List ℕ). In p k ↔ ((place ≤ p) × IsTop near cs p)) (sym passed.kept) (chosen-new (is_in place cs && not passed.below) refl p);
-    falling = subst (λ (k : List ℕ). Falling k) (sym passed.kept) (falling-new (is_in place cs && not passed.below));
+    chosen = λ p. subst (λ (k : List ℕ). In p k ↔ ((place ≤ p) × IsTop near cs p)) (sym passed.is_kept) (chosen-new (is_in place cs && not passed.below) refl p);
+    falling = subst (λ (k : List ℕ). Falling k) (sym passed.is_kept) (falling-new (is_in place cs && not passed.below));
   }
+
+none-left : (xs : List ℕ) → (length xs == 0) ≡ true → xs ≡ []
+none-left [] h = refl
+none-left (x ∷ xs) h =
+    let off : (suc (length xs) == 0) ≡ false = grind (arith, nat_tests) in
+    let both : true ≡ false = sym h ∙ off in
+    cc
+
+pub top-of-none : (near : List (List ℕ)) (cs kept : List ℕ) → (length cs == 0) ≡ true → kept ≡ [] → AreTop near cs kept
+top-of-none near cs kept empty none =
+    subst (λ (ks : List ℕ). AreTop near cs ks) (sym none) (subst (λ (k : List ℕ). AreTop near k []) (sym (none-left cs empty)) (record {
+      exactly = λ p. ((λ i. absurd i), (λ top. absurd top.0));
+      falling = tt;
+    }))
+
+pub not-empty : (xs : List ℕ) (b : Bool) → b ≡ (length xs == 0) → b ≡ false → 0 < length xs
+not-empty [] b is off = let both : true ≡ false = sym is ∙ off in cc
+not-empty (x ∷ xs) b is off = omega arith
 
 -- all places are passed
 pub climbed-all : (near : List (List ℕ)) (cs : List ℕ) (low high index : ℕ) (reached : List Bool) (kept : List ℕ) → index ≤ low →
-    ((c : ℕ) → In c cs → (low ≤ c) × (c < high)) → Climbed near cs low high index reached kept → (p : ℕ) → In p kept ↔ IsTop near cs p
-climbed-all near cs low high index reached kept past stand b p = (
-  (λ i. ((b.chosen p).0 i).1),
-  (λ top. let up : low ≤ p = (stand p top.0).0 in (b.chosen p).1 (omega arith, top)),
-)
+    ((c : ℕ) → In c cs → (low ≤ c) × (c < high)) → Climbed near cs low high index reached kept → AreTop near cs kept
+climbed-all near cs low high index reached kept past stand b = record {
+  exactly = λ p. (
+    (λ i. ((b.chosen p).0 i).1),
+    (λ top. let up : low ≤ p = (stand p top.0).0 in (b.chosen p).1 (omega arith, top)),
+  );
+  falling = b.falling;
+}

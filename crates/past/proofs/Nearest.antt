@@ -139,19 +139,33 @@ module _ (low next : ℕ) (all : Bool) (l : Live) (t : ℕ) (last : Event) (r : 
       let f : ℕ = step.ticket in
       let to = direct-follows l f s step.follower.dependent in
       elim (told-live? f step.follower.dependent.event step.follower.dependent.live) [
-        | inl told ↦ (f, step.follower, inl (told, elim (d.next f told step.on to) [
-          | inl is ↦ sym is
-          | inr is ↦ absurd (below-follower f s f step.follower same is)
-        ]))
-        | inr out ↦ (f, step.follower, inr (out, record {
-          told = d.told;
-          other = λ is. out (subst (λ (v : ℕ). IsInPast all l t v) is d.told);
-          cause = step.on;
-          next = λ v told from on. elim (d.next v told from (follows-on l v f s on to)) [
-            | inl is ↦ inl is
-            | inr is ↦ absurd (below-follower f s v step.follower on is)
-          ];
-        }))
+        | inl told ↦ (
+          f,
+          step.follower,
+          inl (
+            told,
+            elim (d.next f told step.on to) [
+              | inl is ↦ sym is
+              | inr is ↦ absurd (below-follower f s f step.follower same is)
+            ],
+          ),
+        )
+        | inr out ↦ (
+          f,
+          step.follower,
+          inr (
+            out,
+            record {
+              told = d.told;
+              other = λ is. out (subst (λ (v : ℕ). IsInPast all l t v) is d.told);
+              cause = step.on;
+              next = λ v told from on. elim (d.next v told from (follows-on l v f s on to)) [
+                | inl is ↦ inl is
+                | inr is ↦ absurd (below-follower f s v step.follower on is)
+              ];
+            },
+          ),
+        )
       ]
 
   -- what is handed on is a told cause

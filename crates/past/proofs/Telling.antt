@@ -1,7 +1,9 @@
 -- The told events of a whole past: the places of their direct causes, and the list of them.
 use Rattle.std.proofs.Common.{◌≡◌, ◌≢◌, ◌⊎◌, ◌↔◌, inl, inr, ℕ, zero, suc, ◌+◌, ◌<◌, ◌≤◌, List, [], ◌∷◌, ◌++◌, Bool, true, false, ◌||◌, ◌==◌, cond, length, Some, get_or, take, refl, sym, ◌∙◌, ap, subst, arith, append_assoc, append-nil, length-append}
 use Rattle.std.specs.Prelude.{slice_get, slice_index}
+use Rattle.std.specs.List.Sorted.{IsPermutation}
 use Rattle.std.proofs.lemmas.Bool.{cases_eq, cases_lt}
+use Rattle.std.proofs.lemmas.List.Sorted.{Contains-permutation}
 use Rattle.std.proofs.lemmas.Option.{slice_get_within, slice_get-get_or}
 use Rattle.syntax.specs.Lists.{In, Every}
 use Rattle.runs.specs.InOrder.{InOrder}
@@ -14,13 +16,14 @@ use Rattle.runs.proofs.public.Tickets.{rising-one}
 use Rattle.dependence.specs.Followers.{Follower, ListsLeads}
 use Rattle.dependence.proofs.public.Following.{follows-on}
 use Rattle.dependence.proofs.public.FollowerLaws.{direct-follows}
-use Rattle.dependence.proofs.public.ListPlaces.{in-at, index-in, at-one, at-within, got-here, take-next}
+use Rattle.dependence.proofs.public.ListPlaces.{in-at, index-in, at-one, at-within, got-here}
 use Rattle.past.specs.Past.{DirectCause, IsInPast, ListsCauses, ListsPast, ListsTickets, Tells, carries, tickets_of}
 use Rattle.past.specs.declared.past.Past.{Past}
 use Rattle.past.specs.declared.past.PastEvent.{PastEvent}
-use Rattle.past.specs.internal.Near.{AllNear, AllTold, AreLeads, AreNear, ArePlaces, Falling, HandedOn, IsNear, LeadDown, tickets_at, told, told_tickets, Told, ToldAt, untold}
+use Rattle.past.specs.internal.Near.{AllNear, AllTold, AreLeads, AreNear, ArePlaces, Falling, HandedOn, HandsOn, IsNear, LeadDown, tickets_at, told, told_tickets, Told, ToldAt, untold}
 use Rattle.past.specs.internal.Swept.{FollowsAt, IsWhole}
-use Rattle.past.specs.internal.Topmost.{IsTopHanded, Under, first, then_down}
+use Rattle.past.specs.internal.Topmost.{AreTop, AreTopHanded, Under, first, then_down}
+use Rattle.past.proofs.Climbing.{in-take-next}
 use Rattle.past.proofs.Nearest.{Candidate, strictly, cause-above, candidate-cause, candidate-other, candidate-told, top-cause, cause-top, all-told, one-untold}
 
 -- ---- places in a list that ascends
@@ -159,6 +162,23 @@ module _ (low next : ℕ) (l : Live) (t : ℕ) (last : Event) (r : Rising low l 
       pick true is = absurd (out (told-is p x at is))
       pick false is = is
 
+  -- what an event follows is in the whole past
+  pub lead-in : (p : ℕ) (x : PastEvent) → slice_get whole p ≡ Some x → ListsLeads l x.ticket x.causes
+  lead-in p x at = every-in (λ (y : PastEvent). FollowsAt l y) whole x w.follows (in-at whole p x at)
+
+  pub lead-among : (p u : ℕ) (x : PastEvent) → slice_get whole p ≡ Some x → In u x.causes → In u (tickets_of whole)
+  lead-among p u x at i =
+      let f = ((lead-in p x at).exactly u).0 i in
+      let past = past-at p x.ticket (ticket-at whole p x at) in
+      (w.tickets.exactly u).1
+      (f.dependent.event, f.dependent.live, follows-on l u x.ticket t (direct-follows l u x.ticket f.dependent) past.2, refl)
+
+  pub placed-at : (tickets some places : List ℕ) (p : ℕ) (x : PastEvent) → tickets ≡ tickets_of whole → slice_get whole p ≡ Some x → some ≡ x.causes →
+      ArePlaces tickets some places → AreLeads l (tickets_of whole) x.ticket places
+  placed-at tickets some places p x same at is are =
+      leads-placed l (tickets_of whole) x.causes places x.ticket w.tickets.in_order
+      (subst (λ (ts : List ℕ). ArePlaces ts x.causes places) same (subst (λ (us : List ℕ). ArePlaces tickets us places) is are)) (lead-in p x at)
+
   -- the lists of places lead down
   module _ (near : List (List ℕ)) (size : length near ≤ length whole) (are : AreNear l t (tickets_of whole) near) where
     near-at : (q : ℕ) (places : List ℕ) → slice_get near q ≡ Some places → (s : ℕ) × (slice_get (tickets_of whole) q ≡ Some s) × IsNear l t (tickets_of whole) s places
@@ -227,6 +247,11 @@ module _ (low next : ℕ) (l : Live) (t : ℕ) (last : Event) (r : Rising low l 
           let d = follower.dependent in
           place-of true f (d.event, d.live, follows-on l f s t (direct-follows l f s d) s-on, refl)
 
+      pub lead-lower : (q : ℕ) → In q leads → q < length near
+      lead-lower q i =
+          let f = (placed.exactly q).0 i in
+          places-rise (tickets_of whole) q (length near) f.0 s w.tickets.in_order f.1 at_s f.2.dependent.less
+
       handed-candidate : (p : ℕ) → HandedOn t whole near leads p → (u : ℕ) × (slice_get (tickets_of whole) p ≡ Some u) × Candidate false l t s u
       handed-candidate p h =
           let q : ℕ = h.0 in
@@ -284,27 +309,30 @@ module _ (low next : ℕ) (l : Live) (t : ℕ) (last : Event) (r : Rising low l 
           (λ is. candidate-other low next false l t last r at_last s u h (sym is)))
 
       -- the topmost of what is handed on are its direct causes
-      pub top-near : (kept : List ℕ) → Falling kept → ((p : ℕ) → In p kept ↔ IsTopHanded t whole near leads p) → IsNear l t (tickets_of whole) s kept
-      top-near kept fall tops = record {
+      pub top-near : (kept : List ℕ) → AreTopHanded t whole near leads kept → IsNear l t (tickets_of whole) s kept
+      top-near kept tops = record {
         exactly = λ p. (
           (λ i.
-              let top = (tops p).0 i in
-              let at = handed-candidate p top.0 in
-              (at.0, at.1, top-cause low next false l t last r at_last s at.0 (
-                at.2,
-                λ c h on. elim (cases_eq at.0 c) [
-                  | inl is ↦ sym is
-                  | inr differs ↦
-                      let place = place-of false c (candidate-told low next false l t last r at_last s c h) in
-                      let under =
-                      on-within c place.0 p c at.0 (omega arith) (candidate-lower place.0 c place.1 h) place.1 at.1
-                      (candidate-told low next false l t last r at_last s at.0 at.2) differs on in
-                      absurd (top.1 place.0 (candidate-handed place.0 c place.1 h) under)
-                ],
-              ))),
+              let top = (tops.exactly p).0 i in
+              let at = handed-candidate p top.0 in (
+                at.0,
+                at.1,
+                top-cause low next false l t last r at_last s at.0 (
+                  at.2,
+                  λ c h on. elim (cases_eq at.0 c) [
+                    | inl is ↦ sym is
+                    | inr differs ↦
+                        let place = place-of false c (candidate-told low next false l t last r at_last s c h) in
+                        let under =
+                        on-within c place.0 p c at.0 (omega arith) (candidate-lower place.0 c place.1 h) place.1 at.1
+                        (candidate-told low next false l t last r at_last s at.0 at.2) differs on in
+                        absurd (top.1 place.0 (candidate-handed place.0 c place.1 h) under)
+                  ],
+                ),
+              )),
           (λ h.
               let top = cause-top low next false l t last r at_last s h.0 h.2 in
-              (tops p).1 (
+              (tops.exactly p).1 (
                 candidate-handed p h.0 h.1 top.0,
                 λ c handed under.
                     let above = handed-candidate c handed in
@@ -317,7 +345,7 @@ module _ (low next : ℕ) (l : Live) (t : ℕ) (last : Event) (r : Rising low l 
                     omega arith,
               )),
         );
-        falling = fall;
+        falling = tops.falling;
       }
 
       -- where all that it follows are told, they are
@@ -549,6 +577,9 @@ module _ (low next : ℕ) (l : Live) (t : ℕ) (last : Event) (r : Rising low l 
     tickets-fall ts places o (λ p i. within p (inr i)) fall.1,
   )
 
+  pub near-within : (s : ℕ) (places : List ℕ) → IsNear l t (tickets_of whole) s places → (p : ℕ) → In p places → p < length (tickets_of whole)
+  near-within s places near p i = let at = (near.exactly p).0 i in slice_get_within (tickets_of whole) p at.0 at.1
+
   pub near-causes : (s : ℕ) (places : List ℕ) → IsNear l t (tickets_of whole) s places → ListsCauses false l t s (tickets_at (tickets_of whole) places)
   near-causes s places near = record {
     exactly = λ u. (
@@ -565,23 +596,6 @@ module _ (low next : ℕ) (l : Live) (t : ℕ) (last : Event) (r : Rising low l 
     );
     falling = tickets-fall (tickets_of whole) places w.tickets.in_order (λ p i. let cause = (near.exactly p).0 i in (cause.0, cause.1)) near.falling;
   }
-
--- ---- one place more
-pub in-take-next : (xs : List ℕ) (i p : ℕ) → i < length xs → In p (take (i + 1) xs) ↔ (In p (take i xs) ⊎ (p ≡ get_or xs i 0))
-in-take-next xs i p less =
-    let next : suc i ≡ i + 1 = omega arith in
-    let is : take (i + 1) xs ≡ take i xs ++ get_or xs i 0 ∷ [] =
-    ap (λ (k : ℕ). take k xs) (sym next) ∙ take-next xs i (get_or xs i 0) (slice_get-get_or xs i 0 less) in (
-      (λ h. elim (in-parts p (take i xs) (get_or xs i 0 ∷ []) (subst (λ (k : List ℕ). In p k) is h)) [
-        | inl before ↦ inl before
-        | inr (inl own) ↦ inr own
-        | inr (inr none) ↦ absurd none
-      ]),
-      (λ h. subst (λ (k : List ℕ). In p k) (sym is) (elim h [
-        | inl before ↦ in-left p (take i xs) (get_or xs i 0 ∷ []) before
-        | inr own ↦ in-right p (take i xs) (get_or xs i 0 ∷ []) (inl own)
-      ])),
-    )
 
 -- one list more
 pub near-more : (l : Live) (t : ℕ) (ts : List ℕ) (near : List (List ℕ)) (places : List ℕ) (s : ℕ) → AreNear l t ts near → slice_get ts (length near) ≡ Some s →
@@ -605,3 +619,87 @@ near-more l t ts near places s are at_s is p u list at_p at_list = elim (cases_l
     get-left [] ys k h = absurd (omega arith)
     get-left (y ∷ xs) ys zero h = refl
     get-left (y ∷ xs) ys (suc k) h = let less : k < length xs = omega arith in get-left xs ys k less
+
+-- what one more event hands on
+pub handed-next : (t : ℕ) (whole : List PastEvent) (near : List (List ℕ)) (leads old new : List ℕ) (i q : ℕ) (x : PastEvent) (places : List ℕ) → i < length leads →
+    get_or leads i 0 ≡ q → slice_get whole q ≡ Some x → slice_get near q ≡ Some places → new ≡ old ++ cond (told t x) (q ∷ []) places →
+    ((p : ℕ) → In p old ↔ HandedOn t whole near (take i leads) p) → (p : ℕ) → In p new ↔ HandedOn t whole near (take (i + 1) leads) p
+handed-next t whole near leads old new i q x places less here at_x at_list is before p = subst (λ (k : List ℕ). In p k ↔ HandedOn t whole near (take (i + 1) leads) p) (sym is) (
+  (λ j. elim (in-parts p old (cond (told t x) (q ∷ []) places) j) [
+    | inl a ↦ let h = (before p).0 a in (h.0, (in-take-next leads i h.0 less).1 (inl h.1), h.2)
+    | inr a ↦ (q, (in-take-next leads i q less).1 (inr (sym here)), hands (told t x) refl a)
+  ]),
+  (λ h. elim ((in-take-next leads i h.0 less).0 h.1) [
+    | inl a ↦ in-left p old (cond (told t x) (q ∷ []) places) ((before p).1 (h.0, a, h.2))
+    | inr a ↦ in-right p old (cond (told t x) (q ∷ []) places) (own (told t x) refl (subst (λ (k : ℕ). HandsOn t whole near k p) (a ∙ here) h.2))
+  ]),
+)
+  where
+    hands : (b : Bool) → told t x ≡ b → In p (cond b (q ∷ []) places) → HandsOn t whole near q p
+    hands true on (inl one) = inl ((x, at_x, on), one)
+    hands true on (inr none) = absurd none
+    hands false off j = inr ((x, at_x, off), (places, at_list, j))
+
+    own : (b : Bool) → told t x ≡ b → HandsOn t whole near q p → In p (cond b (q ∷ []) places)
+    own true on (inl one) = inl one.1
+    own true on (inr further) =
+        let same_event : further.0.0 ≡ x = at-one whole q further.0.0 x further.0.1 at_x in
+        let both : true ≡ false = sym on ∙ ap (λ (y : PastEvent). told t y) (sym same_event) ∙ further.0.2 in
+        cc
+    own false off (inl one) =
+        let same_event : one.0.0 ≡ x = at-one whole q one.0.0 x one.0.1 at_x in
+        let both : true ≡ false = sym one.0.2 ∙ ap (λ (y : PastEvent). told t y) same_event ∙ off in
+        cc
+    own false off (inr further) =
+        subst (λ (k : List ℕ). In p k) (at-one near q further.1.0 places further.1.1 at_list) further.1.2
+
+-- ---- what is handed on, in order
+pub permuted : (xs ys : List ℕ) → IsPermutation xs ys → (n : ℕ) → In n xs → In n ys
+permuted xs ys p n i =
+    let at = index-in xs n i in
+    let there = Contains-permutation xs ys n p (at.0, slice_get_within xs at.0 n at.1, got-here xs at.0 n n at.1) in
+    in-at ys there.0 n (slice_get-get_or ys there.0 n there.1 ∙ ap (λ (k : ℕ). Some k) there.2)
+
+pub handed-within : (t : ℕ) (whole : List PastEvent) (near : List (List ℕ)) (leads : List ℕ) → LeadDown near → ((q : ℕ) → In q leads → q < length near) →
+    (p : ℕ) → HandedOn t whole near leads p → p < length near
+handed-within t whole near leads down within p h =
+    let q : ℕ = h.0 in
+    let less : q < length near = within q h.1 in
+    elim h.2 [
+      | inl own ↦ omega (arith, own.1)
+      | inr further ↦ let lower : p < q = down q p further.1.0 further.1.1 further.1.2 in omega arith
+    ]
+
+pub top-handed : (t : ℕ) (whole : List PastEvent) (near : List (List ℕ)) (leads candidates sorted given kept : List ℕ) →
+    ((p : ℕ) → In p candidates ↔ HandedOn t whole near leads p) → ((p : ℕ) → In p candidates ↔ In p sorted) → given ≡ sorted →
+    AreTop near given kept → AreTopHanded t whole near leads kept
+top-handed t whole near leads candidates sorted given kept handed same is tops =
+    let to : (c : ℕ) → In c given → HandedOn t whole near leads c =
+    λ c i. (handed c).0 ((same c).1 (subst (λ (k : List ℕ). In c k) is i)) in
+    let from : (c : ℕ) → HandedOn t whole near leads c → In c given =
+    λ c h. subst (λ (k : List ℕ). In c k) (sym is) ((same c).0 ((handed c).1 h)) in
+    record {
+      exactly = λ p. (
+        (λ i. let top = (tops.exactly p).0 i in (to p top.0, λ c h under. top.1 c (from c h) under)),
+        (λ top. (tops.exactly p).1 (from p top.0, λ c i under. top.1 c (to c i) under)),
+      );
+      falling = tops.falling;
+    }
+
+-- one more of them is told
+pub all-told-next : (t : ℕ) (whole : List PastEvent) (places : List ℕ) (i : ℕ) (x : PastEvent) → i < length places →
+    slice_get whole (get_or places i 0) ≡ Some x → told t x ≡ true → AllTold t whole (take i places) → AllTold t whole (take (i + 1) places)
+all-told-next t whole places i x less at on before p h = elim ((in-take-next places i p less).0 h) [
+  | inl was ↦ before p was
+  | inr own ↦ (x, subst (λ (k : ℕ). slice_get whole k ≡ Some x) (sym own) at, on)
+]
+
+-- a list of one
+pub one-of-one : (p q : ℕ) → In p (q ∷ []) → p ≡ q
+one-of-one p q (inl is) = is
+one-of-one p q (inr none) = absurd none
+
+pub single : (xs : List ℕ) → length xs ≡ 1 → xs ≡ get_or xs 0 0 ∷ []
+single [] h = absurd (omega arith)
+single (x ∷ []) h = refl
+single (x ∷ y ∷ xs) h = absurd (omega arith)

@@ -1,5 +1,5 @@
 // What is asked: the past of an event, and of the last event that wrote a variable.
-ghost use Rattle.std.specs.Prelude.{IfOk, MatchOption, ℕ};
+ghost use Rattle.std.specs.Prelude.{◌≡◌, ℕ, IfOk, MatchOption};
 ghost use Rattle.runs.specs.Live.{LastWriter, NoneAt, NoWriter, IsLive};
 ghost use Rattle.past.specs.Past.{ListsPast};
 

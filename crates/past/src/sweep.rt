@@ -6,7 +6,8 @@ ghost use Rattle.runs.specs.Live.{IsLive};
 ghost use Rattle.dependence.specs.internal.Marking.{MarkedAt};
 ghost use Rattle.dependence.specs.internal.Tables.{IsRising, StandsAt};
 ghost use Rattle.past.specs.declared.past.PastEvent.{PastEvent};
-ghost use Rattle.past.specs.internal.Swept.{FollowsAt, IsWhole, ListsDown, Tells};
+ghost use Rattle.past.specs.Past.{Tells};
+ghost use Rattle.past.specs.internal.Swept.{FollowsAt, IsWhole, ListsDown};
 
 use crate::past::PastEvent;
 use dependence::Live;

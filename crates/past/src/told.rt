@@ -4,14 +4,15 @@
 // The direct causes of an event are found from those of the events that it follows, from the first event on: an event
 // that it follows and that is told may be one, of any other its direct causes may be. Of these, the topmost are.
 ghost use Rattle.std.specs.Prelude.{◌≡◌, ◌<◌, ◌≤◌, ◌++◌, ◌∷◌, [], ◌↔◌, ℕ, cond, false, true, length, Some, slice_get, IfOk, OnOk};
+ghost use Rattle.std.specs.List.Sorted.{IsNonDecreasing};
 ghost use Rattle.syntax.specs.Lists.{In};
 ghost use Rattle.runs.specs.InOrder.{InOrder};
 ghost use Rattle.runs.specs.Live.{IsLive};
 ghost use Rattle.dependence.specs.internal.Tables.{IsRising};
 ghost use Rattle.past.specs.Past.{ListsPast, tickets_of};
-ghost use Rattle.past.specs.internal.Near.{AllNear, AllTold, AreNear, ArePlaces, Falling, HandedOn, IsNear, LeadDown, tickets_at, told, ToldAt};
+ghost use Rattle.past.specs.internal.Near.{AllNear, AllTold, AreNear, ArePlaces, HandedOn, IsNearAt, LeadDown, tickets_at, told, ToldAt};
 ghost use Rattle.past.specs.internal.Swept.{IsWhole};
-ghost use Rattle.past.specs.internal.Topmost.{IsTopHanded};
+ghost use Rattle.past.specs.internal.Topmost.{AreTopHanded};
 
 use crate::past::{Past, PastEvent};
 use crate::topmost::topmost;
@@ -34,7 +35,14 @@ pub(crate) fn told_past(
     let tickets = tickets_of(alloc, whole)?;
     let mut near = Items::new(alloc);
     add_near(alloc, live, whole, tickets.as_slice(), asked, &mut near)?;
-    list_told(alloc, live, whole, tickets.as_slice(), near.as_slice(), asked)
+    list_told(
+        alloc,
+        live,
+        whole,
+        tickets.as_slice(),
+        near.as_slice(),
+        asked,
+    )
 }
 
 /// Their tickets.
@@ -58,43 +66,41 @@ fn add_near(
     requires whole { IsWhole live.now.live asked whole.now }
     requires tickets { tickets.now ≡ tickets_of whole.now }
     requires empty { near.old ≡ [] }
-    ensures { OnOk result (AllNear live.now.live asked tickets.now near.new) }
+    ensures { OnOk result (AllNear live.now.live asked (tickets_of whole.now) near.new) }
 {
-    for place in 0..whole.len() {
-        let causes = near_of(alloc, live, whole, tickets, near.as_slice(), place, asked)?;
+    'places: while near.len() < whole.len() {
+        let causes = near_of(alloc, live, whole, tickets, near.as_slice(), asked)?;
         near.push(causes)?;
     }
     Ok(())
 }
 
-/// The places of the direct causes of the event at a place, the last first, by those of the events before it.
+/// The places of the direct causes of the event behind those of which they are known, the last first.
 fn near_of(
     alloc: Global,
     live: &Live,
     whole: &[PastEvent],
     tickets: &[u64],
     near: &[Items<usize>],
-    place: usize,
     asked: u64,
 ) -> Result<Items<usize>, AllocError>
     requires rising { IsRising live.now.live }
     requires live { IsLive live.now.live asked }
     requires whole { IsWhole live.now.live asked whole.now }
     requires tickets { tickets.now ≡ tickets_of whole.now }
-    requires within { place < length whole.now }
-    requires size { length near.now ≡ place }
-    requires near { AreNear live.now.live asked tickets.now near.now }
-    ensures { (s : ℕ) × (slice_get tickets.now place ≡ Some s)
-        × IfOk result (λ made. IsNear live.now.live asked tickets.now s made) }
+    requires within { length near.now < length whole.now }
+    requires near { AreNear live.now.live asked (tickets_of whole.now) near.now }
+    ensures { IfOk result (IsNearAt live.now.live asked (tickets_of whole.now) (length near.now)) }
 {
-    let leads = places_of(alloc, tickets, whole[place].causes.as_slice())?;
-    if are_told(whole, leads.as_slice(), asked) {
-        return Ok(Items::from_vec(leads));
+    let leads = places_of(alloc, tickets, whole[near.len()].causes.as_slice())?;
+    let places = leads.as_slice();
+    if are_told(whole, places, asked) {
+        return copy_of(alloc, places);
     }
-    if leads.len() == 1 {
-        return copy_of(alloc, near[leads[0]].as_slice());
+    if places.len() == 1 {
+        return copy_of(alloc, near[places[0]].as_slice());
     }
-    topmost_handed_on(alloc, whole, near, leads.as_slice(), asked)
+    topmost_handed_on(alloc, whole, near, places, asked)
 }
 
 /// The places of these tickets, which fall.
@@ -161,13 +167,21 @@ fn topmost_handed_on(
     requires size { length near.now ≤ length whole.now }
     requires leads { (p : ℕ) → In p leads.now → p < length near.now }
     requires down { LeadDown near.now }
-    ensures falling { IfOk result (λ kept. Falling kept) }
-    ensures topmost { IfOk result (λ kept. (p : ℕ) → In p kept ↔ IsTopHanded asked whole.now near.now leads.now p) }
+    ensures { IfOk result (AreTopHanded asked whole.now near.now leads.now) }
 {
     let mut candidates = Vec::new(alloc);
     add_handed_on(whole, near, leads, asked, &mut candidates)?;
-    candidates.sort_unstable();
-    topmost(alloc, near, candidates.as_slice())
+    let sorted = ascending(candidates);
+    topmost(alloc, near, sorted.as_slice())
+}
+
+/// The same places in ascending order.
+fn ascending(mut places: Vec<usize>) -> Vec<usize>
+    ensures same { (p : ℕ) → In p places.items ↔ In p result.items }
+    ensures ascending { IsNonDecreasing result.items }
+{
+    places.sort_unstable();
+    places
 }
 
 /// Adds what the events at these places hand on.
@@ -184,7 +198,13 @@ fn add_handed_on(
     ensures { OnOk result ((p : ℕ) → In p candidates.new.items ↔ HandedOn asked whole.now near.now leads.now p) }
 {
     for lead in leads {
-        add_of(&whole[*lead], near[*lead].as_slice(), *lead, asked, candidates)?;
+        add_of(
+            &whole[*lead],
+            near[*lead].as_slice(),
+            *lead,
+            asked,
+            candidates,
+        )?;
     }
     Ok(())
 }
@@ -221,7 +241,7 @@ fn list_told(
     requires live { IsLive live.now.live asked }
     requires whole { IsWhole live.now.live asked whole.now }
     requires tickets { tickets.now ≡ tickets_of whole.now }
-    requires near { AllNear live.now.live asked tickets.now near.now }
+    requires near { AllNear live.now.live asked (tickets_of whole.now) near.now }
     ensures { IfOk result (λ past. ListsPast false live.now.live asked past) }
 {
     let mut events = Items::new(alloc);
@@ -244,8 +264,12 @@ fn with_causes(
     places: &[usize],
 ) -> Result<PastEvent, AllocError>
     requires { (p : ℕ) → In p places.now → p < length tickets.now }
-    ensures { IfOk result (λ made. made ≡ record { ticket = event.now.ticket; index = event.now.index;
-        carries = event.now.carries; causes = tickets_at tickets.now places.now }) }
+    ensures { IfOk result (λ made. made ≡ record {
+      ticket = event.now.ticket;
+      index = event.now.index;
+      carries = event.now.carries;
+      causes = tickets_at tickets.now places.now;
+    }) }
 {
     let causes = tickets_at(alloc, tickets, places)?;
     Ok(PastEvent {

@@ -1,10 +1,10 @@
 // Which of some places no other of them leads down to.
-ghost use Rattle.std.specs.Prelude.{◌≡◌, ◌<◌, ◌≤◌, ◌+◌, ◌++◌, ◌∷◌, [], ◌⊎◌, ◌↔◌, ℕ, cond, length, true, Some, slice_get, IfOk, OnOk};
+ghost use Rattle.std.specs.Prelude.{◌≡◌, ◌<◌, ◌≤◌, ◌+◌, ◌++◌, ◌∷◌, [], ◌⊎◌, ◌↔◌, ℕ, ◌||◌, ◌&&◌, not, cond, length, true, Some, slice_get, IfOk, OnOk};
 ghost use Rattle.std.specs.List.Sorted.{IsNonDecreasing};
 ghost use Rattle.syntax.specs.Lists.{In};
 ghost use Rattle.system.specs.Expression.{is_in};
-ghost use Rattle.past.specs.internal.Near.{Falling, LeadDown};
-ghost use Rattle.past.specs.internal.Topmost.{Climbed, IsPassed, IsReached, IsTop};
+ghost use Rattle.past.specs.internal.Near.{LeadDown};
+ghost use Rattle.past.specs.internal.Topmost.{AreTop, IsPassed, IsReached};
 
 use crate::sweep::no_marks;
 use std::alloc::{AllocError, Global};
@@ -20,8 +20,7 @@ pub(crate) fn topmost(
     requires ascending { IsNonDecreasing sorted.now }
     requires within { (c : ℕ) → In c sorted.now → c < length near.now }
     requires down { LeadDown near.now }
-    ensures falling { IfOk result (λ kept. Falling kept) }
-    ensures topmost { IfOk result (λ kept. (p : ℕ) → In p kept ↔ IsTop near.now sorted.now p) }
+    ensures { IfOk result (AreTop near.now sorted.now) }
 {
     let mut kept = Items::new(alloc);
     if sorted.is_empty() {
@@ -50,8 +49,7 @@ fn climb_down(
     requires size { low + length reached.old ≡ high }
     requires none { (i : ℕ) → slice_get reached.old i ≡ Some true → ⊥ }
     requires empty { kept.old ≡ [] }
-    ensures falling { OnOk result (Falling kept.new) }
-    ensures topmost { OnOk result ((p : ℕ) → In p kept.new ↔ IsTop near.now sorted.now p) }
+    ensures { OnOk result (AreTop near.now sorted.now kept.new) }
 {
     let mut place = high;
     while place > low {
@@ -79,8 +77,22 @@ fn pass(
 {
     let is_below = reached[place - low];
     let is_one = is_among(sorted, place);
-    mark_if(is_one || is_below, causes, low, reached);
-    keep_if(is_one && !is_below, place, kept)
+    mark_if(either(is_one, is_below), causes, low, reached);
+    keep_if(alone(is_one, is_below), place, kept)
+}
+
+/// Whether one of them holds.
+fn either(one: bool, other: bool) -> bool
+    ensures { result ≡ (one || other) }
+{
+    one || other
+}
+
+/// Whether the first holds and the second does not.
+fn alone(one: bool, other: bool) -> bool
+    ensures { result ≡ (one && not other) }
+{
+    one && !other
 }
 
 /// Marks these places, but for those below `low`, if that is so.

@@ -30,6 +30,10 @@ pub record IsNear (l : Live) (t : ℕ) (tickets : List ℕ) (s : ℕ) (places : 
   pub exactly : (p : ℕ) → In p places ↔ ((u : ℕ) × (slice_get tickets p ≡ Some u) × DirectCause false l t s u)
   pub falling : Falling places
 
+-- the same of the event at a place
+abbrev pub IsNearAt : Live → ℕ → List ℕ → ℕ → List ℕ → Type 0
+IsNearAt l t tickets p places = (s : ℕ) × (slice_get tickets p ≡ Some s) × IsNear l t tickets s places
+
 -- the lists beside the tickets are those of their direct causes
 abbrev pub AreNear : Live → ℕ → List ℕ → List (List ℕ) → Type 0
 AreNear l t tickets near =
@@ -39,7 +43,7 @@ AreNear l t tickets near =
 -- each of the places has such a list
 pub record AllNear (l : Live) (t : ℕ) (tickets : List ℕ) (near : List (List ℕ)) : Type 0 where
   pub size : length near ≡ length tickets
-  pub near : AreNear l t tickets near
+  pub lists : AreNear l t tickets near
 
 -- these are the places of the tickets, in the same order
 abbrev pub ArePlaces : List ℕ → List ℕ → List ℕ → Type 0

@@ -15,10 +15,19 @@ pub data Under (near : List (List ℕ)) (c : ℕ) : ℕ → Type 0 where
 abbrev pub IsTop : List (List ℕ) → List ℕ → ℕ → Type 0
 IsTop near cs p = In p cs × ((c : ℕ) → In c cs → Under near c p → ⊥)
 
+-- exactly these are kept, falling
+pub record AreTop (near : List (List ℕ)) (cs kept : List ℕ) : Type 0 where
+  pub exactly : (p : ℕ) → In p kept ↔ IsTop near cs p
+  pub falling : Falling kept
+
 -- the same of what some events hand on
 abbrev pub IsTopHanded : ℕ → List PastEvent → List (List ℕ) → List ℕ → ℕ → Type 0
 IsTopHanded t whole near leads p =
     HandedOn t whole near leads p × ((c : ℕ) → HandedOn t whole near leads c → Under near c p → ⊥)
+
+pub record AreTopHanded (t : ℕ) (whole : List PastEvent) (near : List (List ℕ)) (leads kept : List ℕ) : Type 0 where
+  pub exactly : (p : ℕ) → In p kept ↔ IsTopHanded t whole near leads p
+  pub falling : Falling kept
 
 -- p is marked; the marks begin at `low`
 abbrev pub IsReached : List Bool → ℕ → ℕ → Type 0
@@ -28,8 +37,8 @@ IsReached reached low p = (low ≤ p) × (slice_get reached (p - low) ≡ Some t
 pub record Climbed (near : List (List ℕ)) (cs : List ℕ) (low high index : ℕ) (reached : List Bool) (kept : List ℕ) : Type 0 where
   pub count : low + length reached ≡ high
   pub sound : (p : ℕ) → IsReached reached low p → (c : ℕ) × In c cs × Under near c p
-  pub onward : (q p : ℕ) (places : List ℕ) → index ≤ q → In q cs ⊎ IsReached reached low q
-  → slice_get near q ≡ Some places → In p places → low ≤ p → IsReached reached low p
+  pub onward : (q p : ℕ) (places : List ℕ) → index ≤ q → In q cs ⊎ IsReached reached low q →
+      slice_get near q ≡ Some places → In p places → low ≤ p → IsReached reached low p
   pub chosen : (p : ℕ) → In p kept ↔ ((index ≤ p) × IsTop near cs p)
   pub falling : Falling kept
 
@@ -38,6 +47,6 @@ pub record IsPassed (causes cs : List ℕ) (low place : ℕ) (reached : List Boo
   pub below : Bool
   pub below_is : (below ≡ true) ↔ IsReached reached low place
   pub size : length new_reached ≡ length reached
-  pub reached : (p : ℕ) → IsReached new_reached low p
-  ↔ (IsReached reached low p ⊎ (((is_in place cs || below) ≡ true) × (low ≤ p) × In p causes))
-  pub kept : new_kept ≡ cond (is_in place cs && not below) (kept ++ place ∷ []) kept
+  pub marked : (p : ℕ) → IsReached new_reached low p ↔
+      (IsReached reached low p ⊎ (((is_in place cs || below) ≡ true) × (low ≤ p) × In p causes))
+  pub is_kept : new_kept ≡ cond (is_in place cs && not below) (kept ++ place ∷ []) kept

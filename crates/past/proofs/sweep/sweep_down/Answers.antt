@@ -1,8 +1,10 @@
-use Rattle.std.proofs.Common.{◌≡◌, ◌∙◌, ℕ, suc, ◌+◌, ◌-◌, ◌<◌, ◌++◌, ◌∷◌, [], List, length, Some, Bool, refl, sym, ap, subst, arith, length-set}
+use Rattle.std.proofs.Common.{◌≡◌, ◌∙◌, ℕ, suc, ◌+◌, ◌-◌, ◌<◌, ◌++◌, ◌∷◌, [], ◌⊎◌, ◌↔◌, List, length, Some, Bool, true, refl, sym, ap, subst, arith, length-set}
 use Rattle.std.specs.Prelude.{slice_get, slice_set}
 use Rattle.std.proofs.lemmas.Option.{slice_get-get_or, slice_get_within}
+use Rattle.syntax.specs.Lists.{In}
 use Rattle.runs.specs.Live.{Live}
 use Rattle.dependence.proofs.public.ListPlaces.{at-within}
+use Rattle.dependence.specs.internal.Marking.{MarkedAt}
 use Rattle.past.specs.declared.past.PastEvent.{PastEvent}
 use Rattle.past.specs.internal.Swept.{ListsDown, MarkedFrom}
 use Rattle.past.proofs.Sweeping.{marked-first, listed-first, pass-marked, pass-unmarked, listed-more, listed-same}
@@ -24,11 +26,16 @@ loop-index-init c =
           (listed-first 0 c.is_sound.ensures.rising.0 l c.args.ticket first at.0 c.is_sound.ensures.rising.1 at.1));
     }
 
-pub event_at-event-requires : goal.event_at-event-requires
-event_at-event-requires c = let upto = c.loop-index.invariant.within in omega arith
+pub event_at-requires : goal.event_at-requires
+event_at-requires c = let upto = c.loop-index.invariant.within in omega arith
 
-pub loop-index-preserved-then-marks-index : goal.loop-index-preserved-then-marks-index
-loop-index-preserved-then-marks-index c =
+pub mark_all-requires-clause-live : goal.mark_all-requires-clause-live
+mark_all-requires-clause-live c = λ t i.
+    let f = (c.in_ok-event.ensures.2.exactly t).0 (subst (λ (ts : List ℕ). In t ts) c.as_slice.ensures i) in
+    (f.dependent.event, f.dependent.live)
+
+pub loop-index-preserved-in-Continue-branch-2 : goal.loop-index-preserved-in-Continue-branch-2
+loop-index-preserved-in-Continue-branch-2 c =
     let l : Live = c.args.live.now.live in
     let p : ℕ = c.loop-index.index - 1 in
     let upto = c.loop-index.invariant.within in
@@ -45,7 +52,8 @@ loop-index-preserved-then-marks-index c =
     record {
       within = omega arith;
       marked = pass-marked 0 c.is_sound.ensures.rising.0 l c.args.ticket p one.ticket made.1.event c.loop-index.marks c.mark_all.new.marks
-          c.is_sound.ensures.rising.1 stands before one.causes on made.2 c.mark_all.ensures;
+          c.is_sound.ensures.rising.1 stands before one.causes on made.2
+          (subst (λ (ts : List ℕ). (u : ℕ) → MarkedAt l c.mark_all.new.marks u ↔ (MarkedAt l c.loop-index.marks u ⊎ In u ts)) c.as_slice.ensures c.mark_all.ensures);
       listed = subst (λ (es : List PastEvent). ListsDown l c.args.ticket p es) (sym c.in_ok-push.ensures.items)
           (listed-more 0 c.is_sound.ensures.rising.0 l c.args.ticket p one.ticket made.1.event c.loop-index.marks c.loop-index.events.items
           c.is_sound.ensures.rising.1 stands before down one refl on made.1 made.2);
