@@ -74,8 +74,8 @@ fn take_one(counts: &mut Vec<usize>, index: usize) -> bool
     left == 0
 }
 
-/// Counts the action of this number no more for those that wait for it, and puts those into `todo` that wait for none any
-/// more.
+/// Counts the action of this number no more for those that wait for it, and puts those into `todo` that wait for none
+/// any more.
 fn lower(
     edges: &UseTable,
     number: usize,
@@ -98,8 +98,8 @@ fn lower(
     Ok(())
 }
 
-/// Takes the marks of all away that stand beside the action of this number, and counts them no more. Those that wait for
-/// none any more are put into `todo`.
+/// Takes the marks of all away that stand beside the action of this number, and counts them no more. Those that wait
+/// for none any more are put into `todo`.
 pub(crate) fn loosen(
     edges: &UseTable,
     beside: &UseTable,
