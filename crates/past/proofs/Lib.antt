@@ -1,5 +1,6 @@
 mod Climbing
 mod Nearest
+mod Reading
 mod Sweeping
 mod Telling
 mod Values

@@ -128,7 +128,7 @@ abbrev pub noted_at : Option (ℕ × Event) → Values → Values
 noted_at None values = values
 noted_at (Some x) values = noted x.1 values
 
--- those that are told have a line each. What one of them read was written by one before it that is told too, if at all
+-- those that are told have a line each, with the values behind those before it (`Laws.antt`: as they were read)
 abbrev pub past_lines : System → Live → List PastEvent → Values → List ℕ
 past_lines system live [] values = []
 past_lines system live (p ∷ told) values =

@@ -2,11 +2,13 @@
 //! direct causes.
 #![tactic(auto)]
 
+mod laws;
 mod past;
 mod sweep;
 mod text;
 mod told;
 mod topmost;
 
+pub use laws::values_are_told_as_read;
 pub use past::{Past, PastEvent, past_of_event, past_of_variable};
 pub use text::write_past;
