@@ -9,7 +9,8 @@ use Rattle.questions.specs.Asking.{IsAnswered}
 use Rattle.questions.specs.declared.why.Why.{Why}
 use Rattle.trace_file.specs.Loading.{ticketed}
 use Rattle.picture_drawing.specs.Asked.{IsMissing, IsThere}
-use Rattle.picture.specs.Pictures.{IsPictured, asked_event}
+use Rattle.picture.specs.Pictures.{asked_event}
+use Rattle.picture.proofs.public.Shown.{IsPictured}
 use Rattle.picture.specs.declared.Drawing.{Drawing as Form}
 use Rattle.picture.specs.declared.Pictured.{Pictured}
 use Rattle.command_words.specs.declared.form.Drawing.{Drawing}

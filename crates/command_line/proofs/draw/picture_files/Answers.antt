@@ -1,6 +1,6 @@
 use Rattle.std.proofs.Common.{ℕ, List, inl, inr, subst}
 use Rattle.debug_session.specs.Wrapping.{of_trace}
-use Rattle.picture.specs.Pictures.{IsPictured}
+use Rattle.picture.proofs.public.Shown.{IsPictured, shown}
 use Rattle.trace_file.specs.Loading as trace
 use Rattle.command_line.proofs.AnsweringLemmas.{picture-answered, trace-refused}
 use Rattle.command_line.proofs.Handing.{refused}
@@ -40,5 +40,7 @@ returns g c =
     c.read_trace.new.texts.trace.items c.in_ok-pictured.pictured c.told_picture.result c.in_ok-checked.ensures
     c.in_ok-read_trace.ensures
     (subst (λ (t : List ℕ). IsPictured c.in_ok-checked.checked t c.form_of.result c.in_ok-pictured.pictured)
-    c.as_slice-2.ensures.value c.in_ok-pictured.ensures)
+    c.as_slice-2.ensures.value
+    (shown c.in_ok-checked.checked c.as_slice-2.result.now _ c.form_of.result c.in_ok-pictured.pictured
+    c.in_ok-pictured.ensures))
     c.form_of.ensures c.told_picture.ensures
