@@ -1,10 +1,10 @@
 -- Tables of who waits for whom, and of who stands at one place.
-use Rattle.std.proofs.Common.{◌≡◌, ◌⊎◌, inl, inr, ℕ, ◌+◌, ◌<◌, ◌≤◌, List, [], ◌∷◌, ◌++◌, take, drop, length, true, Option, Some, None, option_map, slice_get, refl, sym, ◌∙◌, ap, ap₂, subst, arith, length-append, take-append-drop}
-use Rattle.std.proofs.lemmas.Bool.{cases_eq, cases_lt}
+use Rattle.std.proofs.Common.{◌≡◌, ◌⊎◌, inl, inr, ℕ, ◌+◌, ◌<◌, ◌≤◌, List, [], ◌∷◌, ◌++◌, take, drop, length, true, Option, Some, None, option_map, slice_get, refl, sym, ◌∙◌, ap, ap₂, subst, arith, length-append, take-append-drop, false, ◌&&◌, true≢false, Bool}
+use Rattle.std.proofs.lemmas.Bool.{and_from, and_parts, cases_eq, cases_lt}
 use Rattle.std.proofs.lemmas.List.{take_all, take_at}
 use Rattle.std.proofs.lemmas.Option.{slice_get_within}
 use Rattle.std.specs.Prelude.{◌↔◌}
-use Rattle.last_events.specs.LastEvents.{Uses}
+use Rattle.last_events.specs.LastEvents.{LastUse, Uses}
 use Rattle.last_events.specs.declared.uses.UseTable.{UseTable}
 use Rattle.runs.proofs.public.Options.{none-some, some-injective}
 use Rattle.runs.specs.Moves.{Place}
@@ -15,9 +15,12 @@ use Rattle.local_actions.specs.declared.action.LocalAction.{LocalAction}
 use Rattle.rings.specs.declared.partner.Partner.{Partner}
 use Rattle.rings.specs.declared.partner.Partner.TheVariants as partner
 use Rattle.rings.specs.declared.place_uses.PlaceUses.{PlaceUses}
-use Rattle.rings.specs.internal.Search.{behind_at, place_at, same_at, same_places}
-use Rattle.rings.specs.internal.Standing.{AtOrAbove, HasActions, HasBeside, HasEdges, HasWaiters, LastAt, Sound, StandsAt}
+use Rattle.rings.specs.declared.ring.Seen.{Seen}
+use Rattle.rings.specs.internal.Loosened.{is_marked}
+use Rattle.rings.specs.internal.Search.{NextOpen, behind_at, comes_behind, is_open, may_wait, place_at, same_at, same_places, waits}
+use Rattle.rings.specs.internal.Standing.{AtOrAbove, HasActions, HasBeside, HasEdges, HasNexts, HasWaiters, LastAt, Sound, StandsAt}
 use Rattle.rings.proofs.PlaceRows.{PutMore}
+use Rattle.rings.proofs.Places.{waits_may}
 
 -- ---- at each place the numbers of those of a list that are there
 -- those before index n
@@ -318,3 +321,128 @@ all-beside table standing xs n limit all size has h j i = (
           at = e;
           there = (has x.place i).1 (ap (option_map (λ (z : LocalAction). z.place)) f ∙ ap (λ (b : Place). Some b) (sym one));
         }
+
+-- ---- rows that are turned round
+abbrev pub Turned : UseTable → UseTable → ℕ → (ℕ → Type 0) → Type 0
+Turned old new number P = (i j : ℕ) → Uses new i j ↔ (Uses old i j ⊎ ((j ≡ number) × P i))
+
+-- those in the row of a number, from another one on
+abbrev pub InRowFrom : UseTable → ℕ → ℕ → ℕ → ℕ → Type 0
+InRowFrom edges number limit below i = (below ≤ i) × (i < limit) × Uses edges number i
+
+pub turned-none : (edges old : UseTable) (number limit : ℕ) → Turned old old number (InRowFrom edges number limit limit)
+turned-none edges old number limit i j = (
+  λ u. inl u,
+  λ h. elim h [ inl u ↦ u | inr v ↦ let up : limit ≤ i = v.1.0 in let less : i < limit = v.1.1 in absurd (omega (arith, up, less)) ],
+)
+
+pub turned-more : (edges old mid new : UseTable) (limit below found row turn number : ℕ) → LastUse edges row below found → below ≤ limit → row ≡ number → turn ≡ found
+    → Turned old mid number (InRowFrom edges number limit below) → ((x t : ℕ) → Uses new x t ↔ (Uses mid x t ⊎ ((x ≡ turn) × (t ≡ number))))
+    → Turned old new number (InRowFrom edges number limit found)
+turned-more edges old mid new limit below found row turn number last upto is same h put i j = (
+  λ u. elim ((put i j).0 u) [
+    | inl v ↦ elim ((h i j).0 v) [
+      | inl w ↦ inl w
+      | inr w ↦ let up : below ≤ i = w.1.0 in inr (w.0, (omega (arith, under, up), w.1.1, w.1.2))
+    ]
+    | inr v ↦
+        let e : i ≡ found = v.0 ∙ same in
+        inr (v.1, (omega (arith, e), omega (arith, e, under, upto), subst (λ (k : ℕ). Uses edges number k) (sym e) (subst (λ (k : ℕ). Uses edges k found) is last.uses)))
+  ],
+  λ g. (put i j).1 (elim g [
+    | inl w ↦ inl ((h i j).1 (inl w))
+    | inr w ↦ elim (cases_lt i below) [
+      | inl less ↦
+          let up : found ≤ i = w.1.0 in
+          let down : i ≤ found = last.last i (subst (λ (k : ℕ). Uses edges k i) (sym is) w.1.2) less in
+          inr (omega (arith, up, down, same), w.0)
+      | inr more ↦ inl ((h i j).1 (inr (w.0, (more, w.1.1, w.1.2))))
+    ]
+  ]),
+)
+  where
+    under : found < below
+    under = last.less
+
+pub turned-all : (edges old new : UseTable) (limit below row number : ℕ) → row ≡ number → ((i : ℕ) → Uses edges row i → i < below → ⊥)
+    → Turned old new number (InRowFrom edges number limit below) → Turned old new number (λ (i : ℕ). (i < limit) × Uses edges number i)
+turned-all edges old new limit below row number is none h i j = (
+  λ u. elim ((h i j).0 u) [ inl v ↦ inl v | inr v ↦ inr (v.0, (v.1.1, v.1.2)) ],
+  λ g. (h i j).1 (elim g [
+    | inl v ↦ inl v
+    | inr v ↦ inr (v.0, (elim (cases_lt i below) [ inl less ↦ absurd (none i (subst (λ (k : ℕ). Uses edges k i) (sym is) v.1.1) less) | inr more ↦ more ], v.1.0, v.1.1))
+  ]),
+)
+
+-- the rows of those before index n are
+abbrev pub TurnedBelow : UseTable → UseTable → ℕ → ℕ → Type 0
+TurnedBelow edges nexts limit n = (i j : ℕ) → Uses nexts i j ↔ ((j < n) × ((i < limit) × Uses edges j i))
+
+pub below-none : (edges nexts : UseTable) (limit : ℕ) → ((i j : ℕ) → Uses nexts i j → ⊥) → TurnedBelow edges nexts limit 0
+below-none edges nexts limit none i j = (λ u. absurd (none i j u), λ u. let less : j < 0 = u.0 in absurd (omega (arith, less)))
+
+pub below-more : (edges old new : UseTable) (limit n : ℕ) → TurnedBelow edges old limit n → Turned old new n (λ (i : ℕ). (i < limit) × Uses edges n i) → TurnedBelow edges new limit (n + 1)
+below-more edges old new limit n h more i j = (
+  λ u. elim ((more i j).0 u) [
+    | inl v ↦ let w = (h i j).0 v in let less : j < n = w.0 in (omega (arith, less), w.1)
+    | inr v ↦ let same : j ≡ n = v.0 in (omega (arith, same), (v.1.0, subst (λ (k : ℕ). Uses edges k i) (sym same) v.1.1))
+  ],
+  λ u.
+      let less : j < n + 1 = u.0 in
+      elim (cases_eq j n) [
+        | inl same ↦ (more i j).1 (inr (same, (u.1.0, subst (λ (k : ℕ). Uses edges k i) same u.1.1)))
+        | inr apart ↦ (more i j).1 (inl ((h i j).1 (omega (arith, less, apart), u.1)))
+      ],
+)
+
+behind-within : (xs : List LocalAction) (ps : List Partner) (i j : ℕ) → behind_at (slice_get ps i) (slice_get xs j) ≡ true → (i < length ps) × (j < length xs)
+behind-within xs ps i j h = pick (slice_get ps i) (slice_get xs j) refl refl h
+  where
+    pick : (q : Option Partner) (o : Option LocalAction) → slice_get ps i ≡ q → slice_get xs j ≡ o → behind_at q o ≡ true → (i < length ps) × (j < length xs)
+    pick None o e f g = cc
+    pick (Some p) None e f g = cc
+    pick (Some p) (Some x) e f g = (slice_get_within ps i p e, slice_get_within xs j x f)
+
+pub all-nexts : (edges nexts : UseTable) (xs : List LocalAction) (ps : List Partner) (n limit : ℕ) → length xs ≤ n → limit ≡ length ps → HasEdges edges xs ps
+    → TurnedBelow edges nexts limit n → HasNexts nexts xs ps
+all-nexts edges nexts xs ps n limit all size has h i j = (
+  λ u. (has j i).0 ((h i j).0 u).1.1,
+  λ e.
+      let both = behind-within xs ps i j e in
+      let one : i < length ps = both.0 in
+      let two : j < length xs = both.1 in
+      (h i j).1 (omega (arith, two, all), (omega (arith, one, size), (has j i).1 e)),
+)
+
+-- ---- one for which an action waits, and at which the search is not done
+module _ (nexts : UseTable) (xs : List LocalAction) (ps : List Partner) (marks : List Bool) (seen : List Seen) (top : ℕ) (has : HasNexts nexts xs ps) (size : length seen ≡ length xs) where
+  pub next-some : (next : ℕ) → may_wait ps marks top ≡ true → Uses nexts top next → is_open (slice_get seen next) ≡ true → NextOpen (length xs) (waits xs ps marks) seen top (Some next)
+  next-some next may u more =
+      let goes : behind_at (slice_get ps top) (slice_get xs next) ≡ true = (has top next).0 u in (
+        (behind-within xs ps top next goes).1,
+        and_from (is_marked (slice_get marks top)) (behind_at (slice_get ps top) (slice_get xs next))
+            (and_parts (is_marked (slice_get marks top)) (comes_behind (slice_get ps top)) may).0 goes,
+        more,
+      )
+
+  pub next-not : may_wait ps marks top ≡ false → NextOpen (length xs) (waits xs ps marks) seen top None
+  next-not off j less w = absurd (true≢false (sym (waits_may xs ps marks top j w) ∙ off))
+
+  pub next-none : ((j : ℕ) → j < length seen → Uses nexts top j → is_open (slice_get seen j) ≡ false) → NextOpen (length xs) (waits xs ps marks) seen top None
+  next-none none j less w =
+      none j (omega (arith, less, size))
+      ((has top j).1 (and_parts (is_marked (slice_get marks top)) (behind_at (slice_get ps top) (slice_get xs j)) w).1)
+
+-- those from a number on are done
+pub done-more : (nexts : UseTable) (seen : List Seen) (top below found : ℕ) → LastUse nexts top below found → is_open (slice_get seen found) ≡ false
+    → ((j : ℕ) → below ≤ j → j < length seen → Uses nexts top j → is_open (slice_get seen j) ≡ false)
+    → (j : ℕ) → found ≤ j → j < length seen → Uses nexts top j → is_open (slice_get seen j) ≡ false
+done-more nexts seen top below found last off h j up less u = elim (cases_lt j below) [
+  | inl under ↦ let down : j ≤ found = last.last j u under in let same : j ≡ found = omega (arith, up, down) in ap (λ (k : ℕ). is_open (slice_get seen k)) same ∙ off
+  | inr over ↦ h j over less u
+]
+
+pub done-all : (nexts : UseTable) (seen : List Seen) (top below : ℕ) → ((j : ℕ) → Uses nexts top j → j < below → ⊥)
+    → ((j : ℕ) → below ≤ j → j < length seen → Uses nexts top j → is_open (slice_get seen j) ≡ false)
+    → (j : ℕ) → j < length seen → Uses nexts top j → is_open (slice_get seen j) ≡ false
+done-all nexts seen top below none h j less u = elim (cases_lt j below) [ inl under ↦ absurd (none j u under) | inr over ↦ h j over less u ]

@@ -2,7 +2,7 @@
 ghost use Rattle.std.specs.Prelude.{◌≡◌, ◌⊎◌, ◌↔◌, ◌<◌, ℕ, Some, IfOk, OnOk, length};
 ghost use Rattle.runs.specs.Moves.{Place};
 ghost use Rattle.last_events.specs.LastEvents.{Uses};
-ghost use Rattle.rings.specs.internal.Standing.{AtOrAbove, HasActions, HasBeside, HasEdges, HasWaiters, LastAt, Sound, StandsAt};
+ghost use Rattle.rings.specs.internal.Standing.{AtOrAbove, HasActions, HasBeside, HasEdges, HasNexts, HasWaiters, LastAt, Sound, StandsAt};
 ghost use Rattle.rings.specs.declared.partner.Partner.TheVariants as any_partner;
 
 use crate::partner::Partner;
@@ -34,6 +34,48 @@ pub(crate) fn edges_of(
         )?;
     }
     Ok(edges)
+}
+
+/// For each action the numbers of those for whose places it waits.
+pub(crate) fn nexts_of(
+    alloc: Global,
+    actions: &[LocalAction],
+    partners: &[Partner],
+) -> Result<UseTable, AllocError>
+    ensures { IfOk result (λ nexts. HasNexts nexts actions.now partners.now) }
+{
+    let edges = edges_of(alloc, actions, partners)?;
+    turned(alloc, &edges, partners.len() as u64, actions.len())
+}
+
+/// The rows of so many numbers, turned round: in the row of each number less than `limit` those in whose rows it stands.
+fn turned(alloc: Global, edges: &UseTable, limit: u64, count: usize) -> Result<UseTable, AllocError>
+    ensures { IfOk result (λ nexts. (i j : ℕ) → Uses nexts i j ↔ ((j < count) × ((i < limit) × Uses edges.now j i))) }
+{
+    let mut nexts = UseTable::new(alloc);
+    for number in 0..count {
+        turn_row(edges, limit, number as u64, &mut nexts)?;
+    }
+    Ok(nexts)
+}
+
+/// Adds this number to the rows of those, less than `limit`, that stand in its own row.
+fn turn_row(
+    edges: &UseTable,
+    limit: u64,
+    number: u64,
+    nexts: &mut UseTable,
+) -> Result<(), AllocError>
+    ensures { OnOk result ((i j : ℕ) → Uses nexts.new i j ↔
+        (Uses nexts.old i j ⊎ ((j ≡ number) × ((i < limit) × Uses edges.now number i)))) }
+{
+    let row = small(number)?;
+    let mut below = limit;
+    'rows: while let Some(found) = edges.last(row, below) {
+        nexts.put(small(found)?, number)?;
+        below = found;
+    }
+    Ok(())
 }
 
 /// For each action the numbers of those that stand at its place.

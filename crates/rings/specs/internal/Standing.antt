@@ -52,6 +52,10 @@ HasActions table xs = (a : Place) (i : ℕ) → StandsAt table a i ↔ (place_at
 abbrev pub HasEdges : UseTable → List LocalAction → List Partner → Type 0
 HasEdges table xs ps = (j i : ℕ) → Uses table j i ↔ (behind_at (slice_get ps i) (slice_get xs j) ≡ true)
 
+-- in the row of action i stand those for whose places it waits
+abbrev pub HasNexts : UseTable → List LocalAction → List Partner → Type 0
+HasNexts table xs ps = (i j : ℕ) → Uses table i j ↔ (behind_at (slice_get ps i) (slice_get xs j) ≡ true)
+
 -- in the row of action j stand those at its place
 abbrev pub HasBeside : UseTable → List LocalAction → Type 0
 HasBeside table xs = (j i : ℕ) → Uses table j i ↔ (same_at xs j i ≡ true)
