@@ -1,7 +1,7 @@
 -- How a shell begins, and how it ends.
 use Rattle.std.proofs.Common.{◌≡◌, inr, ℕ, List, Option, Some, Ok, Err, ap, subst, sym}
 use Rattle.std.specs.Prelude.{MatchResult}
-use Rattle.shell.specs.Files.{Files}
+use Rattle.shell_files.specs.Files.{Files}
 use Rattle.shell.specs.Taken.{SessionEnds}
 use Rattle.command_line.specs.Answering.{Holding, TextsHad}
 use Rattle.command_line.specs.Shells.{StartHad, StartRefused, TraceHad, TraceNotHad}

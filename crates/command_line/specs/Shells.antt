@@ -2,7 +2,7 @@
 use Rattle.std.specs.Prelude.{◌≡◌, ◌⊎◌, ℕ, List, Option, Some, None, Err, ⊤}
 use Rattle.debug_session.specs.Accepting.{IsRefused}
 use Rattle.debug_session.specs.declared.fault.Fault.{Fault}
-use Rattle.shell.specs.Files.{Files}
+use Rattle.shell_files.specs.Files.{Files}
 use Rattle.shell.specs.Taken.{SessionEnds}
 use Rattle.command_line.specs.Answering.{Holding, NotHad, TextsHad, TextsNotHad}
 use Rattle.command_line.specs.Used.{Outcome, ReaderBlamed, Used, IsUntouched, WriterBlamed, bytes_before, bytes_behind}

@@ -10,7 +10,7 @@ use Rattle.shell_desk.specs.AtBench.{AtBench}
 use Rattle.shell_desk.specs.Laws.{EachDeedIsCommands, of_session}
 use Rattle.shell_desk.specs.declared.deed.Deed.{Deed}
 use Rattle.shell.specs.Laws.{IsOrLoaded, LinesAreCommands}
-use Rattle.shell.specs.Files.{Files}
+use Rattle.shell_files.specs.Files.{Files}
 use Rattle.shell.specs.Lines.{LineLeaves, LinesLeave}
 use Rattle.shell.specs.declared.answer.Outcome.{Outcome}
 

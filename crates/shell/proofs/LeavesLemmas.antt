@@ -25,7 +25,7 @@ use Rattle.shell_desk.specs.declared.word.Word.{Word}
 use Rattle.shell_desk.specs.declared.word.Word.TheVariants.{R, N, Run, Next, Undo, Back, Why, Waiting, Outline, Vars, List as ListWord, Show, Save, SaveOver, Load, Script, ScriptOver, Help, Quit}
 use Rattle.shell.specs.Asking.{GoesOnWith, IsWordWith, LineAsks, ShellAsks, TextAsks, deed_of}
 use Rattle.shell.specs.Beginning.{BeginsAt}
-use Rattle.shell.specs.Files.{Files}
+use Rattle.shell_files.specs.Files.{Files}
 use Rattle.shell.specs.Lines.{AnsweredAsNumber, AnsweredAsScript, AnsweredAsStep, AnsweredAsTidied, AnsweredAsTyped, IsNewOrOver, Leaves, LineLeaves, SaidAsScript, line_count}
 use Rattle.shell.specs.internal.Parts.{AsksNoDeedAtAll, Begun, IsNewUnless, LoadsTrace, Quits, RestsWith, SavesTrace, TakesNumber, WordMeans, WordsAsk, WritesFile, is_want}
 use Rattle.shell.specs.declared.answer.Outcome.{Outcome}

@@ -15,7 +15,7 @@ use Rattle.shell_desk.specs.AtBench.{AtBench}
 use Rattle.shell_desk.specs.Tidied.{tidied}
 use Rattle.shell_desk.specs.declared.word.Word.TheVariants.{Quit}
 use Rattle.shell.specs.Asking.{IsWordWith}
-use Rattle.shell.specs.Files.{Files}
+use Rattle.shell_files.specs.Files.{Files}
 use Rattle.shell.specs.Lines.{AnsweredAsTyped, LineLeaves, LinesLeave}
 use Rattle.shell.specs.Taken.{EndsAt, Finished, IsPrompt, IsStop, LinesShown, Shown, Stopped, TellsLack}
 use Rattle.shell.specs.internal.Next.{Answers, Ended, FinishedOn, GoesOn, NextEnds, OneShown, OwnShown, TakenEnds}

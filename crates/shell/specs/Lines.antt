@@ -18,7 +18,7 @@ use Rattle.shell_desk.specs.declared.word.Word.{Word}
 use Rattle.shell_desk.specs.declared.word.Word.TheVariants.{Load, Quit, Save, SaveOver, Script, ScriptOver}
 use Rattle.shell.specs.Asking.{LineAsks, IsWordWith}
 use Rattle.shell.specs.Beginning.{BeginsAt}
-use Rattle.shell.specs.Files.{Files}
+use Rattle.shell_files.specs.Files.{Files}
 use Rattle.shell.specs.declared.answer.Outcome.{Outcome}
 
 -- how many lines have an end in the text

@@ -12,7 +12,7 @@ use Rattle.shell_desk.specs.Tidied.{tidied}
 use Rattle.shell_desk.specs.declared.word.Word.TheVariants.{Quit}
 use Rattle.shell.specs.Asking.{IsWordWith}
 use Rattle.shell.specs.Beginning.{BeginsAt, RefusesToBegin}
-use Rattle.shell.specs.Files.{Files}
+use Rattle.shell_files.specs.Files.{Files}
 use Rattle.shell.specs.Lines.{AnsweredAsTyped, IsLastIfOver, LineLeaves, LinesLeave}
 use Rattle.shell.specs.declared.answer.Outcome.{Outcome}
 

@@ -7,7 +7,7 @@ use Rattle.debug_session.specs.Script.{IsLine, with_end}
 use Rattle.debug_session.specs.declared.fault.Fault.{Fault}
 use Rattle.debug_session.specs.declared.fault.Fault.TheVariants.{WriteFailed}
 use Rattle.shell_desk.specs.AtBench.{AtBench}
-use Rattle.shell.specs.Files.{Files}
+use Rattle.shell_files.specs.Files.{Files}
 use Rattle.shell.specs.Lines.{AnsweredAsTyped, LineLeaves}
 use Rattle.shell.specs.Taken.{Finished, Shown, Stopped, TellsLack}
 use Rattle.shell.specs.declared.answer.Outcome.{Outcome}

@@ -13,7 +13,7 @@ use Rattle.shell_desk.specs.AtBench.{AtBench}
 use Rattle.shell_desk.specs.Does.{Does, TurnsTo}
 use Rattle.shell.specs.Asking.{GoesOnWith, WordAsks}
 use Rattle.shell.specs.Beginning.{BeginsAt}
-use Rattle.shell.specs.Files.{Files}
+use Rattle.shell_files.specs.Files.{Files}
 use Rattle.shell.specs.Lines.{IsNew, IsSaved, line_count}
 use Rattle.shell.specs.declared.answer.Outcome.{Outcome}
 
