@@ -40,6 +40,10 @@ comes-line files source stimulus b m line Outcome.Unread each h =
     comes-still source stimulus b.desk m.desk (ap (λ (x : AtBench). x.desk) h)
 comes-line files source stimulus b m line Outcome.Saved each h =
     comes-still source stimulus b.desk m.desk (ap (λ (x : AtBench). x.desk) h.0)
+comes-line files source stimulus b m line Outcome.NotSaved each h =
+    comes-still source stimulus b.desk m.desk (ap (λ (x : AtBench). x.desk) h.0)
+comes-line files source stimulus b m line Outcome.NotScripted each h =
+    comes-still source stimulus b.desk m.desk (ap (λ (x : AtBench). x.desk) h.0)
 comes-line files source stimulus b m line Outcome.Scripted each h =
     comes-still source stimulus b.desk m.desk (ap (λ (x : AtBench). x.desk) h.0)
 comes-line files source stimulus b m line Outcome.Loaded each (name, text, is, held, (machine, of, turns)) =
