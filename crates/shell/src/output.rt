@@ -33,11 +33,7 @@ pub(crate) fn write_answer<W: Write>(out: &mut Counted<W>, answer: Answer) -> Re
 }
 
 /// Writes words, and before them what is said first of a line that became this.
-fn write_headed<W: Write>(
-    out: &mut Counted<W>,
-    outcome: Outcome,
-    words: Text,
-) -> Result<(), Fault>
+fn write_headed<W: Write>(out: &mut Counted<W>, outcome: Outcome, words: Text) -> Result<(), Fault>
     ensures bytes { MatchResult result
         (λ _. HeadedOn outcome (W.contents (device out.old)) (W.contents (device out.new)))
         (λ fault. fault ≡ WriteFailed) }

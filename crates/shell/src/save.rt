@@ -112,15 +112,7 @@ fn write_file<H: Host>(
         × (over ≡ false → (H.files host.now).free name.now)) }
 {
     match host.write(alloc, name, bytes, over) {
-        Ok(()) => spoken(
-            alloc,
-            done,
-            written_text(alloc, name, bytes.len() as u64),
-        ),
-        Err(fault) => spoken(
-            alloc,
-            not_done,
-            file_fault_text(alloc, name, fault, word),
-        ),
+        Ok(()) => spoken(alloc, done, written_text(alloc, name, bytes.len() as u64)),
+        Err(fault) => spoken(alloc, not_done, file_fault_text(alloc, name, fault, word)),
     }
 }
