@@ -14,11 +14,7 @@ use Rattle.shell_desk.specs.declared.word.Word.TheVariants.{Quit}
 use Rattle.shell.specs.Asking.{IsWordWith}
 use Rattle.shell.specs.Beginning.{BeginsAt, RefusesToBegin}
 use Rattle.shell_files.specs.Files.{Files}
-<<<<<<< HEAD
-use Rattle.shell.specs.Lines.{AnsweredAsTyped, IsLastIfOver, LineLeaves, LinesLeave}
-=======
 use Rattle.shell.specs.Lines.{AnsweredAsTyped, IsLastIfOver, LineLeaves, LinesLeave, MayGoUnread}
->>>>>>> 0ce87473 (shell: what is told of files follows from what was done; files in a crate of their own)
 use Rattle.shell.specs.declared.answer.Outcome.{Outcome}
 
 -- before a line stands a prompt at a terminal, else nothing

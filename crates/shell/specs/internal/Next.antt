@@ -8,13 +8,8 @@ use Rattle.debug_session.specs.declared.fault.Fault.{Fault}
 use Rattle.debug_session.specs.declared.fault.Fault.TheVariants.{WriteFailed}
 use Rattle.shell_desk.specs.AtBench.{AtBench}
 use Rattle.shell_files.specs.Files.{Files}
-<<<<<<< HEAD
-use Rattle.shell.specs.Lines.{AnsweredAsTyped, LineLeaves}
-use Rattle.shell.specs.Taken.{Finished, Shown, Stopped, TellsLack}
-=======
 use Rattle.shell.specs.Lines.{LineLeaves}
 use Rattle.shell.specs.Taken.{Finished, Shown, StandsFirst, Stopped, TellsLost, TellsUnread, head_of}
->>>>>>> 0ce87473 (shell: what is told of files follows from what was done; files in a crate of their own)
 use Rattle.shell.specs.declared.answer.Outcome.{Outcome}
 
 -- one line was taken with its end, done and shown, and did not end the session
