@@ -179,7 +179,7 @@ impl Session {
     }
 
     /// Answers a word in words alone.
-    pub(crate) fn answer_question(&self, setting: &Setting<'_>, word: Word, rest: &[u8]) -> Answer
+    fn answer_question(&self, setting: &Setting<'_>, word: Word, rest: &[u8]) -> Answer
         ensures { result.outcome ≡ outcomes.Done }
     {
         let words = question_text(&self.scene(setting), word, rest);
