@@ -336,10 +336,15 @@ may-be-step checked line fault r e t (inl h) = h.1
 may-be-step checked line fault r e t (inr h) =
     let same : true ≡ false = sym t ∙ (e ∙ ap is_want h.0) in absurd (false≢true (sym same))
 
+-- a line that became this was read
+is_read : Outcome → Bool
+is_read Outcome.Unread = false
+is_read _ = true
+
 -- what is done was read
 pub done-read : (outcome : Outcome) → outcome ≡ Outcome.Done → outcome ≡ Outcome.Unread → ⊥
 done-read outcome done unread =
-    let same : Outcome.Done ≡ Outcome.Unread = sym done ∙ unread in absurd (cc)
+    let same : true ≡ false = ap is_read (sym done ∙ unread) in absurd (false≢true (sym same))
 
 -- and it is not empty
 pub not-empty : (checked : System) (line : List ℕ) (fault : Fault) → (fault ≡ Fault.Memory → ⊥) → Unsaid checked line fault → line ≢ []

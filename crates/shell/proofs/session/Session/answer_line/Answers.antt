@@ -33,8 +33,8 @@ returns-else-is_want-clause-own g c =
 pub returns-in-Ok-clause-unread : goal.returns-in-Ok-clause-unread
 returns-in-Ok-clause-unread g c unread = absurd (done-read c.answer_script.result.outcome c.answer_script.ensures.outcome unread)
 
-pub returns-if-is_want-clause-unread : goal.returns-if-is_want-clause-unread
-returns-if-is_want-clause-unread g c unread =
+pub returns-then-is_want-clause-unread : goal.returns-if-is_want-clause-unread
+returns-then-is_want-clause-unread g c unread =
     inl (may-be-step c.checked-checked.result.now c.args.line.now c.in-Err.fault c.is_want.result c.is_want.ensures
     c.if-is_want.true c.in-Err.ensures.fault)
 
