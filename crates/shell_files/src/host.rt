@@ -2,7 +2,7 @@
 //! line.
 
 ghost use Rattle.std.specs.Prelude.{◌≡◌, IfOk, OnOk, false, ⊤};
-ghost use Rattle.shell.specs.Files.{Files};
+ghost use Rattle.shell_files.specs.Files.{Files};
 
 use std::alloc::Global;
 use std::fs::{File, Permissions};
