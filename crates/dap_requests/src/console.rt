@@ -420,7 +420,6 @@ fn show(alloc: Global, bytes: Result<Vec<u8>, AllocError>, answer: &mut Answer)
 }
 
 /// Asks the desk, and answers as a script is answered. Where something has changed, this is told behind.
-#[tactic(auto, using(crate::proofs::Lines::does_one))]
 fn ask(
     alloc: Global,
     desk: &mut Desk,
