@@ -23,11 +23,7 @@ pub struct Question<'a> {
 }
 
 /// Shows the page of a refusal.
-pub fn show_page<O: Write>(
-    alloc: Global,
-    page: &Page,
-    out: &mut Counted<O>,
-) -> Result<(), Fault>
+pub fn show_page<O: Write>(alloc: Global, page: &Page, out: &mut Counted<O>) -> Result<(), Fault>
     ensures { Answers (λ _. Unit {0}) PageRefuses (used O.contents out.old out.new) result }
 {
     let text = page_text(alloc, page)?;
@@ -67,11 +63,7 @@ pub fn waiting_files<F: Files, O: Write>(
 }
 
 /// Writes the lines that tell why. Where it cannot be told the lines that say so are put into `said`.
-fn tell_why<O: Write>(
-    why: Why,
-    said: &mut Vec<u8>,
-    out: &mut Counted<O>,
-) -> Result<(), Fault>
+fn tell_why<O: Write>(why: Why, said: &mut Vec<u8>, out: &mut Counted<O>) -> Result<(), Fault>
     ensures { TellsWhy why (used O.contents out.old out.new) result }
 {
     match why {
