@@ -1,5 +1,5 @@
 -- What a run has on its way to the answer to a request.
-use Rattle.std.specs.Prelude.{◌≡◌, ◌⊎◌, ℕ, List, [], Option, Some, Err}
+use Rattle.std.specs.Prelude.{◌≡◌, ◌⊎◌, ℕ, List, [], Some, Err}
 use Rattle.system.specs.declared.system.System.{System}
 use Rattle.runs.specs.declared.command.Refusal.TheVariants.{NoSuchEvent}
 use Rattle.debug_session.specs.Accepting.{AcceptedAs}
