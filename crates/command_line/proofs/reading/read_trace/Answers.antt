@@ -1,5 +1,5 @@
 use Rattle.command_line.proofs.Handing.{refused}
-use Rattle.command_line.proofs.shells.keep_steps.Goals as goal
+use Rattle.command_line.proofs.reading.read_trace.Goals as goal
 
 pub returns-in_err-steps : goal.returns-in_err-steps
 returns-in_err-steps g c =

@@ -1,6 +1,6 @@
 use Rattle.std.proofs.Common.{inl, inr}
 use Rattle.command_line.proofs.Handing.{refused}
-use Rattle.command_line.proofs.answer.read_texts.Goals as goal
+use Rattle.command_line.proofs.reading.read_texts.Goals as goal
 
 pub returns-in_err-read_source : goal.returns-in_err-read_source
 returns-in_err-read_source g c =

@@ -1,5 +1,5 @@
 use Rattle.command_line.proofs.Handing.{refused}
-use Rattle.command_line.proofs.answer.read_source.Goals as goal
+use Rattle.command_line.proofs.reading.read_source.Goals as goal
 
 pub returns-in_err-source : goal.returns-in_err-source
 returns-in_err-source g c =
