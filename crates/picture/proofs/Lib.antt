@@ -1,3 +1,3 @@
 pub mod public
-mod Drawn
+mod Showing
 mod Written

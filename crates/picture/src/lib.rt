@@ -136,7 +136,7 @@ fn drawn(
 }
 
 /// The drawing.
-#[tactic(auto, using(crate::proofs::Drawn::tells_missing))]
+#[tactic(auto, using(crate::proofs::Showing::tells_missing))]
 fn sheet_of(
     alloc: Global,
     machine: &Machine,

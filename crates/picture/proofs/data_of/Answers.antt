@@ -1,5 +1,5 @@
 use Rattle.picture.specs.Pictures.{files_of}
-use Rattle.picture.proofs.Drawn.{are-data}
+use Rattle.picture.proofs.Showing.{are-data}
 use Rattle.picture.proofs.data_of.Goals as goal
 
 pub returns : goal.returns

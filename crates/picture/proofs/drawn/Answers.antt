@@ -1,7 +1,7 @@
 use Rattle.std.proofs.Common.{IfOk, subst, sym}
 use Rattle.picture.specs.Pictures.{IsPictureOf, files_of}
 use Rattle.picture.specs.declared.Drawing.{Drawing}
-use Rattle.picture.proofs.Drawn.{sheet}
+use Rattle.picture.proofs.Showing.{sheet}
 use Rattle.picture.proofs.drawn.Goals as goal
 
 pub returns-in-Sheet : goal.returns-in-Sheet

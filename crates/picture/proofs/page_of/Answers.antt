@@ -1,5 +1,5 @@
 use Rattle.picture.specs.Pictures.{files_of}
-use Rattle.picture.proofs.Drawn.{is-page}
+use Rattle.picture.proofs.Showing.{is-page}
 use Rattle.picture.proofs.page_of.Goals as goal
 
 pub returns : goal.returns

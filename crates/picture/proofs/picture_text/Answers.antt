@@ -1,5 +1,5 @@
 use Rattle.trace_file.specs.declared.fault.Fault.TheVariants.{Memory}
-use Rattle.picture.proofs.Drawn.{refused}
+use Rattle.picture.proofs.Showing.{refused}
 use Rattle.picture.proofs.picture_text.Goals as goal
 
 pub returns-in_err-machine : goal.returns-in_err-machine
