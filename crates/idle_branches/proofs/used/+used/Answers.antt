@@ -16,11 +16,6 @@ use Rattle.idle_branches.specs.internal.Gathering.{Adds, FitsAll, FitsArm, FitsE
 use Rattle.idle_branches.proofs.GatherLemmas.{all-done, all-on, here-of, two-done, two-on, adds-both, adds-cons, adds-map, adds-nothing, arms-fit, choose-fits, on-ok, parallel-fits, sequence-fits}
 use Rattle.idle_branches.proofs.used.+used.Goals as goal
 
-pub add_command-returns-in-Send : goal.add_command-returns-in-Send
-add_command-returns-in-Send t c =
-    let is : residual_of c.args.command.now ≡ residual.send c.in-Send.channel.number c.in-Send.field-1 (expression_of c.in-Send.field-2) = search (rules, the_lemmas) in
-    subst (λ (r : Residual). OnOk c.add_offer.result (Adds c.args.branch c.args.used.now (λ u. Fits u r) c.add_offer.new.self)) (sym is) c.add_offer.ensures
-
 pub add_command-returns-in-Receive : goal.add_command-returns-in-Receive
 add_command-returns-in-Receive t c =
     let is : residual_of c.args.command.now ≡ residual.receive c.in-Receive.channel.number c.in-Receive.field-1.number = search (rules, the_lemmas) in
@@ -29,7 +24,7 @@ add_command-returns-in-Receive t c =
 pub add_command-returns-in-Sync : goal.add_command-returns-in-Sync
 add_command-returns-in-Sync t c =
     let is : residual_of c.args.command.now ≡ residual.sync c.in-Sync.channel.number = search (rules, the_lemmas) in
-    subst (λ (r : Residual). OnOk c.add_sync.result (Adds c.args.branch c.args.used.now (λ u. Fits u r) c.add_sync.new.self)) (sym is) c.add_sync.ensures
+    subst (λ (r : Residual). OnOk c.add_act-in-Sync.result (Adds c.args.branch c.args.used.now (λ u. Fits u r) c.add_act-in-Sync.new.self)) (sym is) c.add_act-in-Sync.ensures
 
 pub add_command-returns-in-Loop : goal.add_command-returns-in-Loop
 add_command-returns-in-Loop t c =

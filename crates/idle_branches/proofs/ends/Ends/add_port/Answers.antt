@@ -1,10 +1,10 @@
+use Rattle.std.proofs.Common.{refl}
 use Rattle.system.specs.Translation.{branch_of}
-use Rattle.idle_branches.proofs.GatherLemmas.{on-ok, part-added}
+use Rattle.idle_branches.specs.declared.ends.Ends.{Ends}
+use Rattle.idle_branches.proofs.GatherLemmas.{part-added}
 use Rattle.idle_branches.proofs.ends.Ends.add_port.Goals as goal
 
 pub returns : goal.returns
 returns c =
-    on-ok c.end_branch.result
-    (λ more. part-added c.args.self.now c.end_branch.new.self c.in_ok-number.number c.add_port.new.self (branch_of c.args.port.now)
-    c.in_ok-number.ensures c.in_ok-add_port.ensures more c.end_branch.ensures.acting)
-    c.end_branch.ensures.offers
+    part-added c.args.self.now (record { count = c.in_ok-number.number + 1; used = c.add_port.new.self }) c.in_ok-number.number
+    (branch_of c.args.port.now) c.in_ok-number.ensures refl c.in_ok-add_port.ensures
