@@ -1,5 +1,5 @@
 -- What a state offers behind a place.
-use Rattle.std.proofs.Common.{◌≡◌, ◌⊎◌, inl, inr, ℕ, ◌+◌, ◌<◌, List, [], ◌∷◌, ◌++◌, Bool, true, false, Option, Some, None, refl, sym, ap, ◌∙◌, subst, arith}
+use Rattle.std.proofs.Common.{◌≡◌, ◌⊎◌, inl, inr, ℕ, ◌+◌, ◌<◌, List, [], ◌∷◌, ◌++◌, Bool, true, false, not, IsTrue, MatchBool, ◌↔◌, Option, Some, None, refl, sym, ap, ◌∙◌, subst, arith}
 use Rattle.std.proofs.lemmas.Bool.{cases_order}
 use Rattle.std.proofs.lemmas.List.{append_assoc, append-nil}
 use Rattle.address.specs.Places.{Before, Apart}
@@ -137,8 +137,7 @@ module _ (S : State) (formed : WellFormed S.residual) where
 
   -- all that is offered in p
   pub all-found : (p : Place) (n : ℕ) (found : List LocalAction) (y : LocalAction) → In y found
-      → ((x : LocalAction) → (In x found → Offered S x × Under p x.place) × (Offered S x × Under p x.place → In x found))
-      → HasBehind S (p ++ Ordered n ∷ []) found
+      → ((x : LocalAction) → In x found ↔ (Offered S x × Under p x.place)) → HasBehind S (p ++ Ordered n ∷ []) found
   all-found p n found y among exactly z offered before =
       let one = (exactly y).0 among in
       let later = later-only p n y z one.0 one.1 offered before in
@@ -146,8 +145,7 @@ module _ (S : State) (formed : WellFormed S.residual) where
 
   -- or nothing
   pub goes-on : (p : Place) (n : ℕ) (found : List LocalAction) → found ≡ []
-      → ((x : LocalAction) → (In x found → Offered S x × Under p x.place) × (Offered S x × Under p x.place → In x found))
-      → PastEntry S p (Ordered n) None
+      → ((x : LocalAction) → In x found ↔ (Offered S x × Under p x.place)) → PastEntry S p (Ordered n) None
   goes-on p n found none exactly z offered before = elim (past-ordered p z.place n before) [
     | inl above ↦ above
     | inr later ↦ absurd (subst (λ (xs : List LocalAction). In z xs) none
@@ -162,6 +160,46 @@ branch-passed S p k z offered before = past-branch p z.place k before
 pub some-in : {X : Type 0} (xs : List X) → (xs ≡ [] → ⊥) → (x : X) × In x xs
 some-in [] some = absurd (some refl)
 some-in (x ∷ xs) some = (x, inl refl)
+
+-- whether a list is empty
+none-there : {X : Type 0} (xs : List X) (b : Bool) → IsTrue b ↔ (xs ≡ []) → b ≡ true → xs ≡ []
+none-there xs b is on = is.0 on
+
+some-there : {X : Type 0} (xs : List X) (b : Bool) → IsTrue b ↔ (xs ≡ []) → b ≡ false → (x : X) × In x xs
+some-there xs b is off = some-in xs (λ none. true-false b (is.1 none) off)
+  where
+    true-false : (t : Bool) → t ≡ true → t ≡ false → ⊥
+    true-false t one other = cc
+
+-- exactly what is offered at the place and below it
+abbrev pub AreUnder : State → Place → List LocalAction → Type 0
+AreUnder S p found = (x : LocalAction) → In x found ↔ (Offered S x × Under p x.place)
+
+pub found-under : (S : State) (p : Place) (e : Entry) (found : List LocalAction) (b : Bool) → IsTrue b ↔ (found ≡ [])
+    → AreUnder S (p ++ e ∷ []) found → MatchBool (not b) (OffersUnder S p) (Unit {0})
+found-under S p e found true is exactly = tt
+found-under S p e found false is exactly =
+    let some = some-there found false is refl in
+    let one = (exactly some.0).0 some.1 in (some.0, one.0, under-parent p e some.0.place one.1)
+
+pub next-ends : (S : State) (p : Place) (n : ℕ) (found : List LocalAction) (b : Bool) → IsTrue b ↔ (found ≡ []) → b ≡ false
+    → AreOfOneChild S p found → WellFormed S.residual → PastEntry S p (Ordered n) (Some found)
+next-ends S p n found b is off are formed =
+    let some = some-there found b is off in next-found S formed p n found some.0 some.1 are
+
+pub all-ends : (S : State) (p : Place) (n : ℕ) (found : List LocalAction) (b : Bool) → IsTrue b ↔ (found ≡ []) → b ≡ false
+    → AreUnder S p found → WellFormed S.residual → PastEntry S p (Ordered n) (Some found)
+all-ends S p n found b is off exactly formed =
+    let some = some-there found b is off in all-found S formed p n found some.0 some.1 exactly
+
+pub none-ends : (S : State) (p : Place) (n : ℕ) (found : List LocalAction) (b : Bool) → IsTrue b ↔ (found ≡ []) → b ≡ true
+    → AreUnder S p found → WellFormed S.residual → PastEntry S p (Ordered n) None
+none-ends S p n found b is on exactly formed = goes-on S formed p n found (none-there found b is on) exactly
+
+pub beside-ends : (S : State) (p : Place) (n : ℕ) (b : Bool) → MatchBool b (OffersInChild S p n) (Unit {0}) → b ≡ true
+    → WellFormed S.residual → PastEntry S p (Ordered n) (Some [])
+beside-ends S p n true found on formed = none-found S formed p n found
+beside-ends S p n false found on formed = cc
 
 -- ---- entry by entry
 -- what comes behind the whole place comes behind this beginning of it

@@ -30,7 +30,7 @@ pub fn offers_behind(
 {
     let mut rest = place;
     let mut branch = None;
-    while let [parent @ .., last] = rest {
+    'entries: while let Some((last, parent)) = rest.split_last() {
         if let Some(found) = offers_past(alloc, tree, store, parent, *last, branch)? {
             return Ok(found);
         }

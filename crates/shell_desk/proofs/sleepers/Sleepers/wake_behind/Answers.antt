@@ -1,4 +1,4 @@
-use Rattle.std.proofs.Common.{subst}
+use Rattle.std.proofs.Common.{◌∙◌, subst}
 use Rattle.system.specs.declared.system.System.{System}
 use Rattle.idle_branches.specs.Idle.{TouchesNoShared}
 use Rattle.shell_desk.proofs.DeedLemmas.{told-false}
@@ -14,4 +14,5 @@ pub returns-else-touches_shared : goal.returns-else-touches_shared
 returns-else-touches_shared c =
     wakes-event c.args.ends.now c.args.machine.now c.args.event.now c.args.self.now.asleep.items c.wake_at.new.self.asleep.items
     c.wake_second.new.self.asleep.items c.wake_at.ensures c.wake_second.ensures
-    (told-false _ c.touches_shared.result c.touches_shared.ensures c.if-touches_shared.false)
+    (subst (λ (s : System). TouchesNoShared s c.args.event.now) (c.system.ensures ∙ c.checked.ensures)
+    (told-false _ c.touches_shared.result c.touches_shared.ensures c.if-touches_shared.false))
