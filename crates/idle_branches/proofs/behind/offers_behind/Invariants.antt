@@ -7,9 +7,9 @@ use Rattle.idle_branches.proofs.BehindLemmas.{ComesBehind}
 use Rattle.idle_branches.proofs.behind.offers_behind.Given as goal
 
 -- what comes behind the whole place comes behind what is left of it
-abbrev pub invariant-loop-entries : goal.invariant-loop-entries
-invariant-loop-entries l =
+abbrev pub invariant-entries : goal.invariant-loop-entries
+invariant-entries l =
     Tidy (tree_view l.tree) → WellFormed (state_of l.tree l.store).residual → ComesBehind (state_of l.tree l.store) l.place l.rest
 
-abbrev pub decreases-loop-entries : goal.decreases-loop-entries
-decreases-loop-entries l = length l.rest
+abbrev pub decreases-entries : goal.decreases-loop-entries
+decreases-entries l = length l.rest
