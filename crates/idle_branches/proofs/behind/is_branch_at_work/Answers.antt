@@ -1,4 +1,4 @@
-use Rattle.std.proofs.Common.{List, ◌∷◌, [], ◌++◌, ap, sym, subst, ◌∙◌}
+use Rattle.std.proofs.Common.{subst, ◌∙◌}
 use Rattle.address.specs.declared.Entry.TheVariants.{Branch}
 use Rattle.runs.specs.Moves.{Place}
 use Rattle.local_actions.specs.View.{state_of}

@@ -1,7 +1,6 @@
 -- What is added for a command fits what it is to do.
-use Rattle.std.proofs.Common.{◌≡◌, ℕ, Option, ◌+◌, ◌<◌, ◌≤◌, ◌∙◌, ap, [], ◌∷◌, List, length, map, drop, OnOk, refl, sym, subst, arith, rules}
+use Rattle.std.proofs.Common.{◌≡◌, ℕ, Option, ◌<◌, ◌≤◌, ap, [], ◌∷◌, List, length, map, OnOk, sym, subst, arith, rules}
 use Rattle.std.specs.Option.{option_map}
-use Rattle.syntax.specs.Lists.{Every}
 use Rattle.system.specs.declared.command.Action.TheFolds.{the_lemmas}
 use Rattle.system.specs.declared.command.Arm.{Arm}
 use Rattle.system.specs.declared.command.Command.{Command}
@@ -13,7 +12,7 @@ use Rattle.system.specs.Translation.{expression_of, residual_of, in_sequence, in
 use Rattle.system.specs.internal.ArmParts.{guarded_of, labelled_of, arm_of}
 use Rattle.idle_branches.specs.internal.Known.{Acts, Fits}
 use Rattle.idle_branches.specs.internal.Gathering.{Adds, FitsAll, FitsArm, FitsEachArm, FitsLast}
-use Rattle.idle_branches.proofs.GatherLemmas.{all-done, all-on, here-of, two-done, two-on, adds-both, adds-cons, adds-map, adds-nothing, arms-fit, choose-fits, on-ok, parallel-fits, sequence-fits}
+use Rattle.idle_branches.proofs.GatherLemmas.{all-done, all-on, here-of, two-done, two-on, adds-both, adds-map, arms-fit, choose-fits, on-ok, parallel-fits, sequence-fits}
 use Rattle.idle_branches.proofs.used.+used.Goals as goal
 
 pub add_command-returns-in-Receive : goal.add_command-returns-in-Receive

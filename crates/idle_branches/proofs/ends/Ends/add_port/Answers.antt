@@ -1,6 +1,5 @@
 use Rattle.std.proofs.Common.{ℕ, ◌+◌, ap}
 use Rattle.system.specs.Translation.{branch_of}
-use Rattle.idle_branches.specs.declared.ends.Ends.{Ends}
 use Rattle.idle_branches.proofs.GatherLemmas.{part-added}
 use Rattle.idle_branches.proofs.ends.Ends.add_port.Goals as goal
 
