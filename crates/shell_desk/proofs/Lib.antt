@@ -1,7 +1,6 @@
 mod AgainLemmas
 mod AwakeLemmas
 mod DeedLemmas
-mod NumberLemmas
 mod RestLemmas
 mod SleepLemmas
 mod TidyLemmas

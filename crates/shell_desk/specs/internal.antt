@@ -1,4 +1,3 @@
 pub mod Again
-pub mod Numbering
 pub mod Sleeping
 pub mod Spelled
