@@ -229,6 +229,15 @@ class Facts:
         """The indexes of the events on which this one depends, but for itself."""
         return [one for one in range(at) if at in self.consequences(one)]
 
+    def values_behind(self, indexes: list[int]) -> list[int]:
+        """The values of the variables where these events are taken, and no others."""
+        system = accept(self.case.source, self.case.stimulus)
+        events = [entry.event for entry in load(system, self.case.trace).live]
+        machine = Machine(system)
+        for at in indexes:
+            machine.step(events[at].acting, events[at].arm)
+        return [machine.value(one) for one in system.variables]
+
     def cone_sizes(self, at: int) -> tuple[int, int]:
         """How many causes the event has, and how many consequences."""
         return len(self.causes(at)), len(self.consequences(at))

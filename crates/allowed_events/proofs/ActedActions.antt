@@ -59,7 +59,7 @@ syncs-on x c is b a y e h = partner y (ap (λ (z : ActionKind). met b z a y) (sy
 
 -- ---- the events of one action
 -- alone
-in-alone : (o : Option Event) (e : Event) → In e (those o []) → o ≡ Some e
+pub in-alone : (o : Option Event) (e : Event) → In e (those o []) → o ≡ Some e
 in-alone o e i = elim (those-in o e [] i) [ inl u ↦ u | inr u ↦ absurd u ]
 
 pub acted-alone : (S : State) (x : LocalAction) (old new : List Event) (made : Option Event) → made ≡ solo x.place x.action → new ≡ old ++ those made [] → ((b a : Place) (y : ActionKind) → met b x.action a y ≡ None)
@@ -152,7 +152,7 @@ acted-allowed S Q found acting_actions es w exactly same made e i =
     ]
 
 -- all of those are there whose acting action passes it
-acted-all : (S : State) (Q : LocalAction → Type 0) (found acting_actions : List LocalAction) (es : List Event) → WellFormed S.residual → ((x : LocalAction) → In x found ↔ (Offered S x × Q x)) → acting_actions ≡ found
+pub acted-all : (S : State) (Q : LocalAction → Type 0) (found acting_actions : List LocalAction) (es : List Event) → WellFormed S.residual → ((x : LocalAction) → In x found ↔ (Offered S x × Q x)) → acting_actions ≡ found
     → ((e : Event) → In e es ↔ ActedByOne S acting_actions e) → (e : Event) → Allowed S e → ((x : LocalAction) → acting e ≡ x.place → Q x) → In e es
 acted-all S Q found acting_actions es w exactly same made e a passes = (made e).1 (acts (by_actions S e w a))
   where

@@ -1,4 +1,5 @@
 mod ActedActions
+mod ByChannel
 mod Entries
 mod FirstChosen
 mod FromActions

@@ -1,4 +1,5 @@
 pub mod Acting
+pub mod Among
 pub mod Choosing
 pub mod Meeting
 pub mod Sorting

@@ -86,7 +86,7 @@ fn add_met(
 }
 
 /// Adds the event, if there is one.
-fn add(made: Option<Event>, events: &mut Items<Event>) -> Result<(), AllocError>
+pub(crate) fn add(made: Option<Event>, events: &mut Items<Event>) -> Result<(), AllocError>
     ensures { OnOk result (events.new ≡ events.old ++ those made []) }
 {
     match made {
@@ -96,7 +96,7 @@ fn add(made: Option<Event>, events: &mut Items<Event>) -> Result<(), AllocError>
 }
 
 /// The channel on which the action looks for another, if it acts with one.
-fn channel_of(action: &ActionKind) -> Option<u32>
+pub(crate) fn channel_of(action: &ActionKind) -> Option<u32>
     ensures { MatchOption result ((b a : Place) (y : any_action.ActionKind) → model.met b action.now a y ≡ None)
         (λ c. (b a : Place) (y : any_action.ActionKind) (e : any.Event) → model.met b action.now a y ≡ Some e →
         is_on c y ≡ true) }

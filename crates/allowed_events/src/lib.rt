@@ -2,10 +2,12 @@
 #![tactic(auto)]
 
 mod acting_events;
+mod among;
 mod choose;
 mod meet;
 mod order;
 mod ready;
 
+pub use among::events_among;
 pub use choose::{event_with, first_with};
 pub use ready::{in_order, ready_below, ready_events};

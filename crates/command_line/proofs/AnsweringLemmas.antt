@@ -1,7 +1,8 @@
 -- How what the libraries give becomes the answer to a request, or the reason why there is none.
-use Rattle.std.proofs.Common.{◌≡◌, inl, inr, ℕ, List, Option, Some, Result, Ok, Err, subst}
+use Rattle.std.proofs.Common.{◌≡◌, inl, inr, ℕ, List, [], Option, Some, Result, Ok, Err, refl, subst}
 use Rattle.std.specs.Prelude.{IfOk, IfErr, MatchResult}
 use Rattle.system.specs.declared.system.System.{System}
+use Rattle.runs.specs.declared.command.Refusal.TheVariants.{NoSuchEvent}
 use Rattle.trace_file.specs.Loading as trace_text
 use Rattle.trace_file.specs.declared.fault.Fault.{Fault as TraceFault}
 use Rattle.trace_file.specs.declared.fault.Fault.TheVariants as not_loaded
@@ -9,7 +10,8 @@ use Rattle.questions.specs.Asking.{IsAnswered}
 use Rattle.questions.specs.declared.why.Why.{Why}
 use Rattle.trace_file.specs.Loading.{ticketed}
 use Rattle.picture_drawing.specs.Asked.{IsMissing, IsThere}
-use Rattle.picture.specs.Pictures.{IsPictured, asked_event}
+use Rattle.picture.specs.Pictures.{asked_event}
+use Rattle.picture.proofs.public.Shown.{IsPictured}
 use Rattle.picture.specs.declared.Drawing.{Drawing as Form}
 use Rattle.picture.specs.declared.Pictured.{Pictured}
 use Rattle.command_words.specs.declared.form.Drawing.{Drawing}
@@ -18,13 +20,14 @@ use Rattle.debug_session.specs.Wrapping.{of_trace}
 use Rattle.debug_session.specs.Accepting.{AcceptedAs, IsRefused}
 use Rattle.debug_session.specs.Transcript.{Debugged}
 use Rattle.debug_session.specs.declared.fault.Fault.{Fault}
-use Rattle.command_line.specs.Answering.{Holding, TextsHad, FilesGive, FilesRefuse, WhyGives, WhyRefuses}
+use Rattle.debug_session.specs.declared.fault.Fault.TheVariants.{Refused}
+use Rattle.command_line.specs.Answering.{Holding, TextsHad, FilesGive, FilesRefuse, CheckRefuses, ReplayRefuses}
+use Rattle.command_line.specs.Answering.{WhyGives, WhyRefuses}
 use Rattle.command_line.specs.Drawing.{PictureGives, PictureRefuses, marked_step}
 use Rattle.command_line.specs.Serving.{Answers, DebugsFiles}
-use Rattle.command_line.specs.Used.{Outcome, Used, IsUntouched, ReaderBlamed, WriterBlamed, Tells}
+use Rattle.command_line.specs.Used.{Outcome, Used, IsUntouched, ReaderBlamed, WriterBlamed}
 use Rattle.command_line.specs.Used.{bytes_before, bytes_behind}
-use Rattle.command_line.specs.declared.answer.Answer.{Answer}
-use Rattle.command_line.specs.internal.Answers.{AnswersPictureOf, AnswersWhyOf, answer_text}
+use Rattle.command_line.specs.internal.Answers.{RunHad, RunNotHad, SourceGives, TellsPicture, TellsWhy}
 
 -- both texts were had, and make a system or are refused
 pub texts-accepted : (holds : Holding) (file stimulus source values slice text : List ℕ) (r : Result System Fault)
@@ -66,13 +69,27 @@ debug-session holds file stimulus source values slice text reader out done had s
       wrote,
     )
 
--- an answer that was told, or the reason why there is none
-pub answered : {O : Type 0} (gives : List ℕ → Type 0) (refuses : Fault → Type 0) (made : Result Answer Fault)
-    (out : Used O) (done : Outcome) → MatchResult made (λ answer. gives (answer_text answer)) refuses
-    → MatchResult made (λ answer. Tells (answer_text answer) out done) (λ fault. (done ≡ Err fault) × IsUntouched out)
-    → Answers gives refuses out done
-answered gives refuses (Ok answer) out done given told = inr (answer_text answer, given, told)
-answered gives refuses (Err fault) out done given told = inl (fault, given, told.0, told.1)
+-- the text of a description was had, and makes a system or is refused
+pub source-accepted : (holds : Holding) (file source slice : List ℕ) (r : Result System Fault) → holds file (Some source)
+    → slice ≡ source → IfOk r (λ system. AcceptedAs slice [] system) → IfErr r (λ fault. IsRefused slice [] fault)
+    → MatchResult r (SourceGives holds file source) (CheckRefuses holds file)
+source-accepted holds file source slice (Ok system) had same accepted fault =
+    (had, subst (λ (t : List ℕ). AcceptedAs t [] system) same accepted)
+source-accepted holds file source slice (Err given) had same accepted fault =
+    inr (source, had, subst (λ (t : List ℕ). IsRefused t [] given) same fault)
+
+-- where there is no run there is no answer
+pub run-not-had : (holds : Holding) (file stimulus trace : List ℕ) (fault : Fault)
+    → RunNotHad holds file stimulus trace fault → ReplayRefuses holds file stimulus trace fault
+run-not-had holds file stimulus trace fault (inl none) = inl none
+run-not-had holds file stimulus trace fault (inr (system, files, none)) = inr (system, files, inl none)
+
+-- nor where the trace is refused
+pub run-refused : (holds : Holding) (file stimulus trace : List ℕ) (system : System) (text slice : List ℕ) (fault : Fault)
+    → RunHad holds file stimulus trace system text → slice ≡ text → RefusesTrace system slice fault
+    → ReplayRefuses holds file stimulus trace fault
+run-refused holds file stimulus trace system text slice fault had same none =
+    inr (system, had.0, inr (text, had.1, subst (λ (t : List ℕ). RefusesTrace system t fault) same none))
 
 -- a trace that is refused is so for the fault that its fault becomes
 pub trace-refused : (system : System) (text : List ℕ) (fault : TraceFault) → trace_text.IsRefused system text fault
@@ -81,38 +98,28 @@ trace-refused system text not_loaded.Memory h = tt
 trace-refused system text other h = ((λ e. cc), h)
 
 -- the answer to the question why, or the reason why there is none
-pub why-answered : (holds : Holding) (file stimulus trace subject : List ℕ) (system : System) (text : List ℕ) (why : Why)
-    (made : Result Answer Fault) → FilesGive holds file stimulus system → holds trace (Some text)
-    → IsAnswered system text subject why → AnswersWhyOf why made
-    → MatchResult made (λ _. WhyGives holds file stimulus trace subject) (WhyRefuses holds file stimulus trace subject)
-why-answered holds file stimulus trace subject system text (Why.Told lines) (Ok answer) files held answered of =
-    (system, text, answered.0, answered.2.0, files, held, answered.1, answered.2.1)
-why-answered holds file stimulus trace subject system text (Why.Told lines) (Err fault) files held answered of = absurd of
-why-answered holds file stimulus trace subject system text (Why.Refused reason words) (Ok answer) files held answered of =
-    absurd of
-why-answered holds file stimulus trace subject system text (Why.Refused reason words) (Err fault) files held answered of =
-    inr (system, text, answered.0, reason, files, held, answered.1, answered.2, of)
+pub why-answered : {O : Type 0} (holds : Holding) (file stimulus trace subject : List ℕ) (system : System)
+    (text slice : List ℕ) (why : Why) (out : Used O) (done : Outcome) → RunHad holds file stimulus trace system text
+    → slice ≡ text → IsAnswered system slice subject why → TellsWhy why out done
+    → Answers (λ _. WhyGives holds file stimulus trace subject) (WhyRefuses holds file stimulus trace subject) out done
+why-answered holds file stimulus trace subject system text slice (Why.Told lines) out done had same answered told =
+    let of = subst (λ (t : List ℕ). IsAnswered system t subject (Why.Told lines)) same answered in
+    inr (lines.items, (system, text, of.0, of.2.0, had.0, had.1, of.1, of.2.1), told)
+why-answered holds file stimulus trace subject system text slice (Why.Refused reason words) out done had same answered told =
+    let of = subst (λ (t : List ℕ). IsAnswered system t subject (Why.Refused reason words)) same answered in
+    inl (Refused reason, inr (system, text, of.0, reason, had.0, had.1, of.1, of.2, refl), told.0, told.1)
 
 -- a picture, or the reason why there is none
-pub picture-answered : (holds : Holding) (file stimulus trace : List ℕ) (drawing : Drawing) (form : Form) (system : System)
-    (text : List ℕ) (pictured : Pictured) (made : Result Answer Fault) → FilesGive holds file stimulus system
-    → holds trace (Some text) → IsPictured system text form pictured → asked_event form ≡ marked_step drawing
-    → AnswersPictureOf pictured made
-    → MatchResult made (λ _. PictureGives holds file stimulus trace drawing) (PictureRefuses holds file stimulus trace drawing)
-picture-answered holds file stimulus trace drawing form system text (Pictured.Text lines) (Ok answer) files held drawn same of =
-    (system, text, drawn.0, files, held, drawn.1, subst (λ (e : Option ℕ). IsThere (ticketed 1 drawn.0) e) same drawn.2)
-picture-answered holds file stimulus trace drawing form system text (Pictured.Text lines) (Err fault) files held drawn same of =
-    absurd of
-picture-answered holds file stimulus trace drawing form system text (Pictured.NoSuchStep words) (Ok answer) files held drawn same of =
-    absurd of
-picture-answered holds file stimulus trace drawing form system text (Pictured.NoSuchStep words) (Err fault) files held drawn same of =
-    inr (
-      system,
-      text,
-      drawn.0,
-      files,
-      held,
-      drawn.1,
-      subst (λ (e : Option ℕ). IsMissing (ticketed 1 drawn.0) e) same drawn.2,
-      of,
-    )
+pub picture-answered : {O : Type 0} (holds : Holding) (file stimulus trace : List ℕ) (drawing : Drawing) (form : Form)
+    (system : System) (text slice : List ℕ) (pictured : Pictured) (out : Used O) (done : Outcome)
+    → RunHad holds file stimulus trace system text → slice ≡ text → IsPictured system slice form pictured
+    → asked_event form ≡ marked_step drawing → TellsPicture pictured out done
+    → Answers (λ _. PictureGives holds file stimulus trace drawing) (PictureRefuses holds file stimulus trace drawing) out done
+picture-answered holds file stimulus trace drawing form system text slice (Pictured.Text lines) out done had same drawn marked told =
+    let of = subst (λ (t : List ℕ). IsPictured system t form (Pictured.Text lines)) same drawn in
+    let there = subst (λ (e : Option ℕ). IsThere (ticketed 1 of.0) e) marked of.2 in
+    inr (lines.items, (system, text, of.0, had.0, had.1, of.1, there), told)
+picture-answered holds file stimulus trace drawing form system text slice (Pictured.NoSuchStep words) out done had same drawn marked told =
+    let of = subst (λ (t : List ℕ). IsPictured system t form (Pictured.NoSuchStep words)) same drawn in
+    let missing = subst (λ (e : Option ℕ). IsMissing (ticketed 1 of.0) e) marked of.2 in
+    inl (Refused NoSuchEvent, inr (system, text, of.0, had.0, had.1, of.1, missing, refl), told.0, told.1)

@@ -1,7 +1,7 @@
 -- How a shell begins, and how it ends.
-use Rattle.std.proofs.Common.{◌≡◌, inr, ℕ, List, Option, Some, Ok, Err, ap, subst, sym}
+use Rattle.std.proofs.Common.{◌≡◌, inr, ℕ, Bool, List, Option, Some, Ok, Err, ap, subst, sym}
 use Rattle.std.specs.Prelude.{MatchResult}
-use Rattle.shell.specs.Files.{Files}
+use Rattle.shell_files.specs.Files.{Files}
 use Rattle.shell.specs.Taken.{SessionEnds}
 use Rattle.command_line.specs.Answering.{Holding, TextsHad}
 use Rattle.command_line.specs.Shells.{StartHad, StartRefused, TraceHad, TraceNotHad}
@@ -25,11 +25,11 @@ start-had holds file stimulus trace source values kept-source kept-values steps 
     inr (source, values, had, inr none)
 
 -- a session on slices of the texts is one on the texts
-pub session-on : (files : Files) (source values slice text : List ℕ) (trace kept : Option (List ℕ)) (untouched : Type 0)
+pub session-on : (files : Files) (at_terminal : Bool) (source values slice text : List ℕ) (trace kept : Option (List ℕ)) (untouched : Type 0)
     (read left wrote contents : Option (List ℕ)) (done : Outcome) → slice ≡ source → text ≡ values → kept ≡ trace
-    → SessionEnds files slice text kept untouched read left wrote contents done
-    → SessionEnds files source values trace untouched read left wrote contents done
-session-on files source values slice text trace kept untouched read left wrote contents done same alike is ends =
-    subst (λ (t : Option (List ℕ)). SessionEnds files source values t untouched read left wrote contents done) is
-    (subst (λ (t : List ℕ). SessionEnds files source t kept untouched read left wrote contents done) alike
-    (subst (λ (t : List ℕ). SessionEnds files t text kept untouched read left wrote contents done) same ends))
+    → SessionEnds files at_terminal slice text kept untouched read left wrote contents done
+    → SessionEnds files at_terminal source values trace untouched read left wrote contents done
+session-on files at_terminal source values slice text trace kept untouched read left wrote contents done same alike is ends =
+    subst (λ (t : Option (List ℕ)). SessionEnds files at_terminal source values t untouched read left wrote contents done) is
+    (subst (λ (t : List ℕ). SessionEnds files at_terminal source t kept untouched read left wrote contents done) alike
+    (subst (λ (t : List ℕ). SessionEnds files at_terminal t text kept untouched read left wrote contents done) same ends))

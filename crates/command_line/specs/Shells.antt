@@ -1,8 +1,8 @@
 -- What a shell on files does.
-use Rattle.std.specs.Prelude.{◌≡◌, ◌⊎◌, ℕ, List, Option, Some, None, Err, ⊤}
+use Rattle.std.specs.Prelude.{◌≡◌, ◌⊎◌, ℕ, Bool, List, Option, Some, None, Err, ⊤}
 use Rattle.debug_session.specs.Accepting.{IsRefused}
 use Rattle.debug_session.specs.declared.fault.Fault.{Fault}
-use Rattle.shell.specs.Files.{Files}
+use Rattle.shell_files.specs.Files.{Files}
 use Rattle.shell.specs.Taken.{SessionEnds}
 use Rattle.command_line.specs.Answering.{Holding, NotHad, TextsHad, TextsNotHad}
 use Rattle.command_line.specs.Used.{Outcome, ReaderBlamed, Used, IsUntouched, WriterBlamed, bytes_before, bytes_behind}
@@ -38,8 +38,8 @@ StartRefused holds file stimulus trace fault =
 abbrev pub any_files : Files
 any_files = record { holds = λ name bytes. ⊤; free = λ name. ⊤ }
 
--- the shell begins on the texts, and ends as it ends, with 41 or 42 only where a device failed; or they were not had,
--- and nothing is read or written
+-- the shell begins on the texts, at a terminal or not, and ends as it ends, with 41 or 42 only where a device failed; or
+-- they were not had, and nothing is read or written
 abbrev pub ShellsFiles : {I O : Type 0} → Holding → List ℕ → List ℕ → Option (List ℕ) → Used I → Used O → Outcome
     → Type 0
 ShellsFiles holds file stimulus trace reader out done =
@@ -47,6 +47,7 @@ ShellsFiles holds file stimulus trace reader out done =
     × IsUntouched reader × IsUntouched out)
     ⊎ ((source : List ℕ) × (values : List ℕ) × (steps : List ℕ)
     × StartHad holds file stimulus trace source values steps
-    × SessionEnds any_files source values (text_of trace steps) (IsUntouched reader × IsUntouched out)
-    (bytes_before reader) (bytes_behind reader) (bytes_before out) (bytes_behind out) done
+    × ((at_terminal : Bool)
+    × SessionEnds any_files at_terminal source values (text_of trace steps) (IsUntouched reader × IsUntouched out)
+    (bytes_before reader) (bytes_behind reader) (bytes_before out) (bytes_behind out) done)
     × ReaderBlamed reader done × WriterBlamed out done)

@@ -3,20 +3,15 @@
 ghost use Rattle.std.specs.Prelude.{IfErr};
 ghost use Rattle.command_line.specs.Adapter.{IsOfStreams};
 
-use crate::files::Files;
+use crate::files::{Files, Source};
 use debug_session::{Counted, Fault};
 use diagnosis::Unread;
 use editor_session::{Ended, serve};
 use std::alloc::{AllocError, Global};
 use std::io::Write;
 
-/// The files of a run, as an editor names them.
-#[derive(Clone, Copy)]
-struct Named<'a, F> {
-    files: &'a F,
-}
-
-impl<F: Files> editor_session::Files for Named<'_, F> {
+// An editor names files as a request does.
+impl<F: Files> editor_session::Files for Source<'_, F> {
     fn read(&self, alloc: Global, name: &str) -> Result<Option<Vec<u8>>, AllocError> {
         // An editor is told that it cannot be read, and not why.
         let mut why = Unread::Failed;
@@ -40,15 +35,15 @@ fn fault_of(ended: Ended) -> Fault
 }
 
 /// Answers an editor, until it disconnects or standard input is at its end.
-pub fn serve_editor<R: Input + AllocGlobal, F: Files, O: Write>(
+pub fn serve_editor<R: Input, F: Files, O: Write>(
     rt: &R,
-    files: &F,
+    from: &Source<'_, F>,
     out: &mut Counted<O>,
 ) -> Result<(), Fault>
     ensures { IfErr result IsOfStreams }
 {
     let mut reader = rt.reader();
-    match serve(rt.alloc(), &mut reader, out, &Named { files }) {
+    match serve(from.alloc, &mut reader, out, from) {
         Ok(()) => Ok(()),
         Err(ended) => Err(fault_of(ended)),
     }

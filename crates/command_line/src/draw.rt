@@ -1,27 +1,20 @@
 //! The picture of the run that a trace is.
 
-ghost use Rattle.std.specs.Prelude.{◌≡◌, MatchResult};
+ghost use Rattle.std.specs.Prelude.{◌≡◌};
 ghost use Rattle.picture.specs.Pictures.{asked_event};
 ghost use Rattle.command_line.specs.Drawing.{PictureGives, PictureRefuses, marked_step};
-ghost use Rattle.command_line.specs.internal.Answers.{AnswersPictureOf};
+ghost use Rattle.command_line.specs.Serving.{Answers};
+ghost use Rattle.command_line.specs.Used.{used};
+ghost use Rattle.command_line.specs.internal.Answers.{TellsPicture};
 
-use crate::answer::{Answer, read_system, read_trace};
-use crate::files::Files;
-use crate::texts::Texts;
+use crate::files::{Files, Source};
+use crate::reading::read_run;
+use crate::texts::{Names, Texts};
 use command_words::Drawing;
-use debug_session::Fault;
-use picture::{Names, Pictured, picture_text};
+use debug_session::{Counted, Fault, write_out};
+use picture::{Pictured, picture_text};
 use runs::Refusal;
-use std::alloc::Global;
-
-/// A picture of the run of the trace in one of the files of these names.
-#[derive(Clone, Copy)]
-pub struct Drawn<'a> {
-    pub file: &'a str,
-    pub stimulus: &'a str,
-    pub trace: &'a str,
-    pub drawing: Drawing,
-}
+use std::io::Write;
 
 /// What the library calls that picture.
 fn form_of(drawing: Drawing) -> picture::Drawing
@@ -35,12 +28,17 @@ fn form_of(drawing: Drawing) -> picture::Drawing
     }
 }
 
-/// The picture. Where the trace has no step of the number that is asked for the lines that say so are put into `said`.
-fn told_picture(pictured: Pictured, said: &mut Vec<u8>) -> Result<Answer, Fault>
-    ensures { AnswersPictureOf pictured result }
+/// Writes the picture. Where the trace has no step of the number that is asked for the lines that say so are put into
+/// `said`.
+fn tell_picture<O: Write>(
+    pictured: Pictured,
+    said: &mut Vec<u8>,
+    out: &mut Counted<O>,
+) -> Result<(), Fault>
+    ensures { TellsPicture pictured (used O.contents out.old out.new) result }
 {
     match pictured {
-        Pictured::Text(text) => Ok(Answer::Lines(text)),
+        Pictured::Text(text) => write_out(out, text.as_slice()),
         Pictured::NoSuchStep(words) => {
             *said = words;
             Err(Fault::Refused(Refusal::NoSuchEvent))
@@ -48,34 +46,34 @@ fn told_picture(pictured: Pictured, said: &mut Vec<u8>) -> Result<Answer, Fault>
     }
 }
 
-/// The picture.
-pub fn picture_files<F: Files>(
-    alloc: Global,
-    files: &F,
-    asked: &Drawn<'_>,
+/// Draws the run of the trace.
+pub fn picture_files<F: Files, O: Write>(
+    from: &Source<'_, F>,
+    names: &Names<'_>,
+    drawing: Drawing,
     texts: &mut Texts,
-    said: &mut Vec<u8>,
-) -> Result<Answer, Fault>
-    ensures { MatchResult result
-        (λ _. PictureGives (F.holds files.now) asked.now.file.now asked.now.stimulus.now asked.now.trace.now
-        asked.now.drawing)
-        (PictureRefuses (F.holds files.now) asked.now.file.now asked.now.stimulus.now asked.now.trace.now
-        asked.now.drawing) }
+    out: &mut Counted<O>,
+) -> Result<(), Fault>
+    ensures { Answers
+        (λ _. PictureGives (F.holds from.now.files.now) names.now.file.now names.now.stimulus.now names.now.trace.now
+        drawing)
+        (PictureRefuses (F.holds from.now.files.now) names.now.file.now names.now.stimulus.now names.now.trace.now
+        drawing)
+        (used O.contents out.old out.new) result }
 {
-    let checked = read_system(alloc, files, asked.file, asked.stimulus, texts)?;
-    read_trace(alloc, files, asked.trace, texts)?;
-    let names = Names {
-        file: asked.file,
-        stimulus: asked.stimulus,
-        trace: asked.trace,
+    let checked = read_run(from, names, texts)?;
+    let shown = picture::Names {
+        file: names.file,
+        stimulus: names.stimulus,
+        trace: names.trace,
     };
     let pictured = picture_text(
-        alloc,
+        from.alloc,
         checked,
         texts.source.as_slice(),
         texts.trace.as_slice(),
-        names,
-        form_of(asked.drawing),
+        shown,
+        form_of(drawing),
     )?;
-    told_picture(pictured, said)
+    tell_picture(pictured, &mut texts.said, out)
 }

@@ -3,19 +3,11 @@
 ghost use Rattle.std.specs.Prelude.{◌≡◌, [], false};
 ghost use Rattle.command_words.specs.Words.{explains};
 
-use crate::texts::{Part, Texts};
+use crate::texts::{Names, Part, Texts};
 use command_words::Request;
 use debug_session::Fault;
 use diagnosis::{Input, Inputs, UnreadFile, explain};
 use std::alloc::{AllocError, Global};
-
-/// The names of the files of a request. A name that it has not is empty.
-#[derive(Clone, Copy)]
-struct Names<'a> {
-    file: &'a str,
-    stimulus: &'a str,
-    trace: &'a str,
-}
 
 /// The names of the files of a request.
 fn names_of<'a>(request: &Request<'a>) -> Names<'a> {
@@ -88,21 +80,20 @@ fn script_of(alloc: Global, fault: Fault, line: &[u8]) -> Result<Vec<u8>, AllocE
     Ok(script)
 }
 
-/// What is told of the fault of a request. `said` has the last line of a script, or the words that tell of it.
+/// What is told of the fault of a request.
 fn explanation(
     alloc: Global,
     request: &Request<'_>,
     fault: Fault,
     texts: &Texts,
-    said: &[u8],
 ) -> Result<Vec<u8>, AllocError> {
     if let Fault::Refused(_) = fault {
         let mut words = Vec::new(alloc);
-        words.extend_from_slice(said)?;
+        words.extend_from_slice(texts.said.as_slice())?;
         return Ok(words);
     }
     let names = names_of(request);
-    let script = script_of(alloc, fault, said)?;
+    let script = script_of(alloc, fault, texts.said.as_slice())?;
     let inputs = Inputs {
         source: Input {
             name: names.file,
@@ -133,7 +124,6 @@ pub fn words_behind(
     request: &Request<'_>,
     done: Result<(), Fault>,
     texts: &Texts,
-    said: &[u8],
 ) -> Vec<u8>
     ensures { explains request.now ≡ false → result.items ≡ [] }
 {
@@ -143,7 +133,7 @@ pub fn words_behind(
     let Err(fault) = done else {
         return Vec::new(alloc);
     };
-    match explanation(alloc, request, fault, texts, said) {
+    match explanation(alloc, request, fault, texts) {
         Ok(words) => words,
         Err(_) => Vec::new(alloc),
     }

@@ -23,6 +23,13 @@ pub trait Files {
             (λ fault. NotHad (holds self.now name.now) fault) };
 }
 
+/// The files that a request may name, and the memory that keeps what they hold.
+#[derive(Clone, Copy)]
+pub struct Source<'a, F> {
+    pub alloc: Global,
+    pub files: &'a F,
+}
+
 /// The files of the system.
 #[derive(Clone, Copy)]
 pub struct Disk<'a, R> {

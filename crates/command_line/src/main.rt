@@ -9,6 +9,7 @@ mod files;
 mod output;
 mod program;
 mod question;
+mod reading;
 mod shells;
 mod texts;
 

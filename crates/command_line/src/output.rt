@@ -1,15 +1,13 @@
-//! What is written on a device: the answer to a request, and the one line by which a run that ends early says why.
+//! Lines with numbers: what a crew did, and the one line by which a run that ends early says why.
 //!
-//! Both are written piece by piece and without memory, which may be what is wanting.
+//! They are written piece by piece and without memory, which may be what is wanting.
 
-ghost use Rattle.std.specs.Prelude.{◌≡◌, ◌++◌, Err, MatchResult, decimal};
+ghost use Rattle.std.specs.Prelude.{◌++◌, decimal};
 ghost use Rattle.debug_session.specs.ReplyText.{ending};
 ghost use Rattle.command_line.specs.FaultLine.{fault_line, refused_text};
 ghost use Rattle.command_line.specs.Used.{Tells, used};
 ghost use Rattle.command_line.specs.Working.{work_text};
-ghost use Rattle.command_line.specs.internal.Answers.{answer_text};
 
-use crate::answer::Answer;
 use debug_session::{Counted, Fault, write_out};
 use itoa::Buffer;
 use locked_execution::Tally;
@@ -46,24 +44,11 @@ fn write_around<W: Write>(
 }
 
 /// Tells how many turns were steps and how many events are live, a line each.
-fn tell_tally<O: Write>(done: Tally, out: &mut Counted<O>) -> Result<(), Fault>
+pub fn tell_tally<O: Write>(done: Tally, out: &mut Counted<O>) -> Result<(), Fault>
     ensures { Tells (work_text done.stepped done.live) (used O.contents out.old out.new) result }
 {
     write_around(out, b"stepped ", done.stepped, b"\n")?;
     write_around(out, b"live ", done.live, b"\n")
-}
-
-/// Writes the answer to a request, where there is one.
-pub fn tell<O: Write>(made: Result<Answer, Fault>, out: &mut Counted<O>) -> Result<(), Fault>
-    ensures { MatchResult made
-        (λ answer. Tells (answer_text answer) (used O.contents out.old out.new) result)
-        (λ fault. (result ≡ Err fault) × (out.new ≡ out.old)) }
-{
-    match made? {
-        Answer::Accepted => write_out(out, b"accepted\n"),
-        Answer::Lines(lines) => write_out(out, lines.as_slice()),
-        Answer::Worked(done) => tell_tally(done, out),
-    }
 }
 
 /// Writes the number of a refusal, and what stands behind it, as a line.

@@ -9,17 +9,17 @@ ghost use Rattle.command_line.specs.Used.{Outcome, Tells, used};
 ghost use Rattle.command_line.specs.internal.Unasked.{HasText, TellsUnasked};
 
 use crate::adapter::serve_editor;
-use crate::answer::{check, read_texts, replay_files, work_files};
-use crate::draw::{Drawn, picture_files};
+use crate::answer::{check, replay_files, work_files};
+use crate::draw::picture_files;
 use crate::explain::words_behind;
-use crate::files::Files;
-use crate::output::{tell, write_refusal};
+use crate::files::{Files, Source};
+use crate::output::write_refusal;
 use crate::question::{Question, outline_file, show_page, waiting_files, why_files};
+use crate::reading::read_texts;
 use crate::shells::{Start, shell_files};
-use crate::texts::{Part, Texts};
+use crate::texts::{Names, Part, Texts};
 use command_words::{Request, Unasked, requested};
 use debug_session::{Counted, Fault, debug_keeping, write_out};
-use std::alloc::Global;
 use std::convert::AsStr;
 use std::fs;
 use std::io::{BufReader, Eprint, Read, Write};
@@ -27,34 +27,31 @@ use std::sync::Wait;
 use std::thread::Threads;
 use std::time::Clock;
 
-/// Answers a script over the description in `file`. `line` has the last line of it behind.
+/// Answers a script over the description in `file`.
 fn debug_files<F: Files, I: Read, O: Write>(
-    alloc: Global,
-    files: &F,
+    from: &Source<'_, F>,
     file: &str,
     stimulus: &str,
+    texts: &mut Texts,
     reader: &mut Counted<BufReader<I>>,
     out: &mut Counted<O>,
-    texts: &mut Texts,
-    line: &mut Vec<u8>,
 ) -> Result<(), Fault>
-    ensures { DebugsFiles (F.holds files.now) file.now stimulus.now
+    ensures { DebugsFiles (F.holds from.now.files.now) file.now stimulus.now
         (used (reader_remaining I.remaining) reader.old reader.new) (used O.contents out.old out.new) result }
 {
-    read_texts(alloc, files, file, stimulus, texts)?;
+    read_texts(from, file, stimulus, texts)?;
     texts.last = Part::Script;
     debug_keeping(
-        alloc,
+        from.alloc,
         reader,
         out,
         texts.source.as_slice(),
         texts.values.as_slice(),
-        line,
+        &mut texts.said,
     )
 }
 
-/// Does what is asked for with the files that it names. What was read of them is left in `texts`, and in `said` the
-/// last line of a script, or the words that tell of a refusal.
+/// Does what is asked for with the files that it names. What was read of them is left in `texts`.
 fn perform<
     W: fs::Files + Input + Eprint + Clock + AllocGlobal + Threads + Wait + Sync,
     F: Files,
@@ -63,108 +60,92 @@ fn perform<
 >(
     rt: &W,
     request: Request<'_>,
-    files: &F,
+    from: &Source<'_, F>,
+    texts: &mut Texts,
     reader: &mut Counted<BufReader<I>>,
     out: &mut Counted<O>,
-    texts: &mut Texts,
-    said: &mut Vec<u8>,
 ) -> Result<(), Fault>
-    ensures { Serves (F.holds files.now) request.entry
+    ensures { Serves (F.holds from.now.files.now) request.entry
         (used (reader_remaining I.remaining) reader.old reader.new) (used O.contents out.old out.new) result }
 {
-    let alloc = rt.alloc();
     match request {
-        Request::Check { file, .. } => tell(check(alloc, files, file, texts), out),
+        Request::Check { file, .. } => check(from, file, texts, out),
         Request::Debug { file, stimulus, .. } => {
-            debug_files(alloc, files, file, stimulus, reader, out, texts, said)
+            debug_files(from, file, stimulus, texts, reader, out)
         }
         Request::Shell {
             file,
             stimulus,
             trace,
-        } => shell_files(
-            rt,
-            files,
-            &Start {
+        } => {
+            let start = Start {
                 file,
                 stimulus,
                 trace,
-            },
-            reader,
-            out,
-            texts,
-        ),
+            };
+            shell_files(rt, from, &start, texts, reader, out)
+        }
         Request::Replay {
             file,
             stimulus,
             trace,
             ..
-        } => tell(
-            replay_files(alloc, files, file, stimulus, trace, texts),
-            out,
-        ),
+        } => {
+            let names = Names {
+                file,
+                stimulus,
+                trace,
+            };
+            replay_files(from, &names, texts, out)
+        }
         Request::Work {
             file,
             stimulus,
             crew,
             ..
-        } => tell(
-            work_files(rt, alloc, files, file, stimulus, crew, texts),
-            out,
-        ),
-        Request::Explain { page } => tell(show_page(alloc, page), out),
-        Request::Dap => serve_editor(rt, files, out),
-        Request::Outline { file } => tell(outline_file(alloc, files, file, texts), out),
+        } => work_files(rt, from, file, stimulus, crew, texts, out),
+        Request::Explain { page } => show_page(from.alloc, page, out),
+        Request::Dap => serve_editor(rt, from, out),
+        Request::Outline { file } => outline_file(from, file, texts, out),
         Request::Waiting {
             file,
             stimulus,
             trace,
-        } => tell(
-            waiting_files(alloc, files, file, stimulus, trace, texts),
-            out,
-        ),
+        } => {
+            let names = Names {
+                file,
+                stimulus,
+                trace,
+            };
+            waiting_files(from, &names, texts, out)
+        }
         Request::Why {
             file,
             stimulus,
             trace,
             subject,
             all,
-        } => tell(
-            why_files(
-                alloc,
-                files,
-                &Question {
-                    file,
-                    stimulus,
-                    trace,
-                    subject,
-                    all,
-                },
-                texts,
-                said,
-            ),
-            out,
-        ),
+        } => {
+            let names = Names {
+                file,
+                stimulus,
+                trace,
+            };
+            why_files(from, &names, &Question { subject, all }, texts, out)
+        }
         Request::Picture {
             file,
             stimulus,
             trace,
             drawing,
-        } => tell(
-            picture_files(
-                alloc,
-                files,
-                &Drawn {
-                    file,
-                    stimulus,
-                    trace,
-                    drawing,
-                },
-                texts,
-                said,
-            ),
-            out,
-        ),
+        } => {
+            let names = Names {
+                file,
+                stimulus,
+                trace,
+            };
+            picture_files(from, &names, drawing, texts, out)
+        }
     }
 }
 
@@ -222,11 +203,13 @@ pub fn serve<
     ensures status { result.status ≤ 1 }
     ensures quiet { result.status ≡ 0 → err.new ≡ err.old }
 {
-    let alloc = rt.alloc();
-    let mut texts = Texts::new(alloc);
-    let mut said = Vec::new(alloc);
-    let done = perform(rt, request, files, reader, out, &mut texts, &mut said);
-    let words = words_behind(alloc, &request, done, &texts, said.as_slice());
+    let from = Source {
+        alloc: rt.alloc(),
+        files,
+    };
+    let mut texts = Texts::new(from.alloc);
+    let done = perform(rt, request, &from, &mut texts, reader, out);
+    let words = words_behind(from.alloc, &request, done, &texts);
     finish(done, words.as_slice(), err)
 }
 

@@ -1,77 +1,73 @@
 //! What is answered to people's questions about the files of a request.
 
-ghost use Rattle.std.specs.Prelude.{MatchResult};
 ghost use Rattle.command_line.specs.Answering.{CheckRefuses, OutlineGives, PageRefuses, ReplayRefuses, WaitingGives};
 ghost use Rattle.command_line.specs.Answering.{WhyGives, WhyRefuses};
-ghost use Rattle.command_line.specs.internal.Answers.{AnswersWhyOf, answer_text};
+ghost use Rattle.command_line.specs.Serving.{Answers};
+ghost use Rattle.command_line.specs.Used.{used};
+ghost use Rattle.command_line.specs.internal.Answers.{TellsWhy};
 
-use crate::answer::{Answer, read_source, read_system, read_trace};
-use crate::files::Files;
-use crate::texts::Texts;
-use debug_session::{Fault, accept};
+use crate::files::{Files, Source};
+use crate::reading::{accepted_source, read_run};
+use crate::texts::{Names, Texts};
+use debug_session::{Counted, Fault, write_out};
 use questions::{Why, outline_text, waiting_text, why_text};
 use refusal_pages::{Page, page_text};
 use std::alloc::Global;
+use std::io::Write;
 
-/// A question why about the files of these names. `subject` is the name of a variable, or the ticket of a step.
+/// A question why. `subject` is the name of a variable, or the ticket of a step.
 #[derive(Clone, Copy)]
 pub struct Question<'a> {
-    pub file: &'a str,
-    pub stimulus: &'a str,
-    pub trace: &'a str,
     pub subject: &'a str,
     pub all: bool,
 }
 
-/// The page of a refusal.
-pub fn show_page(alloc: Global, page: &Page) -> Result<Answer, Fault>
-    ensures { MatchResult result (λ _. Unit {0}) PageRefuses }
+/// Shows the page of a refusal.
+pub fn show_page<O: Write>(alloc: Global, page: &Page, out: &mut Counted<O>) -> Result<(), Fault>
+    ensures { Answers (λ _. Unit {0}) PageRefuses (used O.contents out.old out.new) result }
 {
     let text = page_text(alloc, page)?;
-    Ok(Answer::Lines(text.into_bytes()))
+    write_out(out, text.as_bytes())
 }
 
-/// What the description in `file` has.
-pub fn outline_file<F: Files>(
-    alloc: Global,
-    files: &F,
+/// Tells what the description in `file` has.
+pub fn outline_file<F: Files, O: Write>(
+    from: &Source<'_, F>,
     file: &str,
     texts: &mut Texts,
-) -> Result<Answer, Fault>
-    ensures { MatchResult result (λ answer. OutlineGives (F.holds files.now) file.now (answer_text answer))
-        (CheckRefuses (F.holds files.now) file.now) }
+    out: &mut Counted<O>,
+) -> Result<(), Fault>
+    ensures { Answers (OutlineGives (F.holds from.now.files.now) file.now)
+        (CheckRefuses (F.holds from.now.files.now) file.now) (used O.contents out.old out.new) result }
 {
-    read_source(alloc, files, file, texts)?;
-    let checked = accept(alloc, texts.source.as_slice(), b"")?;
-    let source = texts.source.as_slice();
-    Ok(Answer::Lines(outline_text(alloc, &checked, source)?))
+    let checked = accepted_source(from, file, texts)?;
+    let text = outline_text(from.alloc, &checked, texts.source.as_slice())?;
+    write_out(out, text.as_slice())
 }
 
-/// Who waits behind the trace in `trace`.
-pub fn waiting_files<F: Files>(
-    alloc: Global,
-    files: &F,
-    file: &str,
-    stimulus: &str,
-    trace: &str,
+/// Tells who waits behind the trace.
+pub fn waiting_files<F: Files, O: Write>(
+    from: &Source<'_, F>,
+    names: &Names<'_>,
     texts: &mut Texts,
-) -> Result<Answer, Fault>
-    ensures { MatchResult result
-        (λ answer. WaitingGives (F.holds files.now) file.now stimulus.now trace.now (answer_text answer))
-        (ReplayRefuses (F.holds files.now) file.now stimulus.now trace.now) }
+    out: &mut Counted<O>,
+) -> Result<(), Fault>
+    ensures { Answers
+        (WaitingGives (F.holds from.now.files.now) names.now.file.now names.now.stimulus.now names.now.trace.now)
+        (ReplayRefuses (F.holds from.now.files.now) names.now.file.now names.now.stimulus.now names.now.trace.now)
+        (used O.contents out.old out.new) result }
 {
-    let checked = read_system(alloc, files, file, stimulus, texts)?;
-    read_trace(alloc, files, trace, texts)?;
-    Ok(Answer::Lines(waiting_text(alloc, checked, texts.trace.as_slice())?))
+    let checked = read_run(from, names, texts)?;
+    let text = waiting_text(from.alloc, checked, texts.trace.as_slice())?;
+    write_out(out, text.as_slice())
 }
 
-/// The answer to the question why: the lines that tell it. Where it cannot be told the lines that say so are put into
-/// `said`.
-fn told_why(why: Why, said: &mut Vec<u8>) -> Result<Answer, Fault>
-    ensures { AnswersWhyOf why result }
+/// Writes the lines that tell why. Where it cannot be told the lines that say so are put into `said`.
+fn tell_why<O: Write>(why: Why, said: &mut Vec<u8>, out: &mut Counted<O>) -> Result<(), Fault>
+    ensures { TellsWhy why (used O.contents out.old out.new) result }
 {
     match why {
-        Why::Told(lines) => Ok(Answer::Lines(lines)),
+        Why::Told(lines) => write_out(out, lines.as_slice()),
         Why::Refused(reason, words) => {
             *said = words;
             Err(Fault::Refused(reason))
@@ -79,28 +75,28 @@ fn told_why(why: Why, said: &mut Vec<u8>) -> Result<Answer, Fault>
     }
 }
 
-/// Why `subject` is so behind the trace in `trace`.
-pub fn why_files<F: Files>(
-    alloc: Global,
-    files: &F,
+/// Tells why what is asked about is so behind the trace.
+pub fn why_files<F: Files, O: Write>(
+    from: &Source<'_, F>,
+    names: &Names<'_>,
     asked: &Question<'_>,
     texts: &mut Texts,
-    said: &mut Vec<u8>,
-) -> Result<Answer, Fault>
-    ensures { MatchResult result
-        (λ _. WhyGives (F.holds files.now) asked.now.file.now asked.now.stimulus.now asked.now.trace.now
+    out: &mut Counted<O>,
+) -> Result<(), Fault>
+    ensures { Answers
+        (λ _. WhyGives (F.holds from.now.files.now) names.now.file.now names.now.stimulus.now names.now.trace.now
         asked.now.subject.now)
-        (WhyRefuses (F.holds files.now) asked.now.file.now asked.now.stimulus.now asked.now.trace.now
-        asked.now.subject.now) }
+        (WhyRefuses (F.holds from.now.files.now) names.now.file.now names.now.stimulus.now names.now.trace.now
+        asked.now.subject.now)
+        (used O.contents out.old out.new) result }
 {
-    let checked = read_system(alloc, files, asked.file, asked.stimulus, texts)?;
-    read_trace(alloc, files, asked.trace, texts)?;
+    let checked = read_run(from, names, texts)?;
     let why = why_text(
-        alloc,
+        from.alloc,
         checked,
         texts.trace.as_slice(),
         asked.subject,
         asked.all,
     )?;
-    told_why(why, said)
+    tell_why(why, &mut texts.said, out)
 }

@@ -1,15 +1,14 @@
 //! A shell on the files of a request.
 
-ghost use Rattle.std.specs.Prelude.{◌≡◌, Some, MatchResult};
+ghost use Rattle.std.specs.Prelude.{◌≡◌, MatchResult};
 ghost use Rattle.std.specs.Option.{option_copied};
 ghost use Rattle.std.specs.Io.Buffered.{reader_remaining};
 ghost use Rattle.debug_session.specs.Accepting.{IsRefused};
-ghost use Rattle.command_line.specs.Answering.{NotHad};
 ghost use Rattle.command_line.specs.Shells.{ShellsFiles, StartHad, StartRefused, TraceHad, TraceNotHad, text_of};
 ghost use Rattle.command_line.specs.Used.{used};
 
-use crate::answer::read_texts;
-use crate::files::Files;
+use crate::files::{Files, Source};
+use crate::reading::{read_texts, read_trace};
 use crate::texts::{Part, Texts};
 use debug_session::{Counted, Fault, accept};
 use shell::{Local, Texts as Begun, run};
@@ -49,57 +48,38 @@ fn accept_first(alloc: Global, start: &Start<'_>, texts: &Texts) -> Result<(), F
     }
 }
 
-/// Keeps what the trace of this name holds, beside what is kept already.
-fn keep_steps<F: Files>(
-    alloc: Global,
-    files: &F,
-    trace: &str,
-    texts: &mut Texts,
-) -> Result<(), Fault>
-    ensures { MatchResult result
-        (λ _. F.holds files.now trace.now (Some texts.new.trace.items) × (texts.new.source ≡ texts.old.source)
-        × (texts.new.values ≡ texts.old.values))
-        (NotHad (F.holds files.now trace.now)) }
-{
-    texts.last = Part::Trace;
-    let steps = files.read(alloc, trace, &mut texts.why)?;
-    texts.trace = steps;
-    Ok(())
-}
-
-/// The same of the trace, where one is named.
+/// Keeps what the trace holds, where one is named, beside what is kept already.
 fn keep_trace<F: Files>(
-    alloc: Global,
-    files: &F,
+    from: &Source<'_, F>,
     start: &Start<'_>,
     texts: &mut Texts,
 ) -> Result<(), Fault>
     ensures { MatchResult result
-        (λ _. TraceHad (F.holds files.now) (option_copied start.now.trace) texts.new.trace.items
+        (λ _. TraceHad (F.holds from.now.files.now) (option_copied start.now.trace) texts.new.trace.items
         × (texts.new.source ≡ texts.old.source) × (texts.new.values ≡ texts.old.values))
-        (TraceNotHad (F.holds files.now) (option_copied start.now.trace)) }
+        (TraceNotHad (F.holds from.now.files.now) (option_copied start.now.trace)) }
 {
     match start.trace {
-        Some(trace) => keep_steps(alloc, files, trace, texts),
+        Some(trace) => read_trace(from, trace, texts),
         None => Ok(()),
     }
 }
 
 /// Keeps what the files hold.
 fn read_start<F: Files>(
-    alloc: Global,
-    files: &F,
+    from: &Source<'_, F>,
     start: &Start<'_>,
     texts: &mut Texts,
 ) -> Result<(), Fault>
     ensures { MatchResult result
-        (λ _. StartHad (F.holds files.now) start.now.file.now start.now.stimulus.now (option_copied start.now.trace)
-        texts.new.source.items texts.new.values.items texts.new.trace.items)
-        (StartRefused (F.holds files.now) start.now.file.now start.now.stimulus.now (option_copied start.now.trace)) }
+        (λ _. StartHad (F.holds from.now.files.now) start.now.file.now start.now.stimulus.now
+        (option_copied start.now.trace) texts.new.source.items texts.new.values.items texts.new.trace.items)
+        (StartRefused (F.holds from.now.files.now) start.now.file.now start.now.stimulus.now
+        (option_copied start.now.trace)) }
 {
-    read_texts(alloc, files, start.file, start.stimulus, texts)?;
-    accept_first(alloc, start, texts)?;
-    keep_trace(alloc, files, start, texts)
+    read_texts(from, start.file, start.stimulus, texts)?;
+    accept_first(from.alloc, start, texts)?;
+    keep_trace(from, start, texts)
 }
 
 /// What is kept of the trace, where one is named.
@@ -126,16 +106,17 @@ fn is_terminal<R: fs::Files + AllocGlobal>(rt: &R, stream: &str) -> bool {
 /// Standard input is what `reader` reads.
 pub fn shell_files<'a, R: fs::Files + AllocGlobal + Clock + Eprint, F: Files, I: Read, O: Write>(
     rt: &'a R,
-    files: &F,
+    from: &Source<'_, F>,
     start: &Start<'a>,
+    texts: &mut Texts,
     reader: &mut Counted<BufReader<I>>,
     out: &mut Counted<O>,
-    texts: &mut Texts,
 ) -> Result<(), Fault>
-    ensures { ShellsFiles (F.holds files.now) start.now.file.now start.now.stimulus.now (option_copied start.now.trace)
-        (used (reader_remaining I.remaining) reader.old reader.new) (used O.contents out.old out.new) result }
+    ensures { ShellsFiles (F.holds from.now.files.now) start.now.file.now start.now.stimulus.now
+        (option_copied start.now.trace) (used (reader_remaining I.remaining) reader.old reader.new)
+        (used O.contents out.old out.new) result }
 {
-    read_start(rt.alloc(), files, start, texts)?;
+    read_start(from, start, texts)?;
     texts.last = Part::Script;
     let begun = Begun {
         source: texts.source.as_slice(),
@@ -148,5 +129,5 @@ pub fn shell_files<'a, R: fs::Files + AllocGlobal + Clock + Eprint, F: Files, I:
         has_prompt && is_terminal(rt, STANDARD_ERROR),
         [start.file, start.stimulus],
     );
-    run(rt.alloc(), reader, out, &host, begun, has_prompt)
+    run(from.alloc, reader, out, &host, begun, has_prompt)
 }

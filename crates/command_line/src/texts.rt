@@ -1,6 +1,14 @@
 use diagnosis::Unread;
 use std::alloc::Global;
 
+/// The names of the files of a request. A name that it has not is empty.
+#[derive(Clone, Copy)]
+pub struct Names<'a> {
+    pub file: &'a str,
+    pub stimulus: &'a str,
+    pub trace: &'a str,
+}
+
 /// A text that a run reads.
 #[derive(Clone, Copy)]
 pub enum Part {
@@ -16,6 +24,8 @@ pub struct Texts {
     pub source: Vec<u8>,
     pub values: Vec<u8>,
     pub trace: Vec<u8>,
+    /// The last line of a script, or the words that tell of a refusal.
+    pub said: Vec<u8>,
     /// The text that was read last, or could not be.
     pub last: Part,
     /// Why it could not be read, where it is a file that could not.
@@ -29,6 +39,7 @@ impl Texts {
             source: Vec::new(alloc),
             values: Vec::new(alloc),
             trace: Vec::new(alloc),
+            said: Vec::new(alloc),
             last: Part::Source,
             why: Unread::Failed,
         }

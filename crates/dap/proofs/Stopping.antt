@@ -8,9 +8,8 @@ use Rattle.dap_messages.specs.declared.kind.Kind.{Kind}
 use Rattle.dap_messages.specs.declared.request.Request.{Request}
 use Rattle.dap_messages.specs.declared.told.Stop.{Stop}
 use Rattle.dap_messages.specs.declared.told.Told.{Told}
-use Rattle.dap_requests.specs.Said.{Runs}
+use Rattle.dap_requests.specs.Said.{Runs, TellsEnd, TellsStop}
 use Rattle.dap_server.specs.Kinds.{moves}
-use Rattle.dap.specs.Begins.{Begins}
 use Rattle.dap.specs.Goes.{Goes}
 use Rattle.dap.specs.Kinds.{ends}
 use Rattle.dap.specs.Steps.{Steps}
@@ -36,8 +35,8 @@ stops_once a b d d' goes empty done h = elim h [
 ]
 
 -- a program has begun
-pub begins_once : (l m : Launched) (a b : Answer) → Begins l m a b → BeginsOnce b
-begins_once l m a b h = elim h [
+pub begins_once : (F : Type 0) (Q : Stop → Type 0) (a b : Answer) → ((stop : Stop) × TellsStop a stop b × Q stop) ⊎ (F × TellsEnd a b) → BeginsOnce b
+begins_once F Q a b h = elim h [
   | inl stops ↦ inl (
     stops.0,
     record {

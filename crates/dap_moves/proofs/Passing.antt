@@ -1,5 +1,5 @@
 -- Runs that pass none of the lines, one behind another.
-use Rattle.std.proofs.Common.{◌≡◌, ◌⊎◌, ◌↔◌, ◌==◌, ◌&&◌, ℕ, zero, suc, ◌+◌, ◌<◌, ◌≤◌, List, [], ◌∷◌, length, drop, get_or, Bool, true, false, Option, None, Some, inl, inr, refl, sym, ◌∙◌, ap, subst, arith}
+use Rattle.std.proofs.Common.{◌≡◌, ◌⊎◌, ◌↔◌, ◌==◌, ℕ, zero, suc, ◌+◌, ◌<◌, ◌≤◌, List, [], ◌∷◌, length, drop, get_or, Bool, true, false, Option, None, Some, inl, inr, refl, sym, ◌∙◌, ap, subst, arith}
 use Rattle.std.specs.Option.{MatchOption}
 use Rattle.std.specs.Prelude.{IsTrue}
 use Rattle.std.proofs.lemmas.Bool.Decides.{nat_tests}
@@ -31,18 +31,19 @@ here_in (y ∷ xs) (suc i) x h is = inr (here_in xs i x (omega arith) is)
 -- a choice that is that of an event
 pub found_here : (b : Bool) (seen : List Choice) (i : ℕ) (x c : Choice) → i < length seen → x ≡ get_or seen i x → (IsTrue b ↔ (x ≡ c)) → b ≡ true →
     IsTrue true ↔ In c seen
-found_here b seen i x c less is tells yes = (λ there. subst (λ (y : Choice). In y seen) (tells.0 yes) (here_in seen i x less is), λ there. refl)
+found_here b seen i x c less is tells same =
+    (λ found. subst (λ (y : Choice). In y seen) (tells.0 same) (here_in seen i x less is), λ there. refl)
 
 -- one that is not
 pub not_here : (b : Bool) (seen : List Choice) (i : ℕ) (x c : Choice) → i < length seen → x ≡ get_or seen i x → (IsTrue b ↔ (x ≡ c)) → b ≡ false →
     (In c seen → In c (drop i seen)) → In c seen → In c (drop (i + 1) seen)
-not_here b seen i x c less is tells no rest = λ there.
+not_here b seen i x c less is tells other rest = λ there.
     let left : In c (get_or seen i x ∷ drop (i + 1) seen) =
     subst (λ (xs : List Choice). In c xs) (drop_more seen i x less) (rest there) in
     elim left [
       | inl same ↦
-          let yes : b ≡ true = tells.1 (is ∙ sym same) in
-          let bad : true ≡ false = sym yes ∙ no in
+          let found : b ≡ true = tells.1 (is ∙ sym same) in
+          let bad : true ≡ false = sym found ∙ other in
           absurd (cc)
       | inr behind ↦ behind
     ]
@@ -50,7 +51,7 @@ not_here b seen i x c less is tells no rest = λ there.
 -- none is left
 pub none_here : (seen : List Choice) (i : ℕ) (c : Choice) → length seen ≤ i → (In c seen → In c (drop i seen)) → IsTrue false ↔ In c seen
 none_here seen i c all rest = (
-  λ no. let bad : false ≡ true = no in absurd (cc),
+  λ found. let bad : false ≡ true = found in absurd (cc),
   λ there. absurd (subst (λ (xs : List Choice). In c xs) (drop_all i seen all) (rest there)),
 )
 
@@ -127,16 +128,20 @@ none_left xs h = let e : length xs ≡ 0 = grind (arith, nat_tests) in nil_from_
 pub same_choice : (c : Choice) (e : Event) → c.arm ≡ (choice_of e).arm → c.place ≡ acting e → c ≡ choice_of e
 same_choice c e arm place = λ i. record { place = place i; arm = arm i }
 
-pub has_both : (a b : Bool) (c : Choice) (e : Event) (place : Place) → (IsTrue a ↔ (c.arm ≡ (choice_of e).arm)) → (IsTrue b ↔ (c.place ≡ place)) →
-    place ≡ acting e → IsTrue (a && b) ↔ (c ≡ choice_of e)
-has_both true true c e place arm there is = (λ yes. same_choice c e (arm.0 refl) (there.0 refl ∙ is), λ same. refl)
-has_both true false c e place arm there is = (
-  λ no. let bad : false ≡ true = no in absurd (cc),
-  λ same. there.1 (ap (λ (x : Choice). x.place) same ∙ sym is),
+pub with_arm : (a b : Bool) (c : Choice) (e : Event) (place : Place) → (IsTrue a ↔ (c.arm ≡ (choice_of e).arm)) → (IsTrue b ↔ (c.place ≡ place)) →
+    place ≡ acting e → a ≡ true → IsTrue b ↔ (c ≡ choice_of e)
+with_arm a b c e place arm there is same = (
+  λ found. same_choice c e (arm.0 same) (there.0 found ∙ is),
+  λ whole. there.1 (ap (λ (x : Choice). x.place) whole ∙ sym is),
 )
-has_both false b c e place arm there is = (
-  λ no. let bad : false ≡ true = no in absurd (cc),
-  λ same. arm.1 (ap (λ (x : Choice). x.arm) same),
+
+pub without_arm : (a : Bool) (c : Choice) (e : Event) → (IsTrue a ↔ (c.arm ≡ (choice_of e).arm)) → a ≡ false → IsTrue false ↔ (c ≡ choice_of e)
+without_arm a c e arm other = (
+  λ found. let bad : false ≡ true = found in absurd (cc),
+  λ whole.
+      let found : a ≡ true = arm.1 (ap (λ (x : Choice). x.arm) whole) in
+      let bad : true ≡ false = sym found ∙ other in
+      absurd (cc),
 )
 
 -- where a place has no line, one that is none of these, or one of these

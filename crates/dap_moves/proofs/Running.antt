@@ -207,13 +207,13 @@ ends-first plan seen d d' (Ended.Refused branch why) k = record {
 -- one step before others
 truly-more : (plan : Plan) (seen : List Choice) (d : AtDesk) (ts : List Turned) (t : Turned) (ended : Ended) →
     is_watched plan.watched.now t.event ≡ false → EndsTruly 1 plan [] d ts ended → EndsTruly 0 plan seen d (t ∷ ts) ended
-truly-more plan seen d ts t Ended.Nothing no h = ((no, h.0), h.1)
-truly-more plan seen d ts t (Ended.AtLine branch line) no h =
-    ((no, h.0), subst (λ (cs : List Choice). StandsBefore d plan.only plan.lines.now cs line) (stood-none ts) h.1)
-truly-more plan seen d ts t (Ended.Watched branch ticket) no h =
-    (t ∷ h.0, h.1, ap (λ (xs : List Turned). t ∷ xs) h.2, (no, h.3), h.4, h.5)
-truly-more plan seen d ts t (Ended.Most branch) no h = ((no, h.0), omega (arith, h.1))
-truly-more plan seen d ts t (Ended.Refused branch why) no h = ((no, h.0), h.1)
+truly-more plan seen d ts t Ended.Nothing off h = ((off, h.0), h.1)
+truly-more plan seen d ts t (Ended.AtLine branch line) off h =
+    ((off, h.0), subst (λ (cs : List Choice). StandsBefore d plan.only plan.lines.now cs line) (stood-none ts) h.1)
+truly-more plan seen d ts t (Ended.Watched branch ticket) off h =
+    (t ∷ h.0, h.1, ap (λ (xs : List Turned). t ∷ xs) h.2, (off, h.3), h.4, h.5)
+truly-more plan seen d ts t (Ended.Most branch) off h = ((off, h.0), omega (arith, h.1))
+truly-more plan seen d ts t (Ended.Refused branch why) off h = ((off, h.0), h.1)
 
 within-more : (plan : Plan) (ts : List Turned) (t : Turned) → IsWithin plan (1 + length ts) → IsWithin plan (0 + length (t ∷ ts))
 within-more plan ts t h = elim h [ inl few ↦ inl (omega (arith, few)) | inr one ↦ inr (omega (arith, one)) ]

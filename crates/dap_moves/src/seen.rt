@@ -52,9 +52,11 @@ fn is_number(number: u32, found: Option<u32>) -> bool
 pub fn has_choice(choice: &Choice, event: &Event) -> bool
     ensures { IsTrue result ↔ (choice.now ≡ choice_of event.now) }
 {
-    let arm = is_arm(choice, event);
-    let place = choice.place.equals(event.acting_place());
-    arm && place
+    if is_arm(choice, event) {
+        choice.place.equals(event.acting_place())
+    } else {
+        false
+    }
 }
 
 /// Whether the arm is the one that the event opens.

@@ -1,8 +1,10 @@
 //! What only the source tells of a description: which calls make what stands in the system, on which line a variable or
 //! a channel is declared, and which numbers the elements of enumerations are.
 //!
-//! The answers are tested and not proved.
+//! What is told is tested and not proved.
 #![tactic(auto)]
+
+ghost use Rattle.described.specs.Told.{TellsNothing};
 
 mod call;
 mod enumeration;
@@ -37,7 +39,9 @@ pub struct Described {
 
 impl Described {
     /// Nothing is told.
-    pub fn nothing(alloc: Global) -> Described {
+    pub fn nothing(alloc: Global) -> Described
+        ensures { TellsNothing result }
+    {
         Described {
             calls: Items::new(alloc),
             deeper: 0,

@@ -1,3 +1,4 @@
 pub mod public
+mod OneValue
 mod Plain
 mod ReadBack

@@ -1,6 +1,7 @@
 // Strings of JSON.
 ghost use Rattle.std.specs.Prelude.{◌≡◌, ◌++◌, ◌<◌, OnOk, true};
 ghost use Rattle.bstr.specs.Utf8.{lossy_chars};
+ghost use Rattle.json_text.specs.Json.{TextsHaveOneValue};
 ghost use Rattle.json_text.specs.Reading.{StringsReadBack};
 ghost use Rattle.json_text.specs.Strings.{StringsArePlain, character_text, escaped, hex_digit, is_literal, json_string, pair, unit};
 
@@ -94,4 +95,9 @@ pub fn strings_are_plain()
 /// A string is read as its characters. Nothing is done, the contract says it.
 pub fn strings_read_back()
     ensures { StringsReadBack }
+{}
+
+/// A text has one value. Nothing is done, the contract says it.
+pub fn texts_have_one_value()
+    ensures { TextsHaveOneValue }
 {}

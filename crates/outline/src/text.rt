@@ -1,7 +1,8 @@
 // The outline as text, in lines.
 ghost use Rattle.std.specs.Prelude.{◌≡◌, ◌++◌, OnOk};
 ghost use Rattle.outline.specs.OutlineText as model;
-ghost use Rattle.described.specs.declared.Described as told;
+ghost use Rattle.described.specs.Told.{TellsNothing};
+ghost use Rattle.described.specs.declared.Described.{Described};
 
 use crate::branch_text::write_branches;
 use crate::channel_text::write_channels;
@@ -15,7 +16,8 @@ impl Outline {
     /// Adds the text, without what only the source tells: the branches with the ends that they use, the variables, and
     /// the channels with who uses them. Without memory a part of it may be there.
     pub fn write_to(&self, out: &mut Vec<u8>) -> Result<(), AllocError>
-        ensures { OnOk result ((d : told.Described) × (out.new.items ≡ out.old.items ++ model.system_text self.now d)) }
+        ensures { OnOk result ((d : Described) × TellsNothing d
+            × (out.new.items ≡ out.old.items ++ model.system_text self.now d)) }
     {
         let nothing = Described::nothing(*out.allocator());
         write_system(self, &nothing, out)

@@ -1,3 +1,6 @@
-mod ListedPast
+mod Climbing
+mod Nearest
+mod Reading
 mod Sweeping
+mod Telling
 mod Values

@@ -1,3 +1,4 @@
+pub mod Laws
 pub mod Past
 pub mod PastText
 pub mod internal

@@ -1,10 +1,9 @@
 -- The past of an event: the live events that it depends on. (Danos and Krivine 2004: its causes.)
-use Rattle.std.specs.Prelude.{◌↔◌, ◌<◌, ◌≡◌, ℕ, ◌+◌, ◌==◌, List, length, Bool, true, ◌||◌, is_some, map}
+use Rattle.std.specs.Prelude.{◌↔◌, ◌<◌, ◌≡◌, ◌≢◌, ◌⊎◌, ℕ, ◌+◌, ◌==◌, List, length, Bool, true, ◌||◌, is_some, Some, slice_get, map}
 use Rattle.syntax.specs.Lists.{In, Every}
 use Rattle.runs.specs.InOrder.{InOrder}
 use Rattle.runs.specs.Live.{Live, LiveAt, IsLive, DependsOn}
 use Rattle.runs.specs.declared.event.Event.{Event}
-use Rattle.dependence.specs.Followers.{ListsLeads}
 use Rattle.past.specs.declared.past.Past.{Past}
 use Rattle.past.specs.declared.past.PastEvent.{PastEvent}
 
@@ -34,10 +33,30 @@ LeavesOut l t tickets count = (whole : List ℕ) × ListsTickets true l t whole 
 abbrev pub tickets_of : List PastEvent → List ℕ
 tickets_of events = map (λ p. p.ticket) events
 
--- exactly the told events in the past of the live one of ticket t, in order of tickets, each with the tickets of its
--- nearest causes, told or not: those that it follows, with no live event between. How many are left out
+-- p tells of the live event that stands at its index: its ticket, and whether it carried a value
+pub record Tells (l : Live) (p : PastEvent) : Type 0 where
+  pub event : Event
+  pub stands : slice_get l p.index ≡ Some (p.ticket, event)
+  pub carries : p.carries ≡ carries event
+
+-- in the past of that of ticket t, the event of ticket u is a direct cause of that of ticket s: it is another, it is
+-- told, that of ticket s depends on it, and no other that is told lies between
+pub record DirectCause (all : Bool) (l : Live) (t s u : ℕ) : Type 0 where
+  pub told : IsInPast all l t u
+  pub other : u ≢ s
+  pub cause : DependsOn l u s
+  pub next : (v : ℕ) → IsInPast all l t v → DependsOn l u v → DependsOn l v s → (v ≡ u) ⊎ (v ≡ s)
+
+-- exactly the tickets of its direct causes, falling
+pub record ListsCauses (all : Bool) (l : Live) (t s : ℕ) (tickets : List ℕ) : Type 0 where
+  pub exactly : (u : ℕ) → In u tickets ↔ DirectCause all l t s u
+  pub falling : InOrder (λ (a : ℕ) (b : ℕ). b < a) tickets
+
+-- exactly the told events in the past of the live one of ticket t, in order of tickets, each with its direct causes,
+-- and how many are left out
 pub record ListsPast (all : Bool) (l : Live) (t : ℕ) (past : Past) : Type 0 where
   pub live : IsLive l t
   pub tickets : ListsTickets all l t (tickets_of past.events)
-  pub nearest : Every (λ p. ListsLeads l p.ticket p.follows) past.events
+  pub tells : Every (Tells l) past.events
+  pub causes : Every (λ p. ListsCauses all l t p.ticket p.causes) past.events
   pub left_out : LeavesOut l t (tickets_of past.events) past.left_out

@@ -1,5 +1,5 @@
 -- The text of the past of an event, a line for each event that is told.
-use Rattle.std.specs.Prelude.{◌==◌, ℕ, ◌+◌, List, [], ◌∷◌, ◌++◌, Bool, true, false, Option, None, Some, codes, cond, length, replicate, reverse, slice_get, slice_set}
+use Rattle.std.specs.Prelude.{◌==◌, ℕ, List, [], ◌∷◌, ◌++◌, Option, None, Some, codes, cond, length, replicate, reverse, slice_get, slice_set}
 use Rattle.std.specs.Fmt.{decimal}
 use Rattle.std.specs.List.{flat_map}
 use Rattle.value.specs.Word.{Word}
@@ -76,13 +76,13 @@ abbrev pub zeros : System → Values
 zeros system = replicate (length system.variables) 0
 
 -- the values after one was written
-abbrev pub noted_at : Option ℕ → Option Word → Values → Values
-noted_at (Some x) (Some v) values = slice_set values x v.bits
-noted_at (Some x) None values = values
-noted_at None v values = values
+abbrev pub written : Option ℕ → Option Word → Values → Values
+written (Some x) (Some v) values = slice_set values x v.bits
+written (Some x) None values = values
+written None v values = values
 
 abbrev pub noted : Event → Values → Values
-noted e values = noted_at e.written e.value values
+noted e values = written e.written e.value values
 
 abbrev pub held_text : Option ℕ → List ℕ
 held_text None = codes " ?"
@@ -97,14 +97,14 @@ abbrev pub reads_text : System → Values → List ℕ → List ℕ
 reads_text system values [] = []
 reads_text system values (x ∷ xs) = codes ", reads" ++ flat_map (read_text system values) (x ∷ xs)
 
--- ---- what it followed, from tickets that fall
+-- ---- its direct causes, from tickets that fall
 
 abbrev pub ticket_text : ℕ → List ℕ
 ticket_text t = codes " " ++ decimal t
 
-abbrev pub follows_text : List ℕ → List ℕ
-follows_text [] = []
-follows_text (t ∷ ts) = codes ", after" ++ flat_map ticket_text (reverse (t ∷ ts))
+abbrev pub causes_text : List ℕ → List ℕ
+causes_text [] = []
+causes_text (t ∷ ts) = codes ", after" ++ flat_map ticket_text (reverse (t ∷ ts))
 
 -- ---- all of it
 
@@ -113,32 +113,27 @@ abbrev pub line_text : Option ℕ → List ℕ
 line_text None = codes " environment:"
 line_text (Some line) = codes " line " ++ decimal line ++ codes ":"
 
--- a line: the ticket, the line in the source, what it did, what it read with the values then, and what it followed
+-- a line: the ticket, the line in the source, what it did, what it read with the values then, and its direct causes
 abbrev pub event_line : System → Live → Event → PastEvent → Values → List ℕ
 event_line system live e told values =
     codes "  " ++ decimal told.ticket ++ line_text (line_after (events live) system (acting e)) ++ deed_text system e
-    ++ reads_text system values e.read ++ follows_text told.follows ++ ending
+    ++ reads_text system values e.read ++ causes_text told.causes ++ ending
 
--- whether it is the one of this ticket
-abbrev pub is_told_at : Option PastEvent → ℕ → Bool
-is_told_at None t = false
-is_told_at (Some told) t = told.ticket == t
+-- the line of what stands at its index
+abbrev pub line_at : System → Live → Option (ℕ × Event) → PastEvent → Values → List ℕ
+line_at system live None told values = []
+line_at system live (Some x) told values = event_line system live x.1 told values
 
-abbrev pub line_if : System → Live → ℕ × Event → Option PastEvent → Values → List ℕ
-line_if system live x None values = []
-line_if system live x (Some told) values = cond (told.ticket == x.0) (event_line system live x.1 told values) []
+abbrev pub noted_at : Option (ℕ × Event) → Values → Values
+noted_at None values = values
+noted_at (Some x) values = noted x.1 values
 
--- the number of the one that is told next
-abbrev pub next_told : Bool → ℕ → ℕ
-next_told true n = n + 1
-next_told false n = n
-
--- these events of `live`, of which those that are told from number n on have a line each
-abbrev pub past_lines : System → Live → List PastEvent → ℕ → Values → Live → List ℕ
-past_lines system live told n values [] = []
-past_lines system live told n values (x ∷ l) =
-    line_if system live x (slice_get told n) values
-    ++ past_lines system live told (next_told (is_told_at (slice_get told n) x.0) n) (noted x.1 values) l
+-- those that are told have a line each, with the values behind those before it (`Laws.antt`: as they were read)
+abbrev pub past_lines : System → Live → List PastEvent → Values → List ℕ
+past_lines system live [] values = []
+past_lines system live (p ∷ told) values =
+    line_at system live (slice_get live p.index) p values
+    ++ past_lines system live told (noted_at (slice_get live p.index) values)
 
 -- how many are left out
 abbrev pub more_left_out : ℕ → List ℕ
@@ -150,4 +145,4 @@ left_out_line n =
 
 abbrev pub past_text : System → Live → Past → List ℕ
 past_text system live past =
-    past_lines system live past.events 0 (zeros system) live ++ left_out_line past.left_out
+    past_lines system live past.events (zeros system) ++ left_out_line past.left_out

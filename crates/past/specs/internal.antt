@@ -1,1 +1,3 @@
-pub mod Marked
+pub mod Near
+pub mod Swept
+pub mod Topmost

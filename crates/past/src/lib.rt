@@ -1,11 +1,14 @@
-//! Why an event could happen: the live events that it depends on, directly or by way of others, each with those that it
-//! follows.
+//! Why an event could happen: the live events that it depends on, directly or by way of others, each with its
+//! direct causes.
 #![tactic(auto)]
 
-mod list;
-mod mark;
+mod laws;
 mod past;
+mod sweep;
 mod text;
+mod told;
+mod topmost;
 
+pub use laws::values_are_told_as_read;
 pub use past::{Past, PastEvent, past_of_event, past_of_variable};
 pub use text::write_past;

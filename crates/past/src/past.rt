@@ -1,11 +1,10 @@
 // What is asked: the past of an event, and of the last event that wrote a variable.
-ghost use Rattle.std.specs.Prelude.{IfOk, MatchOption};
+ghost use Rattle.std.specs.Prelude.{◌≡◌, ℕ, IfOk, MatchOption};
 ghost use Rattle.runs.specs.Live.{LastWriter, NoneAt, NoWriter, IsLive};
-ghost use Rattle.std.specs.Prelude.{ℕ};
 ghost use Rattle.past.specs.Past.{ListsPast};
 
-use crate::list::list_marked;
-use crate::mark::mark_past;
+use crate::sweep::whole_past;
+use crate::told::told_past;
 use dependence::Live;
 use std::alloc::{AllocError, Global};
 use syntax::Items;
@@ -14,9 +13,13 @@ use syntax::Items;
 #[derive(Drop)]
 pub struct PastEvent {
     pub ticket: u64,
-    /// the tickets of the live events that it follows, falling: of those on which it depends directly with no live
-    /// event between
-    pub follows: Items<u64>,
+    /// where it stands among the live events, from 0 in order of tickets
+    pub index: usize,
+    /// whether it carried a value
+    pub carries: bool,
+    /// the tickets of its direct causes, falling: of the events that are told on which it depends, with no other that
+    /// is told between
+    pub causes: Items<u64>,
 }
 
 /// The events that led to one.
@@ -29,9 +32,9 @@ pub struct Past {
 }
 
 /// Exactly the live events on which the one of this ticket depends, itself among them, in order of tickets, each with
-/// those that it follows; where not `all` are asked for, of them those that carried a value, and the one of this
-/// ticket. `None` where no live event has the ticket. It takes one sweep over the live events, and is an error if there
-/// is no memory.
+/// its direct causes; where not `all` are asked for, of them those that carried a value, and the one of this ticket.
+/// `None` where no live event has the ticket. It takes one sweep down over the live events, which looks only at the
+/// past. It is an error if there is no memory.
 pub fn past_of_event(
     alloc: Global,
     live: &Live,
@@ -70,6 +73,20 @@ fn past_of(alloc: Global, live: &Live, ticket: u64, all: bool) -> Result<Past, A
     ensures { IfOk result (λ past. ListsPast all live.now.live ticket past) }
 {
     live.is_sound();
-    let marks = mark_past(alloc, live, ticket)?;
-    list_marked(alloc, live, marks.as_slice(), ticket, all)
+    let whole = whole_past(alloc, live, ticket)?;
+    if all {
+        Ok(all_of(whole))
+    } else {
+        told_past(alloc, live, whole.as_slice(), ticket)
+    }
+}
+
+/// The past of which nothing is left out.
+fn all_of(events: Items<PastEvent>) -> Past
+    ensures { result ≡ record { events = events; left_out = 0 } }
+{
+    Past {
+        events,
+        left_out: 0,
+    }
 }

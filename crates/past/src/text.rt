@@ -15,8 +15,8 @@ use text_parts::{Piece, add_pieces, add_words};
 use value::Value;
 
 /// Adds a line for each of the events, which are live: its ticket, its line in the source, what it did, the values of
-/// the variables that it read, and the tickets that it follows. Then a line for those that are left out, if there are
-/// any. Without memory a part of it may be there.
+/// the variables that it read, and the tickets of its direct causes. Then a line for those that are left out, if there
+/// are any. Without memory a part of it may be there.
 pub fn write_past(
     alloc: Global,
     out: &mut Vec<u8>,
@@ -40,69 +40,34 @@ fn write_events(
     told: &[PastEvent],
 ) -> Result<(), AllocError>
     ensures { OnOk result (out.new.items ≡ out.old.items
-        ++ model.past_lines checked.now live.now.live told.now 0 (model.zeros checked.now) live.now.live) }
+        ++ model.past_lines checked.now live.now.live told.now (model.zeros checked.now)) }
 {
     let mut values = zeros(alloc, checked.system())?;
-    let mut next = 0;
-    for (ticket, event) in live.iter() {
-        let told_next = told_at(told, next);
-        write_if(
-            out,
-            checked,
-            live,
-            ticket,
-            event,
-            told_next,
-            values.as_slice(),
-        )?;
-        if is_told_at(told_next, ticket) {
-            next += 1;
-        }
-        note(values.as_mut_slice(), event);
+    let mut rest = told;
+    'events: while let Some((one, behind)) = rest.split_first() {
+        write_next(out, checked, live, one, values.as_mut_slice())?;
+        rest = behind;
     }
     Ok(())
 }
 
-/// The told event of this number, if there is one.
-fn told_at<'a>(told: &'a [PastEvent], number: usize) -> Option<&'a PastEvent>
-    ensures { option_copied result ≡ slice_get told.now number }
-{
-    match told.get(number) {
-        Some(event) => Some(event),
-        None => None,
-    }
-}
-
-/// Whether there is one, with this ticket.
-fn is_told_at(told: Option<&PastEvent>, ticket: u64) -> bool
-    ensures { result ≡ model.is_told_at (option_copied told.entry) ticket }
-{
-    match told {
-        Some(told) => told.ticket == ticket,
-        None => false,
-    }
-}
-
-/// Adds the line of the event of this ticket, if it is the one that is told.
-fn write_if(
+/// Adds the line of an event, and keeps what it wrote.
+fn write_next(
     out: &mut Vec<u8>,
     checked: &Checked,
     live: &Live,
-    ticket: u64,
-    event: &Event,
-    told: Option<&PastEvent>,
-    values: &[u64],
+    told: &PastEvent,
+    values: &mut [u64],
 ) -> Result<(), AllocError>
-    ensures { OnOk result (out.new.items ≡ out.old.items
-        ++ model.line_if checked.now live.now.live (ticket, event.now) (option_copied told.entry) values.now) }
+    ensures text { OnOk result (out.new.items ≡ out.old.items
+        ++ model.line_at checked.now live.now.live (slice_get live.now.live told.now.index) told.now values.old) }
+    ensures values { OnOk result (values.new ≡ model.noted_at (slice_get live.now.live told.now.index) values.old) }
 {
-    match told {
-        Some(told) => {
-            if told.ticket == ticket {
-                write_event(out, checked, live, event, told, values)
-            } else {
-                Ok(())
-            }
+    match live.pair_at(told.index as u64) {
+        Some((_, event)) => {
+            write_event(out, checked, live, event, told, values)?;
+            note(values, event);
+            Ok(())
         }
         None => Ok(()),
     }
@@ -173,7 +138,7 @@ fn write_event(
     write_line(out, line_after(checked, live, event.acting_place()))?;
     write_deed(out, checked.system(), event)?;
     write_reads(out, checked.system(), event.read.as_slice(), values)?;
-    write_follows(out, told.follows.as_slice())?;
+    write_causes(out, told.causes.as_slice())?;
     add_words(out, b"\n")
 }
 
@@ -378,9 +343,9 @@ fn write_held(out: &mut Vec<u8>, values: &[u64], variable: u32) -> Result<(), Al
     }
 }
 
-/// Adds the tickets that it follows, the least first, if there are any.
-fn write_follows(out: &mut Vec<u8>, tickets: &[u64]) -> Result<(), AllocError>
-    ensures { OnOk result (out.new.items ≡ out.old.items ++ model.follows_text tickets.now) }
+/// Adds the tickets of its direct causes, the least first, if there are any.
+fn write_causes(out: &mut Vec<u8>, tickets: &[u64]) -> Result<(), AllocError>
+    ensures { OnOk result (out.new.items ≡ out.old.items ++ model.causes_text tickets.now) }
 {
     if tickets.is_empty() {
         return Ok(());

@@ -1,1 +1,3 @@
-mod Refusing
+pub mod public
+mod Drawn
+mod Written

@@ -1,15 +1,18 @@
 -- What comes of a picture that is asked for.
-use Rattle.std.specs.Prelude.{◌≡◌, ℕ, List, Option, None}
+use Rattle.std.specs.Prelude.{◌≡◌, ◌⊎◌, ℕ, List, [], ◌++◌, Option, None, Some, Result, Ok, Err, Vec, codes, length}
+use Rattle.std.specs.Fmt.{decimal}
+use Rattle.std.specs.Global.{Global}
 use Rattle.std.specs.List.{All}
+use Rattle.std.specs.Io.KnownBytes.{Appends}
 use Rattle.system.specs.declared.system.System.{System}
 use Rattle.runs.specs.Live.{Live}
-use Rattle.runs.specs.declared.event.Event.{Event}
 use Rattle.typed.specs.declared.tree.Procedure.{Procedure}
 use Rattle.typed_source.specs.Source.{IsTyped}
 use Rattle.machine.specs.AtMachine.{AtMachine}
+use Rattle.devices.specs.Counting.{IsBeginning}
 use Rattle.json_text.specs.Strings.{IsPlain}
-use Rattle.trace_file.specs.Loading.{IsLoaded, ticketed}
-use Rattle.trace_file.specs.TraceText.{StandsFor}
+use Rattle.trace_file.specs.Loading.{IsLoaded, IsRefused}
+use Rattle.trace_file.specs.declared.fault.Fault.{Fault}
 use Rattle.picture_data.specs.Shown.{Shows}
 use Rattle.picture_data.specs.declared.picture.Picture.{Picture}
 use Rattle.picture_text.specs.DataText as model
@@ -19,54 +22,96 @@ use Rattle.picture_drawing.specs.Asked.{IsMissing, IsThere}
 use Rattle.picture.specs.declared.Drawing.{Drawing}
 use Rattle.picture.specs.declared.Pictured.{Pictured}
 
+-- ---- what is drawn
+
+-- what a picture tells of the files: the source, and the names of all three
+pub record Files : Type 0 where
+  pub source : List ℕ
+  pub file : List ℕ
+  pub stimulus : List ℕ
+  pub trace : List ℕ
+
+abbrev pub files_of : List ℕ → Names → Files
+files_of source names =
+    record { source = source; file = names.file.now; stimulus = names.stimulus.now; trace = names.trace.now }
+
 -- the step whose causes and consequences a picture marks, if one is asked for
 abbrev pub asked_event : Drawing → Option ℕ
 asked_event (Drawing.Sheet event quiet) = event
 asked_event other = None
 
+-- ---- texts
+
 -- the data of a picture of the machine, as a JSON text
-abbrev pub data_text : AtMachine → Picture → List ℕ → Names → List ℕ
-data_text m p source names =
-    model.data_text m.checked m.live p source names.file.now names.stimulus.now names.trace.now
+abbrev pub data_text : AtMachine → Picture → Files → List ℕ
+data_text m p f = model.data_text m.checked m.live p f.source f.file f.stimulus f.trace
 
 -- the picture shows the machine, drawn on what there is in the source
 abbrev pub ShowsRun : AtMachine → List ℕ → Picture → Type 0
 ShowsRun m source picture = (procedures : List Procedure) × IsTyped source procedures × Shows m procedures picture
 
 -- the data of a picture that shows the machine, and no byte of them ends the script that they stand in
-pub record AreData (m : AtMachine) (source : List ℕ) (names : Names) (text : List ℕ) : Type 0 where
+pub record AreData (m : AtMachine) (f : Files) (text : List ℕ) : Type 0 where
   pub picture : Picture
-  pub shows : ShowsRun m source picture
-  pub is_text : text ≡ data_text m picture source names
+  pub shows : ShowsRun m f.source picture
+  pub is_text : text ≡ data_text m picture f
   pub plain : All IsPlain text
 
 -- the page with such data
-abbrev pub IsPage : AtMachine → List ℕ → Names → List ℕ → Type 0
-IsPage m source names text = (data_of : List ℕ) × AreData m source names data_of × (text ≡ page_text data_of)
+abbrev pub IsPage : AtMachine → Files → List ℕ → Type 0
+IsPage m f text = (data_of : List ℕ) × AreData m f data_of × (text ≡ page_text data_of)
 
 -- what a picture of each form is. Of a drawing and of waves no clause names the text
-abbrev pub IsDrawn : AtMachine → List ℕ → Names → Drawing → List ℕ → Type 0
-IsDrawn m source names Drawing.Page text = IsPage m source names text
-IsDrawn m source names Drawing.Data text = AreData m source names text
-IsDrawn m source names other text = Unit {0}
+abbrev pub IsDrawn : AtMachine → Files → Drawing → List ℕ → Type 0
+IsDrawn m f Drawing.Page text = IsPage m f text
+IsDrawn m f Drawing.Data text = AreData m f text
+IsDrawn m f other text = Unit {0}
 
--- a picture of any form, which is what it is to be
-abbrev pub IsPictureOf : AtMachine → List ℕ → Names → Drawing → Pictured → Type 0
-IsPictureOf m source names drawing (Pictured.Text text) =
-    IsThere m.live (asked_event drawing) × IsDrawn m source names drawing text.items
-IsPictureOf m source names drawing (Pictured.NoSuchStep words) = IsMissing m.live (asked_event drawing)
+-- what is said of the step that is asked for, where a trace of so many steps does not have it
+abbrev pub missing_text : Option ℕ → ℕ → List ℕ
+missing_text None count = []
+missing_text (Some step) count =
+    codes "the trace has no step " ++ decimal step ++ codes ": it has " ++ decimal count ++ codes " steps\n"
+
+-- these words say so of one that is asked for
+abbrev pub TellsMissing : Live → Option ℕ → List ℕ → Type 0
+TellsMissing l event words = IsMissing l event × (words ≡ missing_text event (length l))
+
+-- ---- answers
+
+-- the text of a picture of the machine, which has the step that is asked for, if one is
+abbrev pub IsPictureText : AtMachine → Files → Drawing → List ℕ → Type 0
+IsPictureText m f drawing text = IsThere m.live (asked_event drawing) × IsDrawn m f drawing text
+
+-- such a text, or the lines where there is no such step
+abbrev pub IsPictureOf : AtMachine → Files → Drawing → Pictured → Type 0
+IsPictureOf m f drawing (Pictured.Text text) = IsPictureText m f drawing text.items
+IsPictureOf m f drawing (Pictured.NoSuchStep words) = TellsMissing m.live (asked_event drawing) words.items
 
 -- of the machine that the trace is loaded to
-abbrev pub IsPictureBehind : System → List ℕ → List ℕ → Names → Drawing → Pictured → Type 0
-IsPictureBehind system trace source names drawing pictured =
-    (m : AtMachine) × IsLoaded system trace m × IsPictureOf m source names drawing pictured
+abbrev pub IsPictureBehind : System → List ℕ → Files → Drawing → Pictured → Type 0
+IsPictureBehind system trace f drawing pictured =
+    (m : AtMachine) × IsLoaded system trace m × IsPictureOf m f drawing pictured
 
--- whether there is a picture of these live events, which is so where the step that is asked for is one of them
-abbrev pub IsShown : Live → Option ℕ → Pictured → Type 0
-IsShown l event (Pictured.Text text) = IsThere l event
-IsShown l event (Pictured.NoSuchStep words) = IsMissing l event
+-- ---- what is written
 
--- the same of the events for which the trace stands, numbered from 1
-abbrev pub IsPictured : System → List ℕ → Drawing → Pictured → Type 0
-IsPictured system trace drawing pictured =
-    (h : List Event) × StandsFor system trace h × IsShown (ticketed 1 h) (asked_event drawing) pictured
+-- these bytes were written of a picture of the machine: all of its text, where there are no lines; none, where lines
+-- say that there is no such step; a beginning, where the writer failed
+abbrev pub IsWrittenOf : AtMachine → Files → Drawing → List ℕ → Result (Option (Vec ℕ Global)) Fault → Type 0
+IsWrittenOf m f drawing given (Ok None) = IsPictureText m f drawing given
+IsWrittenOf m f drawing given (Ok (Some words)) =
+    TellsMissing m.live (asked_event drawing) words.items × (given ≡ [])
+IsWrittenOf m f drawing given (Err fault) =
+    (fault ≡ Fault.WriteFailed) × ((text : List ℕ) × IsPictureText m f drawing text × IsBeginning text given)
+
+-- of the machine that the trace is loaded to; none, where the trace is refused
+abbrev pub IsWritten : System → List ℕ → Files → Drawing → List ℕ → Result (Option (Vec ℕ Global)) Fault → Type 0
+IsWritten system trace f drawing given result =
+    ((m : AtMachine) × IsLoaded system trace m × IsWrittenOf m f drawing given result)
+    ⊎ ((fault : Fault) × (result ≡ Err fault) × IsRefused system trace fault × (given ≡ []))
+
+-- a writer was given such bytes
+abbrev pub WritesPicture : System → List ℕ → Files → Drawing → Option (List ℕ) → Option (List ℕ)
+    → Result (Option (Vec ℕ Global)) Fault → Type 0
+WritesPicture system trace f drawing wrote held result =
+    (given : List ℕ) × Appends wrote held given × IsWritten system trace f drawing given result

@@ -1,9 +1,11 @@
 //! The picture of a run, as a page, as a drawing, as waves, or as the data alone.
 #![tactic(auto)]
 
-ghost use Rattle.std.specs.Prelude.{◌≡◌, IfOk, MatchResult};
+ghost use Rattle.std.specs.Prelude.{◌≡◌, IfOk, MatchResult, None, Ok, Some};
 ghost use Rattle.trace_file.specs.Loading.{IsRefused, after_writing};
-ghost use Rattle.picture.specs.Pictures.{AreData, IsPage, IsPictureBehind, IsPictureOf, IsPictured, IsShown, ShowsRun};
+ghost use Rattle.picture.specs.Pictures as model;
+ghost use Rattle.picture.specs.Pictures.{AreData, IsPage, IsPictureBehind, IsPictureOf, ShowsRun, WritesPicture, files_of};
+ghost use Rattle.picture.specs.internal.Writing.{IsSheet, WritesPictured, WritesText};
 
 use devices::{CountedWrite, write_out};
 use machine::Machine;
@@ -14,7 +16,7 @@ use picture_text::{data_text, page_text};
 use picture_waves::waves_text;
 use sharing_check::Checked;
 use std::alloc::{AllocError, Global};
-use std::io::Write;
+use text_parts::{Piece, add_pieces};
 use trace_file::{Fault, load_text};
 use typed_source::typed_source;
 
@@ -54,30 +56,17 @@ pub fn picture_text(
     names: Names<'_>,
     drawing: Drawing,
 ) -> Result<Pictured, Fault>
-    ensures { MatchResult result (IsPictured checked trace.now drawing) (λ fault. IsRefused checked trace.now fault) }
-{
-    run_picture(alloc, checked, source, trace, names, drawing)
-}
-
-/// The same, of which the contract says more: which text a page and its data are.
-pub fn run_picture(
-    alloc: Global,
-    checked: Checked,
-    source: &[u8],
-    trace: &[u8],
-    names: Names<'_>,
-    drawing: Drawing,
-) -> Result<Pictured, Fault>
-    ensures { MatchResult result (IsPictureBehind checked trace.now source.now names.entry drawing)
+    ensures { MatchResult result
+        (IsPictureBehind checked trace.now (files_of source.now names.entry) drawing)
         (λ fault. IsRefused checked trace.now fault) }
 {
     let machine = load_text(alloc, checked, trace)?;
     Ok(drawn(alloc, &machine, source, names, drawing)?)
 }
 
-/// Writes the same; the lines where there is no such step, of which nothing is written. At `WriteFailed`, which comes
-/// exactly where the writer counts a failure, a beginning is out; at every other fault the writer was not asked for
-/// anything.
+/// Writes the same, and sends it on; the lines where there is no such step, of which nothing is written. At
+/// `WriteFailed`, which comes exactly where the writer counts a failure, a beginning is out; at every other fault the
+/// writer was not asked for anything.
 pub fn write_picture<W: CountedWrite>(
     alloc: Global,
     checked: Checked,
@@ -87,17 +76,36 @@ pub fn write_picture<W: CountedWrite>(
     drawing: Drawing,
     writer: &mut W,
 ) -> Result<Option<Vec<u8>>, Fault>
+    ensures written { WritesPicture checked trace.now (files_of source.now names.entry) drawing
+        (W.contents writer.old) (W.contents writer.new) result }
+    ensures sent { result ≡ Ok None → W.unsent writer.new ≡ 0 }
     ensures failures { W.failed writer.new ≡ after_writing result (W.failed writer.old) }
 {
     match picture_text(alloc, checked, source, trace, names, drawing) {
-        Ok(Pictured::Text(text)) => written(text.as_slice(), writer),
-        Ok(Pictured::NoSuchStep(words)) => Ok(Some(words)),
+        Ok(pictured) => picture_written(pictured, writer),
         Err(fault) => Err(fault),
     }
 }
 
+/// Writes the picture, or gives the lines back where there is no such step.
+fn picture_written<W: CountedWrite>(
+    pictured: Pictured,
+    writer: &mut W,
+) -> Result<Option<Vec<u8>>, Fault>
+    ensures written { WritesPictured pictured (W.contents writer.old) (W.contents writer.new) result }
+    ensures sent { result ≡ Ok None → W.unsent writer.new ≡ 0 }
+    ensures failures { W.failed writer.new ≡ after_writing result (W.failed writer.old) }
+{
+    match pictured {
+        Pictured::Text(text) => text_written(text.as_slice(), writer),
+        Pictured::NoSuchStep(words) => Ok(Some(words)),
+    }
+}
+
 /// Writes the text.
-fn written<W: CountedWrite>(text: &[u8], writer: &mut W) -> Result<Option<Vec<u8>>, Fault>
+fn text_written<W: CountedWrite>(text: &[u8], writer: &mut W) -> Result<Option<Vec<u8>>, Fault>
+    ensures written { WritesText text.now (W.contents writer.old) (W.contents writer.new) result }
+    ensures sent { result ≡ Ok None → W.unsent writer.new ≡ 0 }
     ensures failures { W.failed writer.new ≡ after_writing result (W.failed writer.old) }
 {
     match write_out(writer, text) {
@@ -114,7 +122,7 @@ fn drawn(
     names: Names<'_>,
     drawing: Drawing,
 ) -> Result<Pictured, AllocError>
-    ensures { IfOk result (IsPictureOf machine.now source.now names.entry drawing) }
+    ensures { IfOk result (IsPictureOf machine.now (files_of source.now names.entry) drawing) }
 {
     let picture = taken(alloc, machine, source)?;
     match drawing {
@@ -128,6 +136,7 @@ fn drawn(
 }
 
 /// The drawing.
+#[tactic(auto, using(crate::proofs::Drawn::tells_missing))]
 fn sheet_of(
     alloc: Global,
     machine: &Machine,
@@ -136,7 +145,7 @@ fn sheet_of(
     event: Option<u64>,
     quiet: bool,
 ) -> Result<Pictured, AllocError>
-    ensures { IfOk result (IsShown machine.now.live event) }
+    ensures { IfOk result (IsSheet machine.now.live event) }
 {
     match drawing_text(alloc, machine, picture, trace, event, quiet)? {
         Some(text) => Ok(Pictured::Text(text)),
@@ -147,16 +156,32 @@ fn sheet_of(
     }
 }
 
-/// What is said of a step that a trace of so many steps does not have.
-fn missing_text(alloc: Global, event: Option<u64>, count: usize) -> Result<Vec<u8>, AllocError> {
-    let mut text = Vec::new(alloc);
-    let number = event.unwrap_or(0);
-    write!(
-        text,
-        "the trace has no step {number}: it has {count} steps\n"
-    )
-    .map_err(|_| AllocError)?;
-    Ok(text)
+/// What is said of the step that is asked for where a trace of so many steps does not have it.
+fn missing_text(alloc: Global, event: Option<u64>, count: usize) -> Result<Vec<u8>, AllocError>
+    ensures { IfOk result (λ words. words.items ≡ model.missing_text event count) }
+{
+    match event {
+        Some(step) => step_missing(alloc, step, count),
+        None => Ok(Vec::new(alloc)),
+    }
+}
+
+/// The same of this step.
+fn step_missing(alloc: Global, step: u64, count: usize) -> Result<Vec<u8>, AllocError>
+    ensures { IfOk result (λ words. words.items ≡ model.missing_text (Some step) count) }
+{
+    let mut words = Vec::new(alloc);
+    add_pieces(
+        &mut words,
+        &[
+            Piece::Words(b"the trace has no step "),
+            Piece::Number(step),
+            Piece::Words(b": it has "),
+            Piece::Number(count as u64),
+            Piece::Words(b" steps\n"),
+        ],
+    )?;
+    Ok(words)
 }
 
 /// The page.
@@ -168,7 +193,7 @@ fn page_of(
     names: Names<'_>,
 ) -> Result<Vec<u8>, AllocError>
     requires { ShowsRun machine.now source.now picture.now }
-    ensures { IfOk result (λ text. IsPage machine.now source.now names.entry text.items) }
+    ensures { IfOk result (λ text. IsPage machine.now (files_of source.now names.entry) text.items) }
 {
     let json = data_of(alloc, machine, picture, source, names)?;
     page_text(alloc, json.as_slice())
@@ -183,7 +208,7 @@ fn data_of(
     names: Names<'_>,
 ) -> Result<Vec<u8>, AllocError>
     requires { ShowsRun machine.now source.now picture.now }
-    ensures { IfOk result (λ text. AreData machine.now source.now names.entry text.items) }
+    ensures { IfOk result (λ text. AreData machine.now (files_of source.now names.entry) text.items) }
 {
     data_text(alloc, machine, picture, source, names)
 }

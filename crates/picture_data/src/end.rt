@@ -13,6 +13,7 @@ use crate::partners::Now;
 use crate::places::{Place, add_ready_places, waiting_places};
 use machine::Machine;
 use picture_lanes::{ChannelUse, LaneTable};
+use run_depths::greatest_depths;
 use runs::Event;
 use std::alloc::{AllocError, Global};
 use syntax::Items;
@@ -29,8 +30,8 @@ pub struct End {
     pub ready_actions: Vec<Actions>,
     /// the places that wait, in order, and behind them those of the events that can be taken
     pub places: Vec<Place>,
-    /// the indexes of places of which each waits for the next, and the last for the first; empty where no such ring was
-    /// found
+    /// the indexes of places of which each waits for the next, and the last for the first: one such ring, and empty
+    /// where there is none
     pub ring: Vec<usize>,
 }
 
@@ -51,6 +52,7 @@ pub(crate) fn end_of(
     let ready_actions = all_actions(alloc, machine, table, events)?;
     let actions = waiting.actions.as_slice();
     let live = machine.live_events();
+    let most = greatest_depths(alloc, depths)?;
     let now = Now {
         table,
         uses,
@@ -58,6 +60,7 @@ pub(crate) fn end_of(
         ready: events,
         live,
         depths,
+        most: most.as_slice(),
     };
     let shown = waiting_places(alloc, machine, &now, &waiting)?;
     let ring_sides = waiting.ring.as_slice();

@@ -16,7 +16,7 @@ use std::alloc::{AllocError, Global};
 use waiting::Partner;
 
 /// What stands now: the lanes and the uses of channels, the actions that wait and the events that can be taken, behind
-/// live events of these depths.
+/// live events of these depths, of which these are the greatest up to each.
 #[derive(Clone, Copy)]
 pub(crate) struct Now<'a> {
     pub(crate) table: &'a LaneTable,
@@ -25,6 +25,7 @@ pub(crate) struct Now<'a> {
     pub(crate) ready: &'a [Event],
     pub(crate) live: &'a Live,
     pub(crate) depths: &'a [usize],
+    pub(crate) most: &'a [usize],
 }
 
 /// The lanes for which an action in the lane waits: of what stands at the place behind which its partner is, and where

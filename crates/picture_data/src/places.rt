@@ -3,11 +3,10 @@ ghost use Rattle.std.specs.Prelude.{◌≡◌, ◌-◌, ◌∷◌, [], ℕ, leng
 ghost use Rattle.std.specs.Option.{option_copied};
 ghost use Rattle.syntax.specs.Lists.{Every};
 ghost use Rattle.runs.specs.Moves as moves;
-ghost use Rattle.picture_data.specs.Shown.{HasDepths};
 ghost use Rattle.picture_data.specs.Spots as spots;
 ghost use Rattle.picture_data.specs.Spots.{StandsSince, channel_of, event_spots, made_spot, on_channel, place_at};
 ghost use Rattle.picture_data.specs.Spots.{ready_spot, ready_spots, role_of, spot_at, spot_of, want_of, with_side, waiting_with};
-ghost use Rattle.picture_data.specs.internal.SpotsSoFar.{AddsSpots, SpotsOf, TakenFor, around_in, deep_in, seen_in};
+ghost use Rattle.picture_data.specs.internal.SpotsSoFar.{AddsSpots, KnowsDepths, SpotsOf, TakenFor, around_in, deep_in, seen_in};
 
 use crate::actions::{lane_at, line_of};
 use crate::partners::{Now, wanted_lanes};
@@ -75,7 +74,7 @@ pub(crate) fn waiting_places(
     now: &Now<'_>,
     waiting: &Waiting,
 ) -> Result<Standings, AllocError>
-    requires { HasDepths now.now.live.now.live now.now.depths.now }
+    requires { KnowsDepths now.now }
     ensures { IfOk result (λ made. SpotsOf (seen_in machine.now now.now) (deep_in now.now) waiting.now.partners.items
         waiting.now.actions made.places.items made.place_of_action.items) }
 {
@@ -120,7 +119,7 @@ fn add_action(
     partner: Option<&Partner>,
     places: &mut Vec<Place>,
 ) -> Result<(), AllocError>
-    requires { HasDepths now.now.live.now.live now.now.depths.now }
+    requires { KnowsDepths now.now }
     ensures spots { OnOk result (map spot_of places.new.items
         ≡ with_side (seen_in machine.now now.now) (map spot_of places.old.items) action.now (option_copied partner.entry)) }
     ensures since { OnOk result (Every (StandsSince (deep_in now.now)) places.old.items →
@@ -144,7 +143,7 @@ fn place_for(
     action: &LocalAction,
     places: &mut Vec<Place>,
 ) -> Result<Place, AllocError>
-    requires { HasDepths now.now.live.now.live now.now.depths.now }
+    requires { KnowsDepths now.now }
     ensures { IfOk result (λ place. TakenFor (seen_in machine.now now.now) (deep_in now.now) action.now
         places.old.items places.new.items place) }
 {
@@ -167,7 +166,7 @@ fn new_place(
     now: &Now<'_>,
     action: &LocalAction,
 ) -> Result<Place, AllocError>
-    requires { HasDepths now.now.live.now.live now.now.depths.now }
+    requires { KnowsDepths now.now }
     ensures spot { IfOk result (λ made.
         spot_of made ≡ spot_at (seen_in machine.now now.now) action.now.place (role_of action.now.action)) }
     ensures since { IfOk result (StandsSince (deep_in now.now)) }
@@ -188,14 +187,14 @@ fn place_of(
     wanted: Vec<Wanted>,
     is_ready: bool,
 ) -> Result<Place, AllocError>
-    requires { HasDepths now.now.live.now.live now.now.depths.now }
+    requires { KnowsDepths now.now }
     ensures spot { IfOk result (λ made. spot_of made
         ≡ made_spot (seen_in machine.now now.now) place.now role (map want_of wanted.items) is_ready) }
     ensures since { IfOk result (StandsSince (deep_in now.now)) }
 {
     let lane = lane_at(alloc, now.table, place)?;
     let line = line_of(machine, place);
-    let since = since_now(now.live, now.depths, place);
+    let since = since_now(now.live, now.depths, now.most, place);
     let place = place.copy(alloc)?;
     Ok(Place {
         lane,
@@ -283,7 +282,7 @@ pub(crate) fn add_ready_places(
     ready: &[Event],
     places: &mut Vec<Place>,
 ) -> Result<(), AllocError>
-    requires { HasDepths now.now.live.now.live now.now.depths.now }
+    requires { KnowsDepths now.now }
     ensures { OnOk result (AddsSpots (deep_in now.now) places.old.items places.new.items
         (ready_spots (seen_in machine.now now.now) ready.now)) }
 {
@@ -301,7 +300,7 @@ fn add_event_places(
     event: &Event,
     places: &mut Vec<Place>,
 ) -> Result<(), AllocError>
-    requires { HasDepths now.now.live.now.live now.now.depths.now }
+    requires { KnowsDepths now.now }
     ensures { OnOk result (AddsSpots (deep_in now.now) places.old.items places.new.items
         (event_spots (seen_in machine.now now.now) event.now)) }
 {
@@ -338,7 +337,7 @@ fn add_ready_place(
     role: Role,
     places: &mut Vec<Place>,
 ) -> Result<(), AllocError>
-    requires { HasDepths now.now.live.now.live now.now.depths.now }
+    requires { KnowsDepths now.now }
     ensures { OnOk result (AddsSpots (deep_in now.now) places.old.items places.new.items
         (ready_spot (seen_in machine.now now.now) event.now place.now role ∷ [])) }
 {

@@ -1,3 +1,4 @@
+mod DataJson
 mod OneOrder
 mod OnePage
 mod OnePicture

@@ -1,2 +1,3 @@
+pub mod DataRead
 pub mod EqualPages
 pub mod EqualPictures

@@ -1,11 +1,14 @@
 //! The laws of pictures: runs that differ only in the order of independent steps show the same, whatever their tickets;
 //! one order of events shows the same at each index; and so in the canonical order, as saved traces have it, such runs
-//! have one page, byte for byte. The functions do nothing, their contracts say it.
+//! have one page, byte for byte. The data of a picture are read in one way. The functions do nothing, their contracts
+//! say it.
 #![tactic(auto)]
 
+ghost use Rattle.picture_laws.specs.DataRead.{DataHaveOneValue};
 ghost use Rattle.picture_laws.specs.EqualPages.{EqualRunsHaveOnePage};
 ghost use Rattle.picture_laws.specs.EqualPictures.{EqualRunsShowTheSame, OneRunShowsTheSame};
 
+use json_text::texts_have_one_value;
 use waiting::waiters_have_one_order;
 
 /// The pictures of two runs that differ only in the order of independent steps show the same of each event, and of the
@@ -29,4 +32,11 @@ pub fn equal_runs_have_one_page()
     ensures { EqualRunsHaveOnePage }
 {
     waiters_have_one_order();
+}
+
+/// The data of a picture are one value of JSON, and are read as no other.
+pub fn data_have_one_value()
+    ensures { DataHaveOneValue }
+{
+    texts_have_one_value();
 }

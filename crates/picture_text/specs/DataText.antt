@@ -176,7 +176,7 @@ place_row p =
     list_text (optional_text p.lane ∷ string_text (text_of p.place) ∷ decimal p.line ∷ string_text (role_text p.role)
     ∷ list_text (map wanted_text p.wanted.items) ∷ decimal (flag p.is_ready) ∷ [])
 
--- a list of the one ring, or of none
+-- of the rings of places that wait for one another one is told, if there is one: a list of it, or of none
 abbrev pub rings_text : List ℕ → List ℕ
 rings_text [] = list_text []
 rings_text (i ∷ ring) = list_text (numbers_text (i ∷ ring) ∷ [])

@@ -164,7 +164,7 @@ fn add_one_wanted(json: &mut Json, wanted: &Wanted) -> Result<(), AllocError>
     json.close_list()
 }
 
-/// Adds the ring of places that wait for one another, if there is one.
+/// Adds a list of the one ring that is told of places that wait for one another, if there is one.
 #[tactic(auto, using(json_text::proofs::public::Growing::member_added))]
 pub(crate) fn add_ring(json: &mut Json, ring: &[usize]) -> Result<(), AllocError>
     ensures { OnOk result (json.new ≡ with_value json.old (member_text (codes "rings") (model.rings_text ring.now))) }
@@ -173,7 +173,7 @@ pub(crate) fn add_ring(json: &mut Json, ring: &[usize]) -> Result<(), AllocError
     add_rings(json, ring)
 }
 
-/// Adds the list of the one ring, or of none.
+/// Adds that list.
 fn add_rings(json: &mut Json, ring: &[usize]) -> Result<(), AllocError>
     ensures { OnOk result (json.new ≡ with_value json.old (model.rings_text ring.now)) }
 {

@@ -25,7 +25,7 @@ use Rattle.rings.specs.internal.Ends.{channel_of, channels, same_sought, with_en
 use Rattle.rings.specs.internal.Loosened.{is_marked}
 use Rattle.rings.specs.internal.Seen.{seen}
 use Rattle.rings.proofs.Counted.{other-end, open-more, same-sought-true}
-use Rattle.rings.proofs.Holding.{bool-same, bool-other}
+use Rattle.rings.proofs.Tallied.{bool-same, bool-other}
 use Rattle.rings.proofs.Left.{left-seen}
 use Rattle.rings.proofs.Summed.{Tells, proc-sums}
 

@@ -1,10 +1,12 @@
 -- Marks of deadlocked places, from all down to those that hold each other back.
-use Rattle.std.proofs.Common.{◌≡◌, inl, inr, ℕ, zero, suc, ◌+◌, ◌<◌, ◌≤◌, List, [], ◌∷◌, map, take, drop, length, ◌++◌, get_or, set, slice_index_or, Bool, true, false, not, ◌&&◌, Option, Some, None, option_map, slice_get, slice_set, MatchOption, refl, sym, ◌∙◌, ap, ap₂, subst, arith, get_or-set_other, get_or-set_same, true≢false}
-use Rattle.std.proofs.lemmas.Bool.{and_from, and_parts, cases_Bool, cases_eq, cases_lt}
-use Rattle.std.proofs.lemmas.List.{take_at}
-use Rattle.std.proofs.lemmas.Option.{slice_get-get_or, slice_get-map, slice_get_within}
+use Rattle.std.proofs.Common.{◌≡◌, ◌⊎◌, inl, inr, ℕ, zero, suc, ◌<◌, ◌≤◌, ◌==◌, List, [], ◌∷◌, ◌++◌, map, length, Bool, true, false, not, ◌&&◌, ◌||◌, Option, Some, None, option_map, slice_get, slice_index, refl, sym, ◌∙◌, ap, ap₂, subst, arith, true≢false}
+use Rattle.std.proofs.lemmas.Bool.{and_from, and_parts, cases_Bool, cases_eq, eqb-true, eq-eqb}
+use Rattle.std.proofs.lemmas.Option.{slice_get-map, slice_get_within}
 use Rattle.runs.proofs.public.Options.{none-some, some-injective}
 use Rattle.runs.specs.Moves.{Place}
+use Rattle.runs.proofs.public.Lists.{in-parts}
+use Rattle.last_events.specs.LastEvents.{Uses}
+use Rattle.last_events.specs.declared.uses.UseTable.{UseTable}
 use Rattle.runs.specs.Tests.{same_place}
 use Rattle.syntax.specs.Lists.{In}
 use Rattle.system.specs.Residual.{Residual}
@@ -15,9 +17,12 @@ use Rattle.rings.specs.Partners.{partner_in}
 use Rattle.rings.specs.Rings.{Helped, HeldBack, HoldEachOther, TellsDeadlocked}
 use Rattle.rings.specs.declared.partner.Partner.{Partner}
 use Rattle.rings.specs.declared.partner.Partner.TheVariants as partner
-use Rattle.rings.specs.internal.Loosened.{is_marked, stands_under, supports, Held, Released, NoneBefore, Passed, Loose, AllFirm, IsLoose, count_marked}
-use Rattle.rings.specs.internal.Loosening.{Keeps, Loosening}
-use Rattle.rings.specs.internal.Search.{same_places, same_at}
+use Rattle.rings.specs.internal.Loosened.{is_free, is_loose, is_marked, stands_under, supports, Firm, Held, Released, Loose, AllFirm, IsLoose}
+use Rattle.rings.specs.internal.Loosening.{Keeps, Loosened, Loosening, Sturdy}
+use Rattle.rings.specs.internal.Search.{behind_at, same_places, same_at}
+use Rattle.rings.specs.internal.Standing.{HasBeside, HasEdges}
+use Rattle.rings.specs.internal.Tally.{Counted, Loosens, Puts, counts_for, edge, tally}
+use Rattle.rings.proofs.Tallied.{edge-used, tally-same, tally-some, tally-zero, used-edge}
 use Rattle.rings.proofs.Places.{Among, got-in, in-got, itself, marked-some}
 
 -- ---- tests
@@ -35,25 +40,10 @@ and-left true n h = refl
 and-left false n h = cc
 
 -- ---- a list at an index
-pub at-get : (ps : List Partner) (i : ℕ) (p : Partner) → i < length ps → p ≡ slice_index_or ps i p → slice_get ps i ≡ Some p
-at-get ps i p h e = slice_get-get_or ps i p h ∙ ap (λ (q : Partner). Some q) (sym e)
-
 past-end : {X : Type 0} (xs : List X) (i : ℕ) → length xs ≤ i → slice_get xs i ≡ None
 past-end [] i h = refl
 past-end (x ∷ xs) zero h = absurd (omega (arith, h))
 past-end (x ∷ xs) (suc i) h = past-end xs i (omega (arith, h))
-
-pub bool-same : (l : List Bool) (i : ℕ) (v : Bool) → i < length l → slice_get (slice_set l i v) i ≡ Some v
-bool-same [] i v h = absurd (omega (arith, h))
-bool-same (x ∷ l) zero v h = refl
-bool-same (x ∷ l) (suc i) v h = bool-same l i v (omega (arith, h))
-
-pub bool-other : (l : List Bool) (i j : ℕ) (v : Bool) → (i ≡ j → ⊥) → slice_get (slice_set l i v) j ≡ slice_get l j
-bool-other [] i j v h = refl
-bool-other (x ∷ l) zero zero v h = absurd (h refl)
-bool-other (x ∷ l) zero (suc j) v h = refl
-bool-other (x ∷ l) (suc i) zero v h = refl
-bool-other (x ∷ l) (suc i) (suc j) v h = bool-other l i j v (λ e. h (ap suc e))
 
 -- ---- actions at one place
 same-some : (x y : Option LocalAction) → same_places x y ≡ true → (z : Option LocalAction) → same_places x z ≡ same_places y z
@@ -73,39 +63,6 @@ same-told : (xs : List LocalAction) (i j : ℕ) (x y : LocalAction) → slice_ge
 same-told xs i j x y at goes h =
     place-true x.place y.place (sym (ap₂ (λ (a b : Option LocalAction). same_places a b) at goes) ∙ h)
 
--- ---- the search for an action that holds one back
-pub support-past : (xs : List LocalAction) (marks : List Bool) (p : Place) (j : ℕ) → length xs ≤ j → supports xs marks p j ≡ false
-support-past xs marks p j h =
-    ap (λ (o : Option LocalAction). is_marked (slice_get marks j) && stands_under p o) (past-end xs j h) ∙ and-false (is_marked (slice_get marks j))
-
-pub held-behind : (xs : List LocalAction) (marks : List Bool) (p : Place) (from : ℕ) (o : Option ℕ) → ((j : ℕ) → j < from → supports xs marks p j ≡ false)
-    → MatchOption o ((j : ℕ) → from ≤ j → supports xs marks p j ≡ false)
-    (λ next. (supports xs marks p next ≡ true) × ((j : ℕ) → from ≤ j → j < next → supports xs marks p j ≡ false))
-    → MatchOption o (Released xs marks (partner.Behind p)) (λ next. Held xs marks (partner.Behind p) × NoneBefore xs marks next (partner.Behind p))
-held-behind xs marks p from None before h = λ j. elim (cases_lt j from) [ inl less ↦ before j less | inr more ↦ h j more ]
-held-behind xs marks p from (Some next) before h =
-    ((next, h.0), λ j less. elim (cases_lt j from) [ inl under ↦ before j under | inr more ↦ h.1 j more less ])
-
--- a step of one of them that is brought up to date
-pub passed-more : (xs : List LocalAction) (ps : List Partner) (marks : List Bool) (passed new : List ℕ) (i next : ℕ) (p : Partner) → i < length passed → slice_get ps i ≡ Some p
-    → Passed xs ps marks passed → NoneBefore xs marks next p → new ≡ set passed i next → Passed xs ps marks new
-passed-more xs ps marks passed new i next p less at old here e = λ k q goes. elim (cases_eq k i) [
-  | inl is ↦
-      let same : p ≡ q = some-injective p q (sym at ∙ sym (ap (slice_get ps) is) ∙ goes) in
-      let now : get_or new k 0 ≡ next = ap (λ (l : List ℕ). get_or l k 0) e ∙ ap (λ (n : ℕ). get_or (set passed i next) n 0) is ∙ get_or-set_same passed i next 0 less in
-      subst (λ (n : ℕ). NoneBefore xs marks n q) (sym now) (subst (λ (z : Partner). NoneBefore xs marks next z) same here)
-  | inr apart ↦
-      let now : get_or new k 0 ≡ get_or passed k 0 = ap (λ (l : List ℕ). get_or l k 0) e ∙ get_or-set_other passed i k next 0 apart in
-      subst (λ (n : ℕ). NoneBefore xs marks n q) (sym now) (old k q goes)
-]
-
--- ---- marks that are taken away
--- those before index n are
-pub record Cleared (xs : List LocalAction) (old new : List Bool) (index n : ℕ) : Type 0 where
-  pub size : length new ≡ length xs
-  pub done : (i : ℕ) → i < n → is_marked (slice_get new i) ≡ (is_marked (slice_get old i) && not (same_at xs i index))
-  pub rest : (i : ℕ) → n ≤ i → slice_get new i ≡ slice_get old i
-
 kept-not : (m s : Bool) → s ≡ false → m ≡ (m && not s)
 kept-not true s h = sym (ap not h)
 kept-not false s h = refl
@@ -114,64 +71,21 @@ gone-not : (m s : Bool) → s ≡ true → false ≡ (m && not s)
 gone-not true s h = sym (ap not h)
 gone-not false s h = refl
 
-pub clears : (xs : List LocalAction) (old new next : List Bool) (index n m : ℕ) → m ≡ n + 1 → n < length xs → same_at xs n index ≡ true → next ≡ slice_set new n false
-    → length next ≡ length new → Cleared xs old new index n → Cleared xs old next index m
-clears xs old new next index n m step less same e size c = record {
-  size = size ∙ c.size;
-  done = λ i h. elim (cases_eq i n) [
-    | inl is ↦
-        ap (λ (k : ℕ). is_marked (slice_get next k)) is ∙ ap (λ (l : List Bool). is_marked (slice_get l n)) e
-        ∙ ap is_marked (bool-same new n false (omega (arith, less, c.size))) ∙ gone-not (is_marked (slice_get old n)) (same_at xs n index) same
-        ∙ ap (λ (k : ℕ). is_marked (slice_get old k) && not (same_at xs k index)) (sym is)
-    | inr apart ↦
-        ap (λ (l : List Bool). is_marked (slice_get l i)) e ∙ ap is_marked (bool-other new n i false (λ f. apart (sym f)))
-        ∙ c.done i (omega (arith, h, step, apart))
-  ];
-  rest = λ i h. ap (λ (l : List Bool). slice_get l i) e ∙ bool-other new n i false (λ f. omega (arith, f, h, step)) ∙ c.rest i (omega (arith, h, step));
-}
+marked-within : (marks : List Bool) (i : ℕ) → is_marked (slice_get marks i) ≡ true → i < length marks
+marked-within marks i h = pick (slice_get marks i) refl h
+  where
+    pick : (o : Option Bool) → slice_get marks i ≡ o → is_marked o ≡ true → i < length marks
+    pick None e f = cc
+    pick (Some b) e f = slice_get_within marks i b e
 
-pub stays : (xs : List LocalAction) (old new : List Bool) (index n m : ℕ) → m ≡ n + 1 → same_at xs n index ≡ false → Cleared xs old new index n → Cleared xs old new index m
-stays xs old new index n m step apart c = record {
-  size = c.size;
-  done = λ i h. elim (cases_eq i n) [
-    | inl is ↦
-        ap (λ (k : ℕ). is_marked (slice_get new k)) is ∙ ap is_marked (c.rest n (omega arith)) ∙ kept-not (is_marked (slice_get old n)) (same_at xs n index) apart
-        ∙ ap (λ (k : ℕ). is_marked (slice_get old k) && not (same_at xs k index)) (sym is)
-    | inr other ↦ c.done i (omega (arith, h, step, other))
-  ];
-  rest = λ i h. c.rest i (omega (arith, h, step));
-}
+-- what stands under a place stands behind it
+under-behind : (p : Place) (o : Option LocalAction) → stands_under p o ≡ true → behind_at (Some (partner.Behind p)) o ≡ true
+under-behind p None h = cc
+under-behind p (Some x) h = h
 
-pub cleared : (xs : List LocalAction) (old new : List Bool) (index n : ℕ) → length xs ≤ n → length old ≡ length xs → Cleared xs old new index n → (i : ℕ)
-    → is_marked (slice_get new i) ≡ (is_marked (slice_get old i) && not (same_at xs i index))
-cleared xs old new index n end size c i = elim (cases_lt i n) [
-  | inl less ↦ c.done i less
-  | inr more ↦
-      ap is_marked (c.rest i more) ∙ ap is_marked (past-end old i (omega (arith, size, end, more)))
-      ∙ sym (ap (λ (o : Option Bool). is_marked o && not (same_at xs i index)) (past-end old i (omega (arith, size, end, more))))
-]
-
--- ---- how many are marked
-no-more : (new old : List Bool) → length new ≡ length old → ((i : ℕ) → is_marked (slice_get new i) ≡ true → is_marked (slice_get old i) ≡ true)
-    → count_marked new ≤ count_marked old
-no-more [] old size sub = omega arith
-no-more (b ∷ new) [] size sub = absurd (omega (arith, size))
-no-more (true ∷ new) (true ∷ old) size sub = let rest = no-more new old (omega (arith, size)) (λ i h. sub (suc i) h) in omega (arith, rest)
-no-more (true ∷ new) (false ∷ old) size sub = absurd (true≢false (sym (sub 0 refl)))
-no-more (false ∷ new) (true ∷ old) size sub = let rest = no-more new old (omega (arith, size)) (λ i h. sub (suc i) h) in omega (arith, rest)
-no-more (false ∷ new) (false ∷ old) size sub = no-more new old (omega (arith, size)) (λ i h. sub (suc i) h)
-
-fewer : (new old : List Bool) (k : ℕ) → length new ≡ length old → ((i : ℕ) → is_marked (slice_get new i) ≡ true → is_marked (slice_get old i) ≡ true)
-    → is_marked (slice_get old k) ≡ true → is_marked (slice_get new k) ≡ false → count_marked new < count_marked old
-fewer new [] k size sub was is = cc
-fewer [] (b ∷ old) k size sub was is = absurd (omega (arith, size))
-fewer (true ∷ new) (b ∷ old) zero size sub was is = cc
-fewer (false ∷ new) (false ∷ old) zero size sub was is = cc
-fewer (false ∷ new) (true ∷ old) zero size sub was is = let rest = no-more new old (omega (arith, size)) (λ i h. sub (suc i) h) in omega (arith, rest)
-fewer (true ∷ new) (true ∷ old) (suc k) size sub was is = let rest = fewer new old k (omega (arith, size)) (λ i h. sub (suc i) h) was is in omega (arith, rest)
-fewer (true ∷ new) (false ∷ old) (suc k) size sub was is = absurd (true≢false (sym (sub 0 refl)))
-fewer (false ∷ new) (true ∷ old) (suc k) size sub was is = let rest = fewer new old k (omega (arith, size)) (λ i h. sub (suc i) h) was is in omega (arith, rest)
-fewer (false ∷ new) (false ∷ old) (suc k) size sub was is = fewer new old k (omega (arith, size)) (λ i h. sub (suc i) h) was is
+behind-under : (p : Place) (o : Option LocalAction) → behind_at (Some (partner.Behind p)) o ≡ true → stands_under p o ≡ true
+behind-under p None h = cc
+behind-under p (Some x) h = h
 
 -- ---- all of it
 -- the partner of an action, and whether it is helped
@@ -185,11 +99,6 @@ helped-at : (help : Helped) (xs : List LocalAction) (hs : List Bool) (i : ℕ) (
 helped-at help xs hs i x given at =
     ap is_marked (ap (λ (l : List Bool). slice_get l i) given ∙ slice_get-map help xs i ∙ ap (λ (o : Option LocalAction). option_map help o) at)
 
-none-before-none : (xs : List LocalAction) (marks : List Bool) (n : ℕ) (p : Partner) → n ≡ 0 → NoneBefore xs marks n p
-none-before-none xs marks n (partner.Behind p) e = λ j less. absurd (omega (arith, e, less))
-none-before-none xs marks n partner.Gone e = tt
-none-before-none xs marks n partner.Open e = tt
-
 within-same : (xs : List LocalAction) (i j : ℕ) → same_at xs i j ≡ true → (i < length xs) × (j < length xs)
 within-same xs i j h = pick (slice_get xs i) (slice_get xs j) refl refl h
   where
@@ -198,23 +107,27 @@ within-same xs i j h = pick (slice_get xs i) (slice_get xs j) refl refl h
     pick (Some x) None e f g = cc
     pick (Some x) (Some y) e f g = (slice_get_within xs i x e, slice_get_within xs j y f)
 
-pub begins : (xs : List LocalAction) (ps : List Partner) (hs marks : List Bool) (passed : List ℕ) → length marks ≡ length xs → ((i : ℕ) → i < length xs → slice_get marks i ≡ Some true)
-    → length passed ≡ length xs → ((i : ℕ) → get_or passed i 0 ≡ 0) → Loosening xs ps hs marks passed
-begins xs ps hs marks passed size all steps zeros = record {
+-- where all are marked, all are counted
+pub all-counted : (edges : UseTable) (marks : List Bool) (counts : List ℕ) (n : ℕ) → length marks ≡ n → ((i : ℕ) → i < n → slice_get marks i ≡ Some true)
+    → ((i : ℕ) → slice_index counts i ≡ tally (λ (j : ℕ). edge edges j i) n) → Counted edges (length marks) marks counts
+all-counted edges marks counts n size all counted =
+    subst (λ (k : ℕ). Counted edges k marks counts) (sym size)
+    (λ i. counted i ∙ tally-same (λ (j : ℕ). edge edges j i) (counts_for edges marks i) n (λ j less. sym (ap (λ (o : Option Bool). is_marked o && edge edges j i) (all j less))))
+
+pub begins : (xs : List LocalAction) (ps : List Partner) (hs marks : List Bool) (edges : UseTable) (counts todo : List ℕ) → length marks ≡ length xs
+    → ((i : ℕ) → i < length xs → slice_get marks i ≡ Some true) → length counts ≡ length xs → ((i : ℕ) → slice_index counts i ≡ tally (λ (j : ℕ). edge edges j i) (length xs))
+    → ((i : ℕ) → i < length xs → In i todo) → Loosening xs ps hs marks edges counts todo
+begins xs ps hs marks edges counts todo size all sizes counted later = record {
   size = size;
-  steps = steps;
-  so_far = λ i p at. none-before-none xs marks (get_or passed i 0) p (zeros i);
+  sizes = sizes;
   alike = λ i j h. let both = within-same xs i j h in ap is_marked (all i both.0) ∙ sym (ap is_marked (all j both.1));
   keeps = λ r help given told places hold i x at in_places. ap is_marked (all i (slice_get_within xs i x at));
+  counted = λ i.
+      counted i
+      ∙ tally-same (λ (j : ℕ). edge edges j i) (counts_for edges marks i) (length xs)
+      (λ j less. sym (ap (λ (o : Option Bool). is_marked o && edge edges j i) (all j less)));
+  pending = λ i on. inl (later i (omega (arith, marked-within marks i on, size)));
 }
-
-none-before-less : (xs : List LocalAction) (old new : List Bool) (n : ℕ) (p : Partner) (index : ℕ)
-    → ((i : ℕ) → is_marked (slice_get new i) ≡ (is_marked (slice_get old i) && not (same_at xs i index))) → NoneBefore xs old n p → NoneBefore xs new n p
-none-before-less xs old new n (partner.Behind p) index less h = λ j k.
-    ap (λ (b : Bool). b && stands_under p (slice_get xs j)) (less j)
-    ∙ and-not (is_marked (slice_get old j)) (not (same_at xs j index)) (stands_under p (slice_get xs j)) (h j k)
-none-before-less xs old new n partner.Gone index less h = tt
-none-before-less xs old new n partner.Open index less h = tt
 
 -- an action that is loose is at none of the places that hold each other back
 module _ (xs : List LocalAction) (ps : List Partner) (hs marks : List Bool) (keeps : Keeps xs ps hs marks) (r : Residual) (help : Helped) (given : ps ≡ map (partner_in r) xs)
@@ -259,28 +172,219 @@ loosened-keeps xs ps hs marks new index loose less keeps = λ r help given told 
     in-some (y ∷ ys) zero h = (y, refl)
     in-some (y ∷ ys) (suc j) h = in-some ys j (omega (arith, h))
 
-pub loosened : (xs : List LocalAction) (ps : List Partner) (hs marks new : List Bool) (before passed : List ℕ) (index : ℕ) → Loosening xs ps hs marks before → length passed ≡ length xs
-    → Passed xs ps marks passed → IsLoose xs ps hs marks index → length new ≡ length xs
-    → ((i : ℕ) → is_marked (slice_get new i) ≡ (is_marked (slice_get marks i) && not (same_at xs i index))) → Loosening xs ps hs new passed
-loosened xs ps hs marks new before passed index l steps p loose size less = record {
-  size = size;
-  steps = steps;
-  so_far = λ i q at. none-before-less xs marks new (get_or passed i 0) q index less (p i q at);
-  alike = λ i j h.
-      less i ∙ ap₂ (λ (a b : Bool). a && not b) (l.alike i j h) (same-as xs i j index h) ∙ sym (less j);
-  keeps = loosened-keeps xs ps hs marks new index loose less l.keeps;
+-- ---- a step
+-- action i is marked and loose, by the test
+pub loose-true : (xs : List LocalAction) (ps : List Partner) (hs marks : List Bool) (edges : UseTable) (counts : List ℕ) (i : ℕ) → length ps ≡ length xs → length marks ≡ length xs
+    → HasEdges edges xs ps → Counted edges (length xs) marks counts → is_loose ps hs marks counts i ≡ true → IsLoose xs ps hs marks i
+loose-true xs ps hs marks edges counts i same size has counted h =
+    let parts = and_parts (is_marked (slice_get marks i)) (is_marked (slice_get hs i) || is_free (slice_get ps i) (slice_index counts i)) h in
+    let within : i < length marks = marked-within marks i parts.0 in
+    let there = partner-there ps i (omega (arith, within, same, size)) in (
+      omega (arith, within, size),
+      parts.0,
+      (
+        there.0,
+        there.1,
+        elim (or-either (is_marked (slice_get hs i)) (is_free (slice_get ps i) (slice_index counts i)) parts.1) [
+          | inl helped ↦ inl helped
+          | inr free ↦ inr (released there.0 there.1 (sym (ap (λ (o : Option Partner). is_free o (slice_index counts i)) there.1) ∙ free))
+        ],
+      ),
+    )
+  where
+    or-either : (a b : Bool) → (a || b) ≡ true → (a ≡ true) ⊎ (b ≡ true)
+    or-either true b g = inl refl
+    or-either false b g = inr g
+
+    partner-there : (qs : List Partner) (k : ℕ) → k < length qs → (q : Partner) × (slice_get qs k ≡ Some q)
+    partner-there [] k g = absurd (omega (arith, g))
+    partner-there (q ∷ qs) zero g = (q, refl)
+    partner-there (q ∷ qs) (suc k) g = partner-there qs k (omega (arith, g))
+
+    released : (p : Partner) → slice_get ps i ≡ Some p → is_free (Some p) (slice_index counts i) ≡ true → Released xs marks p
+    released partner.Gone at free = cc
+    released partner.Open at free = tt
+    released (partner.Behind p) at free = λ j. elim (cases_Bool (supports xs marks p j)) [
+      | inr off ↦ off
+      | inl on ↦
+          let both = and_parts (is_marked (slice_get marks j)) (stands_under p (slice_get xs j)) on in
+          let goes : edge edges j i ≡ true = used-edge edges j i ((has j i).1 (ap (λ (o : Option Partner). behind_at o (slice_get xs j)) at ∙ under-behind p (slice_get xs j) both.1)) in
+          let less : j < length marks = marked-within marks j both.0 in
+          let none : tally (counts_for edges marks i) (length xs) ≡ 0 = sym (counted i) ∙ eqb-true (slice_index counts i) 0 free in
+          let off : counts_for edges marks i j ≡ false = tally-zero (counts_for edges marks i) (length xs) none j (omega (arith, less, size)) in
+          absurd (true≢false (sym (and_from (is_marked (slice_get marks j)) (edge edges j i) both.0 goes) ∙ off))
+    ]
+
+not-zero : (n : ℕ) → (n ≡ 0 → ⊥) → (n == 0) ≡ false
+not-zero n h = elim (cases_Bool (n == 0)) [ inl on ↦ absurd (h (eqb-true n 0 on)) | inr off ↦ off ]
+
+-- what is sturdy stays so, or is looked at later
+sturdy-on : (ps : List Partner) (hs : List Bool) (before after todo new : List ℕ) (i : ℕ) → Puts before after todo new → Sturdy ps hs before i → In i new ⊎ Sturdy ps hs after i
+sturdy-on ps hs before after todo new i puts s = pick (slice_get ps i) refl s.1
+  where
+    pick : (o : Option Partner) → slice_get ps i ≡ o → is_free (slice_get ps i) (slice_index before i) ≡ false → In i new ⊎ Sturdy ps hs after i
+    pick None e f = inr (s.0, ap (λ (q : Option Partner). is_free q (slice_index after i)) e)
+    pick (Some partner.Gone) e f = inr (s.0, ap (λ (q : Option Partner). is_free q (slice_index after i)) e)
+    pick (Some partner.Open) e f = absurd (true≢false (sym (ap (λ (q : Option Partner). is_free q (slice_index before i)) e) ∙ f))
+    pick (Some (partner.Behind p)) e f = elim (cases_eq (slice_index after i) 0) [
+      | inl none ↦ elim (puts.put i none) [
+        | inl was ↦
+            absurd (true≢false (sym (eq-eqb (slice_index before i) 0 was) ∙ sym (ap (λ (q : Option Partner). is_free q (slice_index before i)) e) ∙ f))
+        | inr later ↦ inl later
+      ]
+      | inr some ↦ inr (s.0, ap (λ (q : Option Partner). is_free q (slice_index after i)) e ∙ not-zero (slice_index after i) some)
+    ]
+
+module _ (xs : List LocalAction) (ps : List Partner) (hs marks : List Bool) (edges beside : UseTable) (counts todo rest : List ℕ) (number : ℕ) (same : length ps ≡ length xs)
+    (has : HasEdges edges xs ps) (near : HasBeside beside xs) (l : Loosening xs ps hs marks edges counts todo) (popped : todo ≡ rest ++ number ∷ []) where
+  -- the one that is looked at is not loose
+  pub passed-by : is_loose ps hs marks counts number ≡ false → Loosening xs ps hs marks edges counts rest
+  passed-by firm = record {
+    size = l.size;
+    sizes = l.sizes;
+    alike = l.alike;
+    keeps = l.keeps;
+    counted = l.counted;
+    pending = λ i on. elim (l.pending i on) [
+      | inl later ↦ elim (in-parts i rest (number ∷ []) (subst (λ (t : List ℕ). In i t) popped later)) [
+        | inl there ↦ inl there
+        | inr (inl is) ↦ inr (sturdy i is on)
+        | inr (inr none) ↦ absurd none
+      ]
+      | inr s ↦ inr s
+    ];
+  }
+    where
+      both-off : (a b : Bool) → (a || b) ≡ false → (a ≡ false) × (b ≡ false)
+      both-off false b h = (refl, h)
+      both-off true b h = cc
+
+      right-off : (a b : Bool) → a ≡ true → (a && b) ≡ false → b ≡ false
+      right-off true b h g = g
+      right-off false b h g = cc
+
+      sturdy : (i : ℕ) → i ≡ number → is_marked (slice_get marks i) ≡ true → Sturdy ps hs counts i
+      sturdy i is on =
+          both-off (is_marked (slice_get hs i)) (is_free (slice_get ps i) (slice_index counts i))
+          (right-off (is_marked (slice_get marks i)) (is_marked (slice_get hs i) || is_free (slice_get ps i) (slice_index counts i)) on
+          (ap (is_loose ps hs marks counts) is ∙ firm))
+
+  -- or it is, and the marks at its place are taken away
+  module _ (cleared : List Bool) (after new : List ℕ) (loose : is_loose ps hs marks counts number ≡ true) (took : Loosens edges beside number marks cleared counts after rest new) where
+    pub is-loose : IsLoose xs ps hs marks number
+    is-loose = loose-true xs ps hs marks edges counts number same l.size has l.counted loose
+
+    pub less : (i : ℕ) → is_marked (slice_get cleared i) ≡ (is_marked (slice_get marks i) && not (same_at xs i number))
+    less i = elim (cases_Bool (same_at xs number i)) [
+      | inl at ↦ took.cleared i ((near number i).1 at) ∙ gone-not (is_marked (slice_get marks i)) (same_at xs i number) (swapped number i at)
+      | inr apart ↦
+          took.others i (λ u. true≢false (sym ((near number i).0 u) ∙ apart))
+          ∙ kept-not (is_marked (slice_get marks i)) (same_at xs i number) (not-swapped i apart)
+    ]
+      where
+        swapped : (a b : ℕ) → same_at xs a b ≡ true → same_at xs b a ≡ true
+        swapped a b h = sym (same-as xs a b a h) ∙ itself xs a (within-same xs a b h).0
+
+        not-swapped : (a : ℕ) → same_at xs number a ≡ false → same_at xs a number ≡ false
+        not-swapped a h = elim (cases_Bool (same_at xs a number)) [
+          | inl on ↦ absurd (true≢false (sym (swapped a number on) ∙ h))
+          | inr off ↦ off
+        ]
+
+    pub loosened : Loosening xs ps hs cleared edges after new
+    loosened = record {
+      size = took.size ∙ l.size;
+      sizes = took.counts ∙ l.sizes;
+      alike = λ i j h. less i ∙ ap₂ (λ (a b : Bool). a && not b) (l.alike i j h) (same-as xs i j number h) ∙ sym (less j);
+      keeps = loosened-keeps xs ps hs marks cleared number is-loose less l.keeps;
+      counted = subst (λ (n : ℕ). Counted edges n cleared after) l.size took.counted;
+      pending = λ i on. elim (l.pending i (and-left (is_marked (slice_get marks i)) (not (same_at xs i number)) (sym (less i) ∙ on))) [
+        | inl later ↦ elim (in-parts i rest (number ∷ []) (subst (λ (t : List ℕ). In i t) popped later)) [
+          | inl there ↦ inl (took.puts.kept i there)
+          | inr (inl is) ↦ absurd (true≢false (sym on ∙ gone i is))
+          | inr (inr none) ↦ absurd none
+        ]
+        | inr s ↦ sturdy-on ps hs counts after rest new i took.puts s
+      ];
+    }
+      where
+        gone : (i : ℕ) → i ≡ number → is_marked (slice_get cleared i) ≡ false
+        gone i is =
+            less i
+            ∙ sym (gone-not (is_marked (slice_get marks i)) (same_at xs i number)
+            (ap (λ (k : ℕ). same_at xs k number) is ∙ itself xs number is-loose.0))
+
+-- how far it has come, from what it began with
+pub record Looking (ps : List Partner) (hs : List Bool) (edges beside : UseTable) (marks : List Bool) (counts todo : List ℕ) (left : List Bool) (after new : List ℕ) : Type 0 where
+  pub waiters : (j i : ℕ) → Uses edges j i → i < length after
+  pub standing : (j i : ℕ) → Uses beside j i → i < length left
+  pub counted : Counted edges (length left) left after
+  pub whole : (xs : List LocalAction) → length ps ≡ length xs → HasEdges edges xs ps → HasBeside beside xs → Loosening xs ps hs marks edges counts todo
+      → Loosening xs ps hs left edges after new
+
+pub looking-none : (ps : List Partner) (hs : List Bool) (edges beside : UseTable) (marks : List Bool) (counts todo : List ℕ) → ((j i : ℕ) → Uses edges j i → i < length counts)
+    → ((j i : ℕ) → Uses beside j i → i < length marks) → Counted edges (length marks) marks counts → Looking ps hs edges beside marks counts todo marks counts todo
+looking-none ps hs edges beside marks counts todo waiters standing counted = record {
+  waiters = waiters;
+  standing = standing;
+  counted = counted;
+  whole = λ xs same has near l. l;
 }
 
--- the same where the search for a loose one has come farther
-pub farther : (xs : List LocalAction) (ps : List Partner) (hs marks : List Bool) (before passed : List ℕ) → Loosening xs ps hs marks before → length passed ≡ length xs
-    → Passed xs ps marks passed → Loosening xs ps hs marks passed
-farther xs ps hs marks before passed l steps p = record { size = l.size; steps = steps; so_far = p; alike = l.alike; keeps = l.keeps }
+pub looking-by : (ps : List Partner) (hs : List Bool) (edges beside : UseTable) (marks left : List Bool) (counts todo after new rest : List ℕ) (number : ℕ)
+    → Looking ps hs edges beside marks counts todo left after new → new ≡ rest ++ number ∷ [] → is_loose ps hs left after number ≡ false
+    → Looking ps hs edges beside marks counts todo left after rest
+looking-by ps hs edges beside marks left counts todo after new rest number k popped firm = record {
+  waiters = k.waiters;
+  standing = k.standing;
+  counted = k.counted;
+  whole = λ xs same has near l. passed-by xs ps hs left edges beside after new rest number same has near (k.whole xs same has near l) popped firm;
+}
 
-pub less-marked : (xs : List LocalAction) (ps : List Partner) (hs marks new : List Bool) (index : ℕ) → IsLoose xs ps hs marks index → length new ≡ length marks
-    → ((i : ℕ) → is_marked (slice_get new i) ≡ (is_marked (slice_get marks i) && not (same_at xs i index))) → count_marked new < count_marked marks
-less-marked xs ps hs marks new index loose size less =
-    fewer new marks index size (λ i h. and-left (is_marked (slice_get marks i)) (not (same_at xs i index)) (sym (less i) ∙ h)) loose.1
-    (less index ∙ sym (gone-not (is_marked (slice_get marks index)) (same_at xs index index) (itself xs index loose.0)))
+pub looking-on : (ps : List Partner) (hs : List Bool) (edges beside : UseTable) (marks left cleared : List Bool) (counts todo after new rest less more : List ℕ) (number : ℕ)
+    → Looking ps hs edges beside marks counts todo left after new → new ≡ rest ++ number ∷ [] → is_loose ps hs left after number ≡ true
+    → Loosens edges beside number left cleared after less rest more → Looking ps hs edges beside marks counts todo cleared less more
+looking-on ps hs edges beside marks left cleared counts todo after new rest less more number k popped loose took = record {
+  waiters = λ j i u. subst (λ (n : ℕ). i < n) (sym took.counts) (k.waiters j i u);
+  standing = λ j i u. subst (λ (n : ℕ). i < n) (sym took.size) (k.standing j i u);
+  counted = subst (λ (n : ℕ). Counted edges n cleared less) (sym took.size) took.counted;
+  whole = λ xs same has near l. loosened xs ps hs left edges beside after new rest number same has near (k.whole xs same has near l) popped cleared less more loose took;
+}
+
+-- where nothing is left to be looked at, each that is marked is firm
+some-partner : (qs : List Partner) (k : ℕ) → k < length qs → (q : Partner) × (slice_get qs k ≡ Some q)
+some-partner [] k h = absurd (omega (arith, h))
+some-partner (q ∷ qs) zero h = (q, refl)
+some-partner (q ∷ qs) (suc k) h = some-partner qs k (omega (arith, h))
+
+sturdy-firm : (xs : List LocalAction) (ps : List Partner) (hs marks : List Bool) (edges : UseTable) (counts : List ℕ) (i : ℕ) (p : Partner) → HasEdges edges xs ps
+    → Counted edges (length xs) marks counts → slice_get ps i ≡ Some p → is_marked (slice_get hs i) ≡ false → is_free (Some p) (slice_index counts i) ≡ false → Firm xs ps hs marks i
+sturdy-firm xs ps hs marks edges counts i partner.Gone has counted at unhelped unfree = (partner.Gone, at, unhelped, tt)
+sturdy-firm xs ps hs marks edges counts i partner.Open has counted at unhelped unfree = absurd (true≢false unfree)
+sturdy-firm xs ps hs marks edges counts i (partner.Behind p) has counted at unhelped unfree =
+    let found = tally-some (counts_for edges marks i) (length xs) (λ none. true≢false (sym (eq-eqb (slice_index counts i) 0 (counted i ∙ none)) ∙ unfree)) in
+    let both = and_parts (is_marked (slice_get marks found.0)) (edge edges found.0 i) found.2 in
+    let behind : behind_at (Some (partner.Behind p)) (slice_get xs found.0) ≡ true =
+    ap (λ (q : Option Partner). behind_at q (slice_get xs found.0)) (sym at) ∙ (has found.0 i).0 (edge-used edges found.0 i both.1) in
+    (partner.Behind p, at, unhelped, (found.0, and_from (is_marked (slice_get marks found.0)) (stands_under p (slice_get xs found.0)) both.0 (behind-under p (slice_get xs found.0) behind)))
+
+all-firm : (xs : List LocalAction) (ps : List Partner) (hs marks : List Bool) (edges : UseTable) (counts : List ℕ) → length ps ≡ length xs → HasEdges edges xs ps
+    → Loosening xs ps hs marks edges counts [] → AllFirm xs ps hs marks
+all-firm xs ps hs marks edges counts same has l i within on = elim (l.pending i on) [
+  | inl later ↦ absurd later
+  | inr s ↦
+      let there = some-partner ps i (omega (arith, within, same)) in
+      sturdy-firm xs ps hs marks edges counts i there.0 has l.counted there.1 s.0 (sym (ap (λ (q : Option Partner). is_free q (slice_index counts i)) there.1) ∙ s.1)
+]
+
+pub looking-end : (ps : List Partner) (hs : List Bool) (edges beside : UseTable) (marks left : List Bool) (counts todo after old new last : List ℕ) (n : ℕ)
+    → Looking ps hs edges beside marks counts todo left after old → n ≡ length old → n ≡ 0 → old ≡ new ++ last
+    → (xs : List LocalAction) → length ps ≡ length xs → HasEdges edges xs ps → HasBeside beside xs → Loosening xs ps hs marks edges counts todo → Loosened xs ps hs left edges after new
+looking-end ps hs edges beside marks left counts todo after [] [] last n k size none is xs same has near l =
+    let now : Loosening xs ps hs left edges after [] = k.whole xs same has near l in
+    record { loosening = now; firm = all-firm xs ps hs left edges after same has now }
+looking-end ps hs edges beside marks left counts todo after [] (x ∷ new) last n k size none is xs same has near l = cc
+looking-end ps hs edges beside marks left counts todo after (x ∷ old) new last n k size none is xs same has near l = absurd (omega (arith, size, none))
 
 -- ---- at the end
 -- the places of the actions that are marked
@@ -314,8 +418,8 @@ marked-in (x ∷ xs) (true ∷ ms) a (inr h) =
 marked-in (x ∷ xs) (false ∷ ms) a h =
     let rest = marked-in xs ms a h in record { index = suc rest.index; action = rest.action; got = rest.got; mark = rest.mark; place = rest.place }
 
-module _ (xs : List LocalAction) (ps : List Partner) (hs marks : List Bool) (passed : List ℕ) (l : Loosening xs ps hs marks passed) (firm : AllFirm xs ps hs marks) (r : Residual)
-    (help : Helped) (given : ps ≡ map (partner_in r) xs) (told : hs ≡ map help xs) where
+module _ (xs : List LocalAction) (ps : List Partner) (hs marks : List Bool) (edges : UseTable) (counts todo : List ℕ) (l : Loosening xs ps hs marks edges counts todo)
+    (firm : AllFirm xs ps hs marks) (r : Residual) (help : Helped) (given : ps ≡ map (partner_in r) xs) (told : hs ≡ map help xs) where
   back : (p : Partner) → Held xs marks p → HeldBack (marked-places xs marks) p
   back (partner.Behind p) h = pick (slice_get xs h.0) refl
     where
@@ -349,7 +453,3 @@ module _ (xs : List LocalAction) (ps : List Partner) (hs marks : List Bool) (pas
       λ dead. marked-some (slice_get marks i) (l.keeps r help given told dead.0 dead.2 i x at dead.1),
     ),
   )
-
--- marks that are lent whole and come back
-pub lent : (new old : List Bool) (n : ℕ) → length new ≡ length old → n ≡ length old → take n (new ++ drop (length new) old) ≡ new
-lent new old n same is = take_at new (drop (length new) old) n (omega (arith, same, is))

@@ -7,3 +7,6 @@ mod Marked
 mod Places
 mod Holding
 mod Summed
+mod PlaceRows
+mod Edging
+mod Tallied

@@ -11,7 +11,7 @@ use Rattle.system.specs.Residual.{Residual}
 use Rattle.local_actions.proofs.public.PlacedActions.{place-true, place-itself, under-true, under-told}
 use Rattle.local_actions.specs.declared.action.LocalAction.{LocalAction}
 use Rattle.rings.specs.Partners.{partner_in}
-use Rattle.rings.specs.Rings.{Helped, IsBehind, IsDeadlocked, Waiters, WaitsFor, Linked, IsRing, EachOnce, places_at, TellsDeadlocked, TellsRing}
+use Rattle.rings.specs.Rings.{Helped, IsBehind, IsDeadlocked, Waiters, WaitsFor, Linked, IsRing, EachOnce, IsNext, InTurn, places_at, TellsDeadlocked, TellsRing}
 use Rattle.rings.specs.declared.partner.Partner.{Partner}
 use Rattle.rings.specs.declared.partner.Partner.TheVariants as partner
 use Rattle.rings.specs.internal.Loosened.{is_marked}
@@ -129,20 +129,33 @@ module _ (r : Residual) (help : Helped) (xs : List LocalAction) (ps : List Partn
   partner-at i x at =
       ap (λ (qs : List Partner). slice_get qs i) given ∙ slice_get-map (partner_in r) xs i ∙ ap (λ (o : Option LocalAction). option_map (partner_in r) o) at
 
+  behind-next : (i j : ℕ) (x y : LocalAction) → slice_get xs i ≡ Some x → slice_get xs j ≡ Some y → waits xs ps marks i j ≡ true → IsBehind (partner_in r x) y.place
+  behind-next i j x y at goes h =
+      let parts = and_parts (is_marked (slice_get marks i)) (behind_at (slice_get ps i) (slice_get xs j)) h in
+      behind-true (partner_in r x) y.place (sym (ap₂ (λ (p : Option Partner) (o : Option LocalAction). behind_at p o) (partner-at i x at) goes) ∙ parts.1)
+
   wait-true : (i j : ℕ) (x y : LocalAction) → slice_get xs i ≡ Some x → slice_get xs j ≡ Some y → waits xs ps marks i j ≡ true
       → IsDeadlocked (Among xs) help r x.place × WaitsFor (Among xs) r x.place y.place
   wait-true i j x y at goes h =
-      let parts = and_parts (is_marked (slice_get marks i)) (behind_at (slice_get ps i) (slice_get xs j)) h in
-      let behind : is_behind (partner_in r x) y.place ≡ true =
-      sym (ap₂ (λ (p : Option Partner) (o : Option LocalAction). behind_at p o) (partner-at i x at) goes) ∙ parts.1 in (
+      let parts = and_parts (is_marked (slice_get marks i)) (behind_at (slice_get ps i) (slice_get xs j)) h in (
         (told.1 i x at).0 (marked-some (slice_get marks i) parts.0),
-        (x, got-in xs i x at, refl, behind-true (partner_in r x) y.place behind),
+        (x, got-in xs i x at, refl, behind-next i j x y at goes h),
       )
+
+  next-is : (i j : ℕ) → i < length xs → j < length xs → waits xs ps marks i j ≡ true → IsNext r xs i j
+  next-is i j less below h =
+      let x = got-within xs i less in
+      let y = got-within xs j below in
+      (x.0, y.0, x.1, y.1, behind-next i j x.0 y.0 x.1 y.1 h)
 
   -- ---- from indexes to places
   chain-head : (first i : ℕ) (rest : List ℕ) → Chain (length xs) (waits xs ps marks) first i rest → i < length xs
   chain-head first i [] k = k.0
   chain-head first i (m ∷ rest) k = k.0
+
+  chain-turns : (first i : ℕ) (rest : List ℕ) → first < length xs → Chain (length xs) (waits xs ps marks) first i rest → InTurn r xs first i rest
+  chain-turns first i [] below h = next-is i first h.0 below h.1
+  chain-turns first i (j ∷ rest) below h = (next-is i j h.0 (chain-head first j rest h.2) h.1, chain-turns first j rest below h.2)
 
   chain-linked : (first i : ℕ) (rest : List ℕ) (f x : LocalAction) → slice_get xs first ≡ Some f → slice_get xs i ≡ Some x → Chain (length xs) (waits xs ps marks) first i rest
       → (ring : List Place) × (places_at xs rest ≡ map (λ (a : Place). Some a) ring) × Linked (Among xs) help r f.place x.place ring
@@ -163,7 +176,7 @@ module _ (r : Residual) (help : Helped) (xs : List LocalAction) (ps : List Partn
       let on = chain-linked i i rest first.0 first.0 first.1 first.1 h in
       let at : places_at xs (i ∷ rest) ≡ map (λ (a : Place). Some a) (first.0.place ∷ on.0) =
       ap₂ (λ (a : Option Place) (bs : List (Option Place)). a ∷ bs) (ap (option_map (λ (z : LocalAction). z.place)) first.1) on.1 in
-      (first.0.place ∷ on.0, at, on.2, places-once xs (i ∷ rest) (first.0.place ∷ on.0) at apart)
+      (first.0.place ∷ on.0, at, on.2, places-once xs (i ∷ rest) (first.0.place ∷ on.0) at apart, chain-turns i i rest (chain-head i i rest h) h)
 
   -- ---- from places to indexes
   -- an action stands at the index, with the place, which is deadlocked

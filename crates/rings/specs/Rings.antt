@@ -15,7 +15,7 @@ use Rattle.rings.specs.declared.partner.Partner.TheVariants as partner
 abbrev pub Waiters : Type 1
 Waiters = LocalAction → Type 0
 
--- which of them are helped from elsewhere, so that none of the others has to go on for them
+-- for which of them none of the others has to go on, since another hand helps
 abbrev pub Helped : Type 0
 Helped = LocalAction → Bool
 
@@ -80,10 +80,21 @@ EachOnce (a ∷ rest) = (In a rest → ⊥) × EachOnce rest
 abbrev pub places_at : List LocalAction → List ℕ → List (Option Place)
 places_at actions indexes = map (λ (i : ℕ). option_map (λ (x : LocalAction). x.place) (slice_get actions i)) indexes
 
--- where exactly these actions wait: the indexes are those of actions whose places are a ring, each once; or there is no
--- ring, and none is told
+-- the action of index i itself waits for that of index j: the only other end of its channel stands behind that one
+abbrev pub IsNext : Residual → List LocalAction → ℕ → ℕ → Type 0
+IsNext r actions i j =
+    (x y : LocalAction) × (slice_get actions i ≡ Some x) × (slice_get actions j ≡ Some y)
+    × IsBehind (partner_in r x) y.place
+
+-- from index i on each waits for the next one, and the last for the first
+abbrev pub InTurn : Residual → List LocalAction → ℕ → ℕ → List ℕ → Type 0
+InTurn r actions first i [] = IsNext r actions i first
+InTurn r actions first i (j ∷ rest) = IsNext r actions i j × InTurn r actions first j rest
+
+-- where exactly these actions wait: the indexes are those of actions whose places are a ring, each once, and of which
+-- each itself waits for the next, of a choice the arm that is told; or there is no ring, and none is told
 abbrev pub TellsRing : Helped → Residual → List LocalAction → List ℕ → Type 0
 TellsRing helped r actions [] = (ring : List Place) → IsRing (λ x. In x actions) helped r ring → ⊥
 TellsRing helped r actions (i ∷ rest) =
     (ring : List Place) × (places_at actions (i ∷ rest) ≡ map (λ (a : Place). Some a) ring)
-    × IsRing (λ x. In x actions) helped r ring × EachOnce ring
+    × IsRing (λ x. In x actions) helped r ring × EachOnce ring × InTurn r actions i i rest

@@ -4,3 +4,5 @@ pub mod Loosening
 pub mod Placed
 pub mod Search
 pub mod Seen
+pub mod Standing
+pub mod Tally

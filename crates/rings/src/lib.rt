@@ -3,11 +3,14 @@
 #![tactic(auto)]
 
 mod among;
+mod counts;
 mod deadlock;
+mod edges;
 mod ends;
 mod fresh;
 mod look;
 mod partner;
+mod place_uses;
 mod ring;
 mod sought;
 mod waits;

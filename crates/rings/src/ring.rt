@@ -1,13 +1,18 @@
 // A ring of actions of which each waits for the next.
-ghost use Rattle.std.specs.Prelude.{◌≡◌, ◌<◌, ℕ, [], true, length, slice_get, slice_set, drop, Some, map, IfOk, MatchOption};
+ghost use Rattle.std.specs.Prelude.{◌≡◌, ◌<◌, ℕ, List, [], true, length, slice_get, slice_set, drop, Some, map, IfOk, MatchOption};
 ghost use Rattle.syntax.specs.Lists.{In};
 ghost use Rattle.system.specs.Residual.{Residual};
 ghost use Rattle.rings.specs.Partners.{partner_in};
 ghost use Rattle.rings.specs.Rings.{Helped, TellsDeadlocked, TellsRing};
+ghost use Rattle.local_actions.specs.declared.action.LocalAction as any;
 ghost use Rattle.rings.specs.internal.Search as model;
+ghost use Rattle.rings.specs.internal.Standing.{HasNexts};
 
+use crate::edges::nexts_of;
 use crate::partner::Partner;
-use crate::waits::{is_at_one, may_wait, waits};
+use crate::waits::{is_at_one, may_wait};
+use crate::way::small;
+use last_events::UseTable;
 use local_actions::LocalAction;
 use std::alloc::{AllocError, Global};
 
@@ -47,12 +52,21 @@ fn ring_of_indexes(
         model.Names (length actions.now) (model.waits actions.now partners.now marks.now) (model.same_at actions.now)
         ring.items) }
 {
+    let nexts = nexts_of(alloc, actions, partners)?;
     let mut seen = all_new(alloc, actions.len())?;
     for start in 0..actions.len() {
         if !is_new(seen.as_slice(), start) {
             continue;
         }
-        let ring = ring_from(alloc, actions, partners, marks, seen.as_mut_slice(), start)?;
+        let ring = ring_from(
+            alloc,
+            actions,
+            partners,
+            &nexts,
+            marks,
+            seen.as_mut_slice(),
+            start,
+        )?;
         if !ring.is_empty() {
             return Ok(ring);
         }
@@ -74,11 +88,13 @@ fn ring_from(
     alloc: Global,
     actions: &[LocalAction],
     partners: &[Partner],
+    nexts: &UseTable,
     marks: &[bool],
     seen: &mut [Seen],
     start: usize,
 ) -> Result<Vec<usize>, AllocError>
     requires sizes { length partners.now ≡ length actions.now }
+    requires nexts { HasNexts nexts.now actions.now partners.now }
     requires start { start < length actions.now }
     requires so_far { model.Searching (length actions.now) (model.waits actions.now partners.now marks.now)
         (model.same_at actions.now) seen.old [] }
@@ -90,7 +106,8 @@ fn ring_from(
     way.push(start)?;
     note(seen, start, Seen::OnWay);
     'search: while let Some(top) = way.pop() {
-        let Some(next) = next_open(actions, partners, marks, seen, top) else {
+        let row = small(top as u64)?;
+        let Some(next) = next_open(partners, nexts, marks, seen, row) else {
             note(seen, top, Seen::Done);
             continue;
         };
@@ -132,24 +149,25 @@ fn note(seen: &mut [Seen], index: usize, state: Seen)
     seen[index] = state;
 }
 
-/// The first action for which the action waits, and at which the search is not done.
-#[tactic(auto, using(crate::proofs::Places::waits_may))]
+/// The last action for which the action waits, and at which the search is not done.
 fn next_open(
-    actions: &[LocalAction],
     partners: &[Partner],
+    nexts: &UseTable,
     marks: &[bool],
     seen: &[Seen],
-    top: usize,
+    top: u32,
 ) -> Option<usize>
-    requires { length partners.now ≡ length actions.now }
-    ensures { model.NextOpen (length actions.now) (model.waits actions.now partners.now marks.now) seen.now top result }
+    ensures { (xs : List any.LocalAction) → HasNexts nexts.now xs partners.now → length seen.now ≡ length xs
+        → model.NextOpen (length xs) (model.waits xs partners.now marks.now) seen.now top result }
 {
-    if !may_wait(partners, marks, top) {
+    if !may_wait(partners, marks, top as usize) {
         return None;
     }
-    for next in 0..actions.len() {
-        if is_open(seen, next) && waits(actions, partners, marks, top, next) {
-            return Some(next);
+    let mut below = seen.len();
+    'nexts: while let Some(next) = nexts.last(top, below as u64) {
+        below = next as usize;
+        if is_open(seen, below) {
+            return Some(below);
         }
     }
     None

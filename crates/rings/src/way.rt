@@ -32,7 +32,7 @@ pub(crate) fn branch(number: u64) -> Result<Entry, AllocError>
 }
 
 /// The number in 32 bits.
-fn small(number: u64) -> Result<u32, AllocError>
+pub(crate) fn small(number: u64) -> Result<u32, AllocError>
     ensures { IfOk result (λ small. small ≡ number) }
 {
     match u32::try_from(number) {

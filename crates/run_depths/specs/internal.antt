@@ -1,2 +1,3 @@
+pub mod Greatest
 pub mod PlacesHeld
 pub mod RacesSoFar

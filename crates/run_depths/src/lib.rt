@@ -4,10 +4,12 @@
 
 mod ahead;
 mod depth;
+mod greatest;
 mod races;
 mod since;
 
 pub use ahead::all_ahead;
 pub use depth::depths_of;
+pub use greatest::greatest_depths;
 pub use races::{Race, races_of};
 pub use since::{all_since, since_now};

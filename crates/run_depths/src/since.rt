@@ -7,6 +7,7 @@ ghost use Rattle.runs.specs.Moves.{Place};
 ghost use Rattle.dependence.specs.internal.Tabled.{Placed};
 ghost use Rattle.run_depths.specs.Depths.{AreBelow, AreDepths};
 ghost use Rattle.run_depths.specs.Since.{AreSince, IsEventSince, IsSince};
+ghost use Rattle.run_depths.specs.internal.Greatest.{AreGreatest};
 ghost use Rattle.run_depths.specs.internal.PlacesHeld.{BehindLast, GreatestBehind, HasBefore, HoldsTo, WithEvent};
 
 use crate::depth::larger;
@@ -68,17 +69,21 @@ fn event_since(
     }
 }
 
-/// From which depth on a place may be stood at behind all live events. It looks at the last ones first, so that of the
-/// others nearly always the depths are enough.
-pub fn since_now(live: &Live, depths: &[usize], place: &Address) -> usize
+/// From which depth on a place may be stood at behind all live events, where `most` are their `greatest_depths`. It
+/// looks at the last ones first, and ends where none before is as deep.
+pub fn since_now(live: &Live, depths: &[usize], most: &[usize], place: &Address) -> usize
     requires depths { AreDepths live.now.live depths.now }
     requires small { AreBelow depths.now }
+    requires most { AreGreatest depths.now most.now }
     ensures { IsSince live.now.live depths.now place.now result }
 {
     let count = live.len();
     let mut since = 0;
     for back in 0..count {
         let index = count - 1 - back;
+        if most[index] < since {
+            return since;
+        }
         since = with_event(depths, index, event_at(live, index), place, since);
     }
     since

@@ -10,7 +10,7 @@ use Rattle.shell_desk.specs.AtBench.{AtBench}
 use Rattle.shell_desk.specs.Laws.{EachDeedIsCommands, of_session}
 use Rattle.shell_desk.specs.declared.deed.Deed.{Deed}
 use Rattle.shell.specs.Laws.{IsOrLoaded, LinesAreCommands}
-use Rattle.shell.specs.Files.{Files}
+use Rattle.shell_files.specs.Files.{Files}
 use Rattle.shell.specs.Lines.{LineLeaves, LinesLeave}
 use Rattle.shell.specs.declared.answer.Outcome.{Outcome}
 
@@ -39,6 +39,10 @@ comes-line files source stimulus b m line Outcome.Done each (deed, done, asks, d
 comes-line files source stimulus b m line Outcome.Unread each h =
     comes-still source stimulus b.desk m.desk (ap (λ (x : AtBench). x.desk) h)
 comes-line files source stimulus b m line Outcome.Saved each h =
+    comes-still source stimulus b.desk m.desk (ap (λ (x : AtBench). x.desk) h.0)
+comes-line files source stimulus b m line Outcome.NotSaved each h =
+    comes-still source stimulus b.desk m.desk (ap (λ (x : AtBench). x.desk) h.0)
+comes-line files source stimulus b m line Outcome.NotScripted each h =
     comes-still source stimulus b.desk m.desk (ap (λ (x : AtBench). x.desk) h.0)
 comes-line files source stimulus b m line Outcome.Scripted each h =
     comes-still source stimulus b.desk m.desk (ap (λ (x : AtBench). x.desk) h.0)

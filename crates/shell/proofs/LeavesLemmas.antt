@@ -23,9 +23,9 @@ use Rattle.shell_desk.specs.declared.deed.Deed.{Deed}
 use Rattle.shell_desk.specs.declared.deed.Done.{Done}
 use Rattle.shell_desk.specs.declared.word.Word.{Word}
 use Rattle.shell_desk.specs.declared.word.Word.TheVariants.{R, N, Run, Next, Undo, Back, Why, Waiting, Outline, Vars, List as ListWord, Show, Save, SaveOver, Load, Script, ScriptOver, Help, Quit}
-use Rattle.shell.specs.Asking.{GoesOnWith, IsWordWith, LineAsks, ShellAsks, TextAsks, deed_of}
+use Rattle.shell.specs.Asking.{IsToldAlone, IsWordWith, LineAsks, ShellAsks, TextAsks, deed_of}
 use Rattle.shell.specs.Beginning.{BeginsAt}
-use Rattle.shell.specs.Files.{Files}
+use Rattle.shell_files.specs.Files.{Files}
 use Rattle.shell.specs.Lines.{AnsweredAsNumber, AnsweredAsScript, AnsweredAsStep, AnsweredAsTidied, AnsweredAsTyped, IsNewOrOver, Leaves, LineLeaves, SaidAsScript, line_count}
 use Rattle.shell.specs.internal.Parts.{AsksNoDeedAtAll, Begun, IsNewUnless, LoadsTrace, Quits, RestsWith, SavesTrace, TakesNumber, WordMeans, WordsAsk, WritesFile, is_want}
 use Rattle.shell.specs.declared.answer.Outcome.{Outcome}
@@ -45,6 +45,13 @@ leaves-by A A' B B' files source stimulus b b' Outcome.Scripted f g (e, (rest, i
     (e, (rest, inl (g Script rest is, new), written))
 leaves-by A A' B B' files source stimulus b b' Outcome.Scripted f g (e, (rest, inr is, written)) =
     (e, (rest, inr (g ScriptOver rest is), written))
+leaves-by A A' B B' files source stimulus b b' Outcome.NotSaved f g (e, (rest, inl is)) = (e, (rest, inl (g Save rest is)))
+leaves-by A A' B B' files source stimulus b b' Outcome.NotSaved f g (e, (rest, inr is)) =
+    (e, (rest, inr (g SaveOver rest is)))
+leaves-by A A' B B' files source stimulus b b' Outcome.NotScripted f g (e, (rest, inl is)) =
+    (e, (rest, inl (g Script rest is)))
+leaves-by A A' B B' files source stimulus b b' Outcome.NotScripted f g (e, (rest, inr is)) =
+    (e, (rest, inr (g ScriptOver rest is)))
 leaves-by A A' B B' files source stimulus b b' Outcome.Loaded f g (name, text, is, held, of) =
     (name, text, g Load (32 ∷ name) is, held, of)
 leaves-by A A' B B' files source stimulus b b' Outcome.NotLoaded f g (e, (rest, is)) = (e, (rest, g Load rest is))
@@ -71,35 +78,36 @@ unread-leaves A B files source stimulus b outcome e =
 
 -- the trace was saved, or was not
 pub saves-leave : (A : Deed → Type 0) (B : Word → List ℕ → Type 0) (files : Files) (source stimulus : List ℕ) (b : AtBench)
-    (rest : List ℕ) (over : Bool) (outcome : Outcome) → A Deed.Rest
+    (rest : List ℕ) (over : Bool) (outcome : Outcome) → B Save rest ⊎ B SaveOver rest
     → (IsNewUnless files over rest → IsNewOrOver files (B Save rest) (B SaveOver rest) rest)
     → SavesTrace files b rest over outcome → Leaves A B files source stimulus b outcome b
-saves-leave A B files source stimulus b rest over outcome asks is (inl e) =
-    rest-leaves A B files source stimulus b outcome e asks
-saves-leave A B files source stimulus b rest over outcome asks is (inr (e, saved, new)) =
+saves-leave A B files source stimulus b rest over outcome word is (inl e) =
+    subst (λ (o : Outcome). Leaves A B files source stimulus b o b) (sym e) (refl, (rest, word))
+saves-leave A B files source stimulus b rest over outcome word is (inr (e, saved, new)) =
     subst (λ (o : Outcome). Leaves A B files source stimulus b o b) (sym e) (refl, (rest, is new, saved))
 
 -- the lines so far were written, or were not
 pub scripts-leave : (A : Deed → Type 0) (B : Word → List ℕ → Type 0) (files : Files) (source stimulus : List ℕ) (b : AtBench)
-    (bytes rest : List ℕ) (over : Bool) (outcome : Outcome) → A Deed.Rest
+    (bytes rest : List ℕ) (over : Bool) (outcome : Outcome) → B Script rest ⊎ B ScriptOver rest
     → (IsNewUnless files over rest → IsNewOrOver files (B Script rest) (B ScriptOver rest) rest)
-    → WritesFile files bytes rest over Outcome.Scripted outcome → Leaves A B files source stimulus b outcome b
-scripts-leave A B files source stimulus b bytes rest over outcome asks is (inl e) =
-    rest-leaves A B files source stimulus b outcome e asks
-scripts-leave A B files source stimulus b bytes rest over outcome asks is (inr (e, (name, named, held), new)) =
+    → WritesFile files bytes rest over Outcome.Scripted Outcome.NotScripted outcome
+    → Leaves A B files source stimulus b outcome b
+scripts-leave A B files source stimulus b bytes rest over outcome word is (inl e) =
+    subst (λ (o : Outcome). Leaves A B files source stimulus b o b) (sym e) (refl, (rest, word))
+scripts-leave A B files source stimulus b bytes rest over outcome word is (inr (e, (name, named, held), new)) =
     subst (λ (o : Outcome). Leaves A B files source stimulus b o b) (sym e)
     (refl, (rest, is new, (name, bytes, named, held)))
 
 -- a file was written, or was not
-abbrev pub WroteFile : Files → List ℕ → List ℕ → Bool → Outcome → Outcome → Type 0
-WroteFile files name bytes over done outcome =
-    (outcome ≡ Outcome.Done)
+abbrev pub WroteFile : Files → List ℕ → List ℕ → Bool → Outcome → Outcome → Outcome → Type 0
+WroteFile files name bytes over done not_done outcome =
+    (outcome ≡ not_done)
     ⊎ ((outcome ≡ done) × files.holds name bytes × (over ≡ false → files.free name))
 
 -- the trace of the machine at the bench was written to the file of this name, or was not
 pub saves-trace : (files : Files) (b : AtBench) (m : AtMachine) (rest name text bytes : List ℕ) (over : Bool) (outcome : Outcome)
     → m ≡ b.desk.machine → rest ≡ 32 ∷ name → IsTrace (events m.live) text → bytes ≡ text
-    → WroteFile files name bytes over Outcome.Saved outcome → SavesTrace files b rest over outcome
+    → WroteFile files name bytes over Outcome.Saved Outcome.NotSaved outcome → SavesTrace files b rest over outcome
 saves-trace files b m rest name text bytes over outcome same named is alike (inl e) = inl e
 saves-trace files b m rest name text bytes over outcome same named is alike (inr (e, held, new)) =
     inr (
@@ -116,11 +124,11 @@ saves-trace files b m rest name text bytes over outcome same named is alike (inr
     )
 
 -- the lines so far were written to the file of this name, or were not
-pub writes-file : (files : Files) (rest name bytes lines : List ℕ) (over : Bool) (done outcome : Outcome)
-    → rest ≡ 32 ∷ name → bytes ≡ lines → WroteFile files name bytes over done outcome
-    → WritesFile files lines rest over done outcome
-writes-file files rest name bytes lines over done outcome named alike (inl e) = inl e
-writes-file files rest name bytes lines over done outcome named alike (inr (e, held, new)) =
+pub writes-file : (files : Files) (rest name bytes lines : List ℕ) (over : Bool) (done not_done outcome : Outcome)
+    → rest ≡ 32 ∷ name → bytes ≡ lines → WroteFile files name bytes over done not_done outcome
+    → WritesFile files lines rest over done not_done outcome
+writes-file files rest name bytes lines over done not_done outcome named alike (inl e) = inl e
+writes-file files rest name bytes lines over done not_done outcome named alike (inr (e, held, new)) =
     inr (
       e,
       (name, named, subst (λ (t : List ℕ). files.holds name t) alike held),
@@ -140,7 +148,9 @@ pub loads-leave : (A : Deed → Type 0) (B : Word → List ℕ → Type 0) (file
 loads-leave A B files source stimulus b b' name text Outcome.Done is held h = absurd h
 loads-leave A B files source stimulus b b' name text Outcome.Unread is held h = absurd h
 loads-leave A B files source stimulus b b' name text Outcome.Saved is held h = absurd h
+loads-leave A B files source stimulus b b' name text Outcome.NotSaved is held h = absurd h
 loads-leave A B files source stimulus b b' name text Outcome.Scripted is held h = absurd h
+loads-leave A B files source stimulus b b' name text Outcome.NotScripted is held h = absurd h
 loads-leave A B files source stimulus b b' name text Outcome.Loaded is held h = (name, text, is, held, h)
 loads-leave A B files source stimulus b b' name text Outcome.NotLoaded is held h = (h, ((32 ∷ name), is))
 loads-leave A B files source stimulus b b' name text Outcome.Over is held h = absurd h
@@ -166,27 +176,28 @@ quit-leaves A B files source stimulus b rest outcome (inl h) asks is =
 quit-leaves A B files source stimulus b rest outcome (inr h) asks is =
     rest-leaves A B files source stimulus b outcome h.1 (asks h.0)
 
--- the session goes on behind each other word
-pub goes-on-with : (word : Word) (rest : List ℕ) → word ≢ Load → word ≢ Quit → GoesOnWith word rest
-goes-on-with R rest load quit = tt
-goes-on-with N rest load quit = tt
-goes-on-with Run rest load quit = tt
-goes-on-with Next rest load quit = tt
-goes-on-with Undo rest load quit = tt
-goes-on-with Back rest load quit = tt
-goes-on-with Why rest load quit = tt
-goes-on-with Waiting rest load quit = tt
-goes-on-with Outline rest load quit = tt
-goes-on-with Vars rest load quit = tt
-goes-on-with ListWord rest load quit = tt
-goes-on-with Show rest load quit = tt
-goes-on-with Save rest load quit = tt
-goes-on-with SaveOver rest load quit = tt
-goes-on-with Load rest load quit = absurd (load refl)
-goes-on-with Script rest load quit = tt
-goes-on-with ScriptOver rest load quit = tt
-goes-on-with Help rest load quit = tt
-goes-on-with Quit rest load quit = absurd (quit refl)
+-- each other word is answered in words alone
+pub told-alone : (word : Word) (rest : List ℕ) → word ≢ Save → word ≢ SaveOver → word ≢ Load → word ≢ Script
+    → word ≢ ScriptOver → word ≢ Quit → IsToldAlone word rest
+told-alone R rest save save_over load script script_over quit = tt
+told-alone N rest save save_over load script script_over quit = tt
+told-alone Run rest save save_over load script script_over quit = tt
+told-alone Next rest save save_over load script script_over quit = tt
+told-alone Undo rest save save_over load script script_over quit = tt
+told-alone Back rest save save_over load script script_over quit = tt
+told-alone Why rest save save_over load script script_over quit = tt
+told-alone Waiting rest save save_over load script script_over quit = tt
+told-alone Outline rest save save_over load script script_over quit = tt
+told-alone Vars rest save save_over load script script_over quit = tt
+told-alone ListWord rest save save_over load script script_over quit = tt
+told-alone Show rest save save_over load script script_over quit = tt
+told-alone Save rest save save_over load script script_over quit = absurd (save refl)
+told-alone SaveOver rest save save_over load script script_over quit = absurd (save_over refl)
+told-alone Load rest save save_over load script script_over quit = absurd (load refl)
+told-alone Script rest save save_over load script script_over quit = absurd (script refl)
+told-alone ScriptOver rest save save_over load script script_over quit = absurd (script_over refl)
+told-alone Help rest save save_over load script script_over quit = tt
+told-alone Quit rest save save_over load script script_over quit = absurd (quit refl)
 
 -- a word by which a trace is loaded, or is not
 pub other-load : (files : Files) (source stimulus : List ℕ) (b b' : AtBench) (word : Word) (rest : List ℕ) (outcome : Outcome)
@@ -201,7 +212,7 @@ pub other-quit : (files : Files) (source stimulus : List ℕ) (b : AtBench) (wor
     → word ≡ Quit → Quits rest outcome → Leaves (RestsWith word rest) (Begun word rest) files source stimulus b outcome b
 other-quit files source stimulus b word rest outcome e quits =
     quit-leaves (RestsWith word rest) (Begun word rest) files source stimulus b rest outcome quits
-    (λ filled. (subst (λ (w : Word). GoesOnWith w rest) (sym e) filled, refl)) (sym e, refl)
+    (λ filled. (subst (λ (w : Word). IsToldAlone w rest) (sym e) filled, refl)) (sym e, refl)
 
 -- the words by which the trace is saved
 pub other-save : (files : Files) (source stimulus : List ℕ) (b : AtBench) (word : Word) (rest : List ℕ) (outcome : Outcome)
@@ -209,33 +220,33 @@ pub other-save : (files : Files) (source stimulus : List ℕ) (b : AtBench) (wor
     → Leaves (RestsWith word rest) (Begun word rest) files source stimulus b outcome b
 other-save files source stimulus b word rest outcome e h =
     saves-leave (RestsWith word rest) (Begun word rest) files source stimulus b rest false outcome
-    (subst (λ (w : Word). GoesOnWith w rest) (sym e) tt, refl) (λ new. inl ((sym e, refl), new refl)) h
+    (inl (sym e, refl)) (λ new. inl ((sym e, refl), new refl)) h
 
 pub other-save-over : (files : Files) (source stimulus : List ℕ) (b : AtBench) (word : Word) (rest : List ℕ) (outcome : Outcome)
     → word ≡ SaveOver → SavesTrace files b rest true outcome
     → Leaves (RestsWith word rest) (Begun word rest) files source stimulus b outcome b
 other-save-over files source stimulus b word rest outcome e h =
     saves-leave (RestsWith word rest) (Begun word rest) files source stimulus b rest true outcome
-    (subst (λ (w : Word). GoesOnWith w rest) (sym e) tt, refl) (λ new. inr (sym e, refl)) h
+    (inr (sym e, refl)) (λ new. inr (sym e, refl)) h
 
 -- the words by which the lines so far are
 pub other-script : (files : Files) (source stimulus : List ℕ) (b : AtBench) (word : Word) (bytes rest : List ℕ) (outcome : Outcome)
-    → word ≡ Script → WritesFile files bytes rest false Outcome.Scripted outcome
+    → word ≡ Script → WritesFile files bytes rest false Outcome.Scripted Outcome.NotScripted outcome
     → Leaves (RestsWith word rest) (Begun word rest) files source stimulus b outcome b
 other-script files source stimulus b word bytes rest outcome e h =
     scripts-leave (RestsWith word rest) (Begun word rest) files source stimulus b bytes rest false outcome
-    (subst (λ (w : Word). GoesOnWith w rest) (sym e) tt, refl) (λ new. inl ((sym e, refl), new refl)) h
+    (inl (sym e, refl)) (λ new. inl ((sym e, refl), new refl)) h
 
 pub other-script-over : (files : Files) (source stimulus : List ℕ) (b : AtBench) (word : Word) (bytes rest : List ℕ) (outcome : Outcome)
-    → word ≡ ScriptOver → WritesFile files bytes rest true Outcome.Scripted outcome
+    → word ≡ ScriptOver → WritesFile files bytes rest true Outcome.Scripted Outcome.NotScripted outcome
     → Leaves (RestsWith word rest) (Begun word rest) files source stimulus b outcome b
 other-script-over files source stimulus b word bytes rest outcome e h =
     scripts-leave (RestsWith word rest) (Begun word rest) files source stimulus b bytes rest true outcome
-    (subst (λ (w : Word). GoesOnWith w rest) (sym e) tt, refl) (λ new. inr (sym e, refl)) h
+    (inr (sym e, refl)) (λ new. inr (sym e, refl)) h
 
 -- a word that is answered in words alone
 pub other-told : (files : Files) (source stimulus : List ℕ) (b : AtBench) (word : Word) (rest : List ℕ) (outcome : Outcome)
-    → GoesOnWith word rest → outcome ≡ Outcome.Done
+    → IsToldAlone word rest → outcome ≡ Outcome.Done
     → Leaves (RestsWith word rest) (Begun word rest) files source stimulus b outcome b
 other-told files source stimulus b word rest outcome goes e =
     rest-leaves (RestsWith word rest) (Begun word rest) files source stimulus b outcome e (goes, refl)
@@ -276,7 +287,7 @@ names-none Quit rest deed h = absurd h
 
 -- what a word means, part by part
 flat-means : (word : Word) (rest : List ℕ) (deed : Deed) → WordMeans word rest deed
-    → AsksDeed word rest deed ⊎ (AsksNoDeed word rest × GoesOnWith word rest × (deed ≡ Deed.Rest))
+    → AsksDeed word rest deed ⊎ (AsksNoDeed word rest × IsToldAlone word rest × (deed ≡ Deed.Rest))
 flat-means word rest deed (inl h) = inl h
 flat-means word rest deed (inr (none, rests)) = inr (none, rests.0, rests.1)
 
@@ -317,6 +328,23 @@ pub asks-nothing : (system checked : System) (line : List ℕ) (fault : Fault) �
     → Unsaid checked line fault → AsksNothing system line
 asks-nothing system checked line fault e not (inl h) = absurd (not h.0)
 asks-nothing system checked line fault e not (inr h) = subst (λ (s : System). AsksNothing s line) e h.2
+
+-- a text that was not read for want of memory may be a step
+pub may-be-step : (checked : System) (line : List ℕ) (fault : Fault) (r : Bool) → r ≡ is_want fault → r ≡ true
+    → Unsaid checked line fault → MayBeStep line
+may-be-step checked line fault r e t (inl h) = h.1
+may-be-step checked line fault r e t (inr h) =
+    let same : true ≡ false = sym t ∙ (e ∙ ap is_want h.0) in absurd (false≢true (sym same))
+
+-- a line that became this was read
+abbrev is_read : Outcome → Bool
+is_read Outcome.Unread = false
+is_read _ = true
+
+-- what is done was read
+pub done-read : (outcome : Outcome) → outcome ≡ Outcome.Done → outcome ≡ Outcome.Unread → ⊥
+done-read outcome done unread =
+    let same : true ≡ false = ap is_read (sym done ∙ unread) in absurd (false≢true (sym same))
 
 -- and it is not empty
 pub not-empty : (checked : System) (line : List ℕ) (fault : Fault) → (fault ≡ Fault.Memory → ⊥) → Unsaid checked line fault → line ≢ []

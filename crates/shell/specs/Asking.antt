@@ -10,7 +10,7 @@ use Rattle.shell_desk.specs.Words.{spelling, AsksDeed}
 use Rattle.shell_desk.specs.internal.Spelled.{SpellsNothing, AsksNoDeed}
 use Rattle.shell_desk.specs.declared.deed.Deed.{Deed}
 use Rattle.shell_desk.specs.declared.word.Word.{Word}
-use Rattle.shell_desk.specs.declared.word.Word.TheVariants.{Load, Quit}
+use Rattle.shell_desk.specs.declared.word.Word.TheVariants.{Load, Quit, Save, SaveOver, Script, ScriptOver}
 
 -- what a line of a script asks: one command, another session, or nothing
 abbrev pub deed_of : Line → Deed
@@ -20,19 +20,23 @@ deed_of Line.View = Deed.Rest
 deed_of Line.Trace = Deed.Rest
 deed_of Line.Empty = Deed.Rest
 
--- the session goes on with the execution at hand behind the word with this rest: it does not behind `load`, nor behind
+-- the word with this rest is answered in words alone, where it asks nothing of the desk: those of files are not, nor is
 -- `quit` with nothing behind it
-abbrev pub GoesOnWith : Word → List ℕ → Type 0
-GoesOnWith Load rest = ⊥
-GoesOnWith Quit rest = rest ≢ []
-GoesOnWith _ rest = Unit {0}
+abbrev pub IsToldAlone : Word → List ℕ → Type 0
+IsToldAlone Save rest = ⊥
+IsToldAlone SaveOver rest = ⊥
+IsToldAlone Load rest = ⊥
+IsToldAlone Script rest = ⊥
+IsToldAlone ScriptOver rest = ⊥
+IsToldAlone Quit rest = rest ≢ []
+IsToldAlone _ rest = Unit {0}
 
 -- the word that stands before the first space, with the rest behind it, asks this; what is no word asks nothing, and
 -- neither does a word with a rest that does not fit
 abbrev pub WordAsks : List ℕ → List ℕ → Deed → Type 0
 WordAsks spelled rest deed =
     ((word : Word) × (spelling word ≡ spelled)
-    × (AsksDeed word rest deed ⊎ (AsksNoDeed word rest × GoesOnWith word rest × (deed ≡ Deed.Rest))))
+    × (AsksDeed word rest deed ⊎ (AsksNoDeed word rest × IsToldAlone word rest × (deed ≡ Deed.Rest))))
     ⊎ (SpellsNothing spelled × (deed ≡ Deed.Rest))
 
 -- a text that is no line of a script asks this: a bare number the step that has it, else what its word asks

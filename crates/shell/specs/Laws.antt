@@ -7,7 +7,7 @@ use Rattle.locked_execution.specs.declared.command.Command.{Command}
 use Rattle.locked_execution.specs.declared.command.Reply.{Reply}
 use Rattle.shell_desk.specs.AtBench.{AtBench}
 use Rattle.shell.specs.Beginning.{IsOfTrace}
-use Rattle.shell.specs.Files.{Files}
+use Rattle.shell_files.specs.Files.{Files}
 use Rattle.shell.specs.Lines.{LinesLeave}
 
 -- the desk is one, or a new one on an execution that a trace gives

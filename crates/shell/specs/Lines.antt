@@ -1,12 +1,13 @@
 -- What the lines of a session leave.
 use Rattle.std.specs.Prelude.{ℕ, ◌≡◌, ◌⊎◌, ◌+◌, ◌==◌, if◌then◌else◌, List, [], ◌∷◌, Some}
 use Rattle.decimal.specs.Reading.{IsNoNumber, Reads}
+use Rattle.system.specs.declared.system.System.{System}
 use Rattle.runs.specs.Live.{events}
 use Rattle.machine.specs.AtMachine.{AtMachine}
 use Rattle.trace_file.specs.TraceText.{IsTrace}
 use Rattle.locked_execution.specs.declared.command.Command.{Command}
 use Rattle.debug_session.specs.AtLine.{AtLine}
-use Rattle.debug_session.specs.Lines.{AsksNothing, Says}
+use Rattle.debug_session.specs.Lines.{AsksNothing, MayBeStep, Says}
 use Rattle.debug_session.specs.Transcript.{SaidAnswered}
 use Rattle.debug_session.specs.declared.line.Line.{Line}
 use Rattle.shell_desk.specs.AtBench.{AtBench}
@@ -18,7 +19,7 @@ use Rattle.shell_desk.specs.declared.word.Word.{Word}
 use Rattle.shell_desk.specs.declared.word.Word.TheVariants.{Load, Quit, Save, SaveOver, Script, ScriptOver}
 use Rattle.shell.specs.Asking.{LineAsks, IsWordWith}
 use Rattle.shell.specs.Beginning.{BeginsAt}
-use Rattle.shell.specs.Files.{Files}
+use Rattle.shell_files.specs.Files.{Files}
 use Rattle.shell.specs.declared.answer.Outcome.{Outcome}
 
 -- how many lines have an end in the text
@@ -49,9 +50,9 @@ abbrev pub IsNewOrOver : Files → Type 0 → Type 0 → List ℕ → Type 0
 IsNewOrOver files New Over rest = (New × IsNew files rest) ⊎ Over
 
 -- a line that asks such a deed, or is such a word with such a rest, becomes this and leaves b': what it asks is done;
--- or nothing is, for want of memory; or it is a line `save` or `save!`, and the trace is in the file, or `script` or
--- `script!`, and some lines are; or it is a line `load`, and the execution that the file tells of stands in place, or
--- none does; or it is the line `quit`
+-- or nothing is, for want of memory; or it is a line `save` or `save!`, and the trace is in the file, or nothing is
+-- done; or `script` or `script!`, and some lines are, or nothing is done; or it is a line `load`, and the execution that
+-- the file tells of stands in place, or none does; or it is the line `quit`
 abbrev pub Leaves : (Deed → Type 0) → (Word → List ℕ → Type 0) → Files → List ℕ → List ℕ → AtBench → Outcome
     → AtBench → Type 0
 Leaves Asks Is files source stimulus b Outcome.Done b' = (deed : Deed) × (done : Done) × Asks deed × Does b deed done b'
@@ -59,9 +60,13 @@ Leaves Asks Is files source stimulus b Outcome.Unread b' = b' ≡ b
 Leaves Asks Is files source stimulus b Outcome.Saved b' =
     (b' ≡ b)
     × ((rest : List ℕ) × IsNewOrOver files (Is Save rest) (Is SaveOver rest) rest × IsSaved files b rest)
+Leaves Asks Is files source stimulus b Outcome.NotSaved b' =
+    (b' ≡ b) × ((rest : List ℕ) × (Is Save rest ⊎ Is SaveOver rest))
 Leaves Asks Is files source stimulus b Outcome.Scripted b' =
     (b' ≡ b)
     × ((rest : List ℕ) × IsNewOrOver files (Is Script rest) (Is ScriptOver rest) rest × IsWritten files rest)
+Leaves Asks Is files source stimulus b Outcome.NotScripted b' =
+    (b' ≡ b) × ((rest : List ℕ) × (Is Script rest ⊎ Is ScriptOver rest))
 Leaves Asks Is files source stimulus b Outcome.Loaded b' =
     (name : List ℕ) × (text : List ℕ) × Is Load (32 ∷ name) × files.holds name text
     × ((m : AtMachine) × BeginsAt source stimulus (Some text) m × TurnsTo b (line_count source) m b')
@@ -108,6 +113,10 @@ abbrev pub AnsweredAsTyped : List ℕ → AtBench → List ℕ → List ℕ → 
 AnsweredAsTyped source b line own b' =
     AnsweredAsScript source b line own b'
     × (AsksNothing b.desk.machine.checked line → AnsweredAsTidied source b (tidied line) own b')
+
+-- a line for which there may be no memory to read it: it may be a step of a script, or it is no line of one
+abbrev pub MayGoUnread : System → List ℕ → Type 0
+MayGoUnread system line = MayBeStep line ⊎ AsksNothing system line
 
 -- no line comes behind one that ended the session
 abbrev pub IsLastIfOver : Outcome → List (List ℕ) → Type 0

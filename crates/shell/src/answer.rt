@@ -1,4 +1,5 @@
 ghost use Rattle.std.specs.Prelude.{◌≡◌, [], None, IfSome};
+ghost use Rattle.shell.specs.Taken.{head_of};
 ghost use Rattle.shell.specs.declared.answer.Outcome.TheVariants.{Unread};
 
 use plain_words::Text;
@@ -13,8 +14,12 @@ pub enum Outcome {
     Unread,
     /// the trace of the live steps is in a file
     Saved,
+    /// it is not, and nothing was done
+    NotSaved,
     /// the lines so far are in a file
     Scripted,
+    /// they are not, and nothing was done
+    NotScripted,
     /// another execution stands in place of the one before
     Loaded,
     /// none could be loaded, and nothing was done
@@ -30,7 +35,7 @@ pub struct Answer {
     /// The answer of a script, word for word, each line with byte 10 at its end; `None` where there was no memory for
     /// it.
     pub own: Option<Vec<u8>>,
-    /// What is said behind it in plain words.
+    /// What is said behind it in plain words, and behind what says whether a file was saved, written or loaded.
     pub words: Text,
 }
 
@@ -63,4 +68,21 @@ pub(crate) fn said(alloc: Global, words: &[u8]) -> Text {
     let mut text = Text::new(alloc);
     text.add(words);
     text
+}
+
+/// What is said before the words, by what became of the line.
+pub(crate) fn head(outcome: Outcome) -> &'static [u8]
+    ensures { result.now ≡ head_of outcome }
+{
+    match outcome {
+        Outcome::Done => b"",
+        Outcome::Unread => b"",
+        Outcome::Saved => b"  wrote ",
+        Outcome::NotSaved => b"  not saved: ",
+        Outcome::Scripted => b"  wrote ",
+        Outcome::NotScripted => b"  not written: ",
+        Outcome::Loaded => b"  loaded ",
+        Outcome::NotLoaded => b"  not loaded: ",
+        Outcome::Over => b"",
+    }
 }

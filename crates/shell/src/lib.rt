@@ -3,7 +3,6 @@
 #![tactic(auto)]
 
 mod answer;
-mod host;
 mod laws;
 mod lines;
 mod load;
@@ -20,9 +19,9 @@ mod texts;
 pub use answer::{Answer, Outcome};
 pub use debug_session::Fault;
 pub use devices::Counted;
-pub use host::{FileFault, Host, Local};
 pub use laws::session_laws;
 pub use lines::run;
 pub use session::{Session, Setting};
+pub use shell_files::{FileFault, Host, Local};
 pub use start::{begin, setting_of};
 pub use texts::Texts;

@@ -4,7 +4,7 @@ ghost use Rattle.std.specs.Option.{option_copied};
 ghost use Rattle.std.specs.Io.Buffered.{reader_remaining};
 ghost use Rattle.devices.specs.Counting.{device, failures};
 ghost use Rattle.debug_session.specs.Counting.{after_reading, after_writing};
-ghost use Rattle.shell.specs.Taken.{EndsAt, IsPrompt, SessionEnds};
+ghost use Rattle.shell.specs.Taken.{EndsAt, SessionEnds, prompt_of};
 ghost use Rattle.shell.specs.internal.Next.{Ended, GoesOn, NextEnds, TakenEnds};
 
 use crate::output::{write_answer, write_some, write_text};
@@ -30,7 +30,7 @@ pub fn run<R: Read, O: Write, H: Host>(
     texts: Texts<'_>,
     is_terminal: bool,
 ) -> Result<(), Fault>
-    ensures ends { SessionEnds (H.files host.now) texts.entry.source.now texts.entry.stimulus.now
+    ensures ends { SessionEnds (H.files host.now) is_terminal texts.entry.source.now texts.entry.stimulus.now
         (option_copied texts.entry.trace) ((reader.new ≡ reader.old) × (out.new ≡ out.old))
         (reader_remaining R.remaining (device reader.old)) (reader_remaining R.remaining (device reader.new))
         (O.contents (device out.old)) (O.contents (device out.new)) result }
@@ -57,7 +57,7 @@ fn run_on<R: Read, O: Write, H: Host>(
     texts: &Texts<'_>,
     is_terminal: bool,
 ) -> Result<(), Fault>
-    ensures ends { EndsAt (H.files host.now) texts.now.source.now texts.now.stimulus.now session.old.bench
+    ensures ends { EndsAt (H.files host.now) is_terminal texts.now.source.now texts.now.stimulus.now session.old.bench
         (reader_remaining R.remaining (device reader.old)) (reader_remaining R.remaining (device reader.new))
         (O.contents (device out.old)) (O.contents (device out.new)) result session.new.bench }
     ensures read_failures { failures reader.new ≡ after_reading result (failures reader.old) }
@@ -83,8 +83,8 @@ impl Session {
         host: &H,
         is_terminal: bool,
     ) -> Result<(), Fault>
-        ensures ends { Ended (H.files host.now) setting.now.texts.source.now setting.now.texts.stimulus.now
-            self.old.bench
+        ensures ends { Ended (H.files host.now) is_terminal setting.now.texts.source.now
+            setting.now.texts.stimulus.now self.old.bench
             (reader_remaining R.remaining (device reader.old)) (reader_remaining R.remaining (device reader.new))
             (O.contents (device out.old)) (O.contents (device out.new)) result self.new.bench }
         ensures read_failures { failures reader.new ≡ after_reading result (failures reader.old) }
@@ -112,8 +112,8 @@ impl Session {
         is_terminal: bool,
         line: &mut Vec<u8>,
     ) -> Result<bool, Fault>
-        ensures ends { NextEnds (H.files host.now) setting.now.texts.source.now setting.now.texts.stimulus.now
-            self.old.bench
+        ensures ends { NextEnds (H.files host.now) is_terminal setting.now.texts.source.now
+            setting.now.texts.stimulus.now self.old.bench
             (reader_remaining R.remaining (device reader.old)) (reader_remaining R.remaining (device reader.new))
             (O.contents (device out.old)) (O.contents (device out.new)) result self.new.bench }
         ensures read_failures { failures reader.new ≡ after_reading result (failures reader.old) }
@@ -201,7 +201,7 @@ fn with_end(mut words: Text, ends_prompt: bool) -> Text {
 
 /// What is written before a line.
 fn prompt(is_terminal: bool) -> &'static [u8]
-    ensures { IsPrompt result.now }
+    ensures { result.now ≡ prompt_of is_terminal }
 {
     if is_terminal { b"> " } else { b"" }
 }

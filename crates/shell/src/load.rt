@@ -11,14 +11,13 @@ ghost use Rattle.shell.specs.Lines.{Leaves, line_count};
 ghost use Rattle.shell.specs.internal.Parts.{AsksNoDeedAtAll, Begun, LoadsTrace};
 ghost use Rattle.shell.specs.declared.answer.Outcome.TheVariants as outcomes;
 
-use crate::answer::{said, spoken};
+use crate::answer::spoken;
 use crate::notes::Shows;
-use crate::save::{name_in, told_fault};
+use crate::save::name_in;
 use crate::{Answer, Host, Outcome, Session, Setting, Texts};
 use debug_session::{Fault, accept};
 use locked_execution::Machine;
-use plain_words::Text;
-use shell_answers::{add_given, question_text};
+use shell_answers::{file_fault_text, loaded_text, refused_trace_text, unnamed_text};
 use shell_desk::Word;
 use std::alloc::Global;
 use trace_file::load_text;
@@ -31,13 +30,13 @@ impl Session {
             self.old.bench result.outcome self.new.bench }
     {
         let Some(name) = name_in(rest) else {
-            let words = self.load_usage(setting, rest);
+            let words = unnamed_text(setting.alloc, Word::Load, rest);
             return spoken(setting.alloc, Outcome::NotLoaded, words);
         };
         match host.read(setting.alloc, name) {
             Ok(trace) => self.load_trace(setting, name, trace.as_slice()),
             Err(fault) => {
-                let words = told_fault(setting.alloc, name, fault, "load");
+                let words = file_fault_text(setting.alloc, name, fault, Word::Load);
                 spoken(setting.alloc, Outcome::NotLoaded, words)
             }
         }
@@ -50,10 +49,7 @@ impl Session {
     {
         match machine_of(setting.alloc, &setting.texts, trace) {
             Ok(machine) => self.turn_to(setting, machine),
-            Err(fault) => {
-                let words = told_refused(setting.alloc, name, fault);
-                spoken(setting.alloc, Outcome::NotLoaded, words)
-            }
+            Err(fault) => not_loaded(setting.alloc, name, trace, fault),
         }
     }
 
@@ -67,26 +63,21 @@ impl Session {
         let last_line = count_lines(setting.texts.source);
         self.bench.turn_to(machine, last_line, &mut self.notes);
         self.notes.turn_back(self.bench.session());
-        let words = self.loaded_text(setting.alloc);
-        spoken(setting.alloc, Outcome::Loaded, words)
-    }
-
-    /// How the word is written.
-    fn load_usage(&self, setting: &Setting<'_>, rest: &[u8]) -> Text {
-        question_text(&self.scene(setting), Word::Load, rest)
-    }
-
-    /// How many steps were loaded.
-    fn loaded_text(&self, alloc: Global) -> Text {
         let live = self.bench.desk().machine().live_events().len() as u64;
-        let mut text = Text::new(alloc);
-        text.add_counted(
-            b"  loaded ",
-            live,
-            if live == 1 { b" step\n" } else { b" steps\n" },
-        );
-        text
+        spoken(
+            setting.alloc,
+            Outcome::Loaded,
+            loaded_text(setting.alloc, live),
+        )
     }
+}
+
+/// That the trace was refused for this reason.
+fn not_loaded(alloc: Global, name: &str, trace: &[u8], fault: Fault) -> Answer
+    ensures { result.outcome ≡ outcomes.NotLoaded }
+{
+    let words = refused_trace_text(alloc, name, trace, fault.number(), fault.field());
+    spoken(alloc, Outcome::NotLoaded, words)
 }
 
 /// The machine that has taken the steps of a trace of the system of these texts.
@@ -123,32 +114,4 @@ fn count_lines(text: &[u8]) -> u64
         }
     }
     ended + 1
-}
-
-/// Why a file could not be loaded.
-fn told_refused(alloc: Global, name: &str, fault: Fault) -> Text {
-    let mut text = said(alloc, b"  ");
-    add_given(&mut text, name.as_bytes());
-    text.add_counted(b": refused ", u64::from(fault.number()), b"");
-    match fault.field() {
-        Some(line) => text.add_counted(b" ", line, b""),
-        None => {}
-    }
-    text.add(why_not_loaded(fault.number()));
-    text.add(b". The steps stay as they are\n");
-    text
-}
-
-/// What the number of a refusal says of a trace.
-fn why_not_loaded(number: u32) -> &'static [u8] {
-    match number {
-        1 => b"; there was no memory for it",
-        31 => b"; its first line is not `balsadbg trace 2`, or ends as on Windows",
-        32 => b"; that line is none of a trace, or is cut off, or ends as on Windows",
-        33 =>
-            b"; that step cannot be taken there: it is of another description or stimulus, or lines were exchanged",
-        34 =>
-            b"; another step is due on that line: with `balsadbg trace 1` in the first line any order loads",
-        _ => b"; it is no trace of this description",
-    }
 }

@@ -1,12 +1,13 @@
 // What is written for people.
-ghost use Rattle.std.specs.Prelude.{◌≡◌, List, ℕ, ◌++◌, MatchOption, MatchResult};
+ghost use Rattle.std.specs.Prelude.{◌≡◌, List, ℕ, MatchOption, MatchResult};
 ghost use Rattle.std.specs.Io.KnownBytes.{Appends};
 ghost use Rattle.devices.specs.Counting.{device, failures};
 ghost use Rattle.debug_session.specs.Counting.{after_writing};
 ghost use Rattle.debug_session.specs.declared.fault.Fault.TheVariants.{WriteFailed};
-ghost use Rattle.shell.specs.Taken.{TellsLack};
-ghost use Rattle.shell.specs.internal.Next.{Answers};
+ghost use Rattle.shell.specs.Taken.{TellsLost, TellsUnread};
+ghost use Rattle.shell.specs.internal.Next.{Answers, HeadedOn, Tells};
 
+use crate::answer::head;
 use crate::{Answer, Outcome};
 use debug_session::{Counted, Fault, write_out};
 use plain_words::Text;
@@ -15,7 +16,8 @@ use std::io::Write;
 /// Writes an answer: that of a script first, and words behind it.
 pub(crate) fn write_answer<W: Write>(out: &mut Counted<W>, answer: Answer) -> Result<(), Fault>
     ensures bytes { MatchResult result
-        (λ _. Answers answer.own (λ text. text.items) (W.contents (device out.old)) (W.contents (device out.new)))
+        (λ _. Answers answer.outcome answer.own (λ text. text.items) (W.contents (device out.old))
+        (W.contents (device out.new)))
         (λ fault. fault ≡ WriteFailed) }
     ensures failures { failures out.new ≡ after_writing result (failures out.old) }
 {
@@ -25,12 +27,25 @@ pub(crate) fn write_answer<W: Write>(out: &mut Counted<W>, answer: Answer) -> Re
         words,
     } = answer;
     match write_own(out, &own, outcome) {
+        Ok(()) => write_headed(out, outcome, words),
+        Err(fault) => Err(fault),
+    }
+}
+
+/// Writes words, and before them what is said first of a line that became this.
+fn write_headed<W: Write>(out: &mut Counted<W>, outcome: Outcome, words: Text) -> Result<(), Fault>
+    ensures bytes { MatchResult result
+        (λ _. HeadedOn outcome (W.contents (device out.old)) (W.contents (device out.new)))
+        (λ fault. fault ≡ WriteFailed) }
+    ensures failures { failures out.new ≡ after_writing result (failures out.old) }
+{
+    match write_some(out, head(outcome)) {
         Ok(()) => write_text(out, words),
         Err(fault) => Err(fault),
     }
 }
 
-/// Writes the answer of a script, or that there was no memory for it.
+/// Writes the answer of a script, or that there was no memory for it, or none to read the line.
 fn write_own<W: Write>(
     out: &mut Counted<W>,
     own: &Option<Vec<u8>>,
@@ -38,24 +53,42 @@ fn write_own<W: Write>(
 ) -> Result<(), Fault>
     ensures bytes { MatchResult result
         (λ _. (told : List ℕ) × Appends (W.contents (device out.old)) (W.contents (device out.new)) told
-        × MatchOption own.now (TellsLack told) (λ text. told ≡ text.items))
+        × Tells outcome own.now (λ text. text.items) told)
+        (λ fault. fault ≡ WriteFailed) }
+    ensures failures { failures out.new ≡ after_writing result (failures out.old) }
+{
+    match outcome {
+        Outcome::Unread => write_some(out, unread_told()),
+        _ => write_read(out, own),
+    }
+}
+
+/// Writes the answer of a script, or that there was no memory for it.
+fn write_read<W: Write>(out: &mut Counted<W>, own: &Option<Vec<u8>>) -> Result<(), Fault>
+    ensures bytes { MatchResult result
+        (λ _. (told : List ℕ) × Appends (W.contents (device out.old)) (W.contents (device out.new)) told
+        × MatchOption own.now (TellsLost told) (λ text. told ≡ text.items))
         (λ fault. fault ≡ WriteFailed) }
     ensures failures { failures out.new ≡ after_writing result (failures out.old) }
 {
     match own {
         Some(bytes) => write_some(out, bytes.as_slice()),
-        None => write_some(out, lost(outcome)),
+        None => write_some(out, lost_told()),
     }
 }
 
-/// What is said where there was no memory for the answer of a script.
-fn lost(outcome: Outcome) -> &'static [u8]
-    ensures { TellsLack result.now }
+/// What is said where there was no memory to read the line.
+fn unread_told() -> &'static [u8]
+    ensures { TellsUnread result.now }
 {
-    match outcome {
-        Outcome::Unread => b"  there was no memory to read this line, and nothing was done\n",
-        _ => b"  the line was done, but there was no memory for its answer\n",
-    }
+    b"  there was no memory to read this line, and nothing was done\n"
+}
+
+/// What is said where there was no memory for the answer of a script.
+fn lost_told() -> &'static [u8]
+    ensures { TellsLost result.now }
+{
+    b"  the line was done, but there was no memory for its answer\n"
 }
 
 /// Writes words, or that there was no memory for them.

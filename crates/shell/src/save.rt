@@ -4,9 +4,8 @@ ghost use Rattle.shell.specs.internal.Parts.{SavesTrace, WritesFile};
 ghost use Rattle.shell.specs.declared.answer.Outcome.TheVariants as outcomes;
 
 use crate::answer::{said, spoken};
-use crate::{Answer, FileFault, Host, Outcome, Session, Setting};
-use plain_words::Text;
-use shell_answers::add_given;
+use crate::{Answer, Host, Outcome, Session, Setting};
+use shell_answers::{file_fault_text, unnamed_text, written_text};
 use shell_desk::Word;
 use std::alloc::Global;
 use std::str;
@@ -25,7 +24,8 @@ impl Session {
     {
         let Some(name) = name_in(rest) else {
             let word = if over { Word::SaveOver } else { Word::Save };
-            return self.answer_question(setting, word, rest);
+            let words = unnamed_text(setting.alloc, word, rest);
+            return spoken(setting.alloc, Outcome::NotSaved, words);
         };
         match write_trace(setting.alloc, self.bench.desk().machine()) {
             Ok(trace) => write_file(
@@ -35,14 +35,12 @@ impl Session {
                 trace.as_slice(),
                 over,
                 Outcome::Saved,
-                "save",
+                Outcome::NotSaved,
+                Word::Save,
             ),
             Err(_) => {
-                let words = said(
-                    setting.alloc,
-                    b"  there was no memory for the trace, and no file was written\n",
-                );
-                spoken(setting.alloc, Outcome::Done, words)
+                let words = said(setting.alloc, b"there was no memory for the trace\n");
+                spoken(setting.alloc, Outcome::NotSaved, words)
             }
         }
     }
@@ -56,11 +54,12 @@ impl Session {
         over: bool,
     ) -> Answer
         ensures { WritesFile (H.files host.now) self.now.notes.script.items rest.now over outcomes.Scripted
-            result.outcome }
+            outcomes.NotScripted result.outcome }
     {
         let Some(name) = name_in(rest) else {
             let word = if over { Word::ScriptOver } else { Word::Script };
-            return self.answer_question(setting, word, rest);
+            let words = unnamed_text(setting.alloc, word, rest);
+            return spoken(setting.alloc, Outcome::NotScripted, words);
         };
         match self.notes.script() {
             Some(bytes) => write_file(
@@ -70,14 +69,15 @@ impl Session {
                 bytes,
                 over,
                 Outcome::Scripted,
-                "script",
+                Outcome::NotScripted,
+                Word::Script,
             ),
             None => {
                 let words = said(
                     setting.alloc,
-                    b"  there was no memory for some of the lines, and no file was written\n",
+                    b"there was no memory for some of the lines\n",
                 );
-                spoken(setting.alloc, Outcome::Done, words)
+                spoken(setting.alloc, Outcome::NotScripted, words)
             }
         }
     }
@@ -96,7 +96,7 @@ pub(crate) fn name_in(rest: &[u8]) -> Option<&str>
     }
 }
 
-/// Writes a file, and tells whether it is there now: then this became of the line.
+/// Writes a file, and tells whether it is there now: then `done` came of the line, else `not_done`.
 fn write_file<H: Host>(
     alloc: Global,
     host: &H,
@@ -104,63 +104,15 @@ fn write_file<H: Host>(
     bytes: &[u8],
     over: bool,
     done: Outcome,
-    word: &str,
+    not_done: Outcome,
+    word: Word,
 ) -> Answer
-    ensures { (result.outcome ≡ outcomes.Done)
+    ensures { (result.outcome ≡ not_done)
         ⊎ ((result.outcome ≡ done) × (H.files host.now).holds name.now bytes.now
         × (over ≡ false → (H.files host.now).free name.now)) }
 {
     match host.write(alloc, name, bytes, over) {
-        Ok(()) => spoken(alloc, done, told_written(alloc, name, bytes.len() as u64)),
-        Err(fault) => spoken(alloc, Outcome::Done, told_fault(alloc, name, fault, word)),
-    }
-}
-
-/// That a file was written.
-fn told_written(alloc: Global, name: &str, count: u64) -> Text {
-    let mut text = said(alloc, b"  wrote ");
-    add_given(&mut text, name.as_bytes());
-    text.add_counted(b", ", count, b" bytes\n");
-    text
-}
-
-/// Why a file was not read or written.
-pub(crate) fn told_fault(alloc: Global, name: &str, fault: FileFault, word: &str) -> Text {
-    let mut text = said(alloc, b"  ");
-    add_given(&mut text, name.as_bytes());
-    add_fault(&mut text, name, fault, word);
-    text
-}
-
-/// Adds what is the matter with a file.
-fn add_fault(text: &mut Text, name: &str, fault: FileFault, word: &str) {
-    match fault {
-        FileFault::Memory => text.add(b": there was no memory for it, and nothing changed\n"),
-        FileFault::Missing => text.add(b": there is no such file or folder\n"),
-        FileFault::Exists => {
-            text.add(b" is there already, and stays as it is; `");
-            text.add(word.as_bytes());
-            text.add(b"! ");
-            add_given(text, name.as_bytes());
-            text.add(b"` writes over it\n");
-        }
-        FileFault::PartExists => {
-            text.add(
-                b".part is in the way: a file is written there first, and then renamed; remove it\n",
-            );
-        }
-        FileFault::LinkPartExists => text.add(
-            b" is a link, and beside the file to which it leads lies one with `.part` behind the name; remove that\n",
-        ),
-        FileFault::NoFile => text.add(b" is no file: it is a folder or a device\n"),
-        FileFault::LeadsNowhere => text.add(
-            b" is a link that leads to no file; it stays as it is, and nothing was written\n",
-        ),
-        FileFault::AtHand => text.add(
-            b" is the description or the stimulus of this session, and is not written over\n",
-        ),
-        FileFault::Forbidden => text.add(b": you may not read or write it there\n"),
-        FileFault::Full => text.add(b": the disk is full, and nothing was written\n"),
-        FileFault::Other => text.add(b": the system refused it, and nothing changed\n"),
+        Ok(()) => spoken(alloc, done, written_text(alloc, name, bytes.len() as u64)),
+        Err(fault) => spoken(alloc, not_done, file_fault_text(alloc, name, fault, word)),
     }
 }

@@ -5,7 +5,7 @@ ghost use Rattle.shell_desk.specs.Does.{Does, NamesSession};
 ghost use Rattle.shell_desk.specs.declared.deed.Done.{Done as DoneAt};
 ghost use Rattle.shell_desk.specs.Tidied.{tidied};
 ghost use Rattle.shell.specs.Asking.{IsWordWith, ShellAsks, TextAsks};
-ghost use Rattle.shell.specs.Lines.{AnsweredAsNumber, AnsweredAsStep, AnsweredAsTidied, AnsweredAsTyped, LineLeaves, Leaves};
+ghost use Rattle.shell.specs.Lines.{AnsweredAsNumber, AnsweredAsStep, AnsweredAsTidied, AnsweredAsTyped, LineLeaves, Leaves, MayGoUnread};
 ghost use Rattle.shell.specs.internal.Parts.{Begun, Quits, RestsWith, TakesNumber, WordMeans, WordsAsk, is_want};
 ghost use Rattle.shell.specs.declared.answer.Outcome.TheVariants as outcomes;
 
@@ -28,6 +28,7 @@ impl Session {
             self.old.bench line.now result.outcome self.new.bench }
         ensures own { IfSome result.own (λ text.
             AnsweredAsTyped setting.now.texts.source.now self.old.bench line.now text.items self.new.bench) }
+        ensures unread { result.outcome ≡ outcomes.Unread → MayGoUnread self.old.bench.desk.machine.checked line.now }
     {
         line_laws();
         let checked = self.bench.desk().machine().checked();
@@ -178,7 +179,7 @@ impl Session {
     }
 
     /// Answers a word in words alone.
-    pub(crate) fn answer_question(&self, setting: &Setting<'_>, word: Word, rest: &[u8]) -> Answer
+    fn answer_question(&self, setting: &Setting<'_>, word: Word, rest: &[u8]) -> Answer
         ensures { result.outcome ≡ outcomes.Done }
     {
         let words = question_text(&self.scene(setting), word, rest);

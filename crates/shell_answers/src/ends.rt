@@ -18,9 +18,9 @@ pub fn run_text(scene: &Scene<'_>, end: End, taken: u64) -> Text {
         End::Idle => add_still(&mut text, scene, taken),
         End::AtBreak(line) => {
             add_taken(&mut text, taken, b"; ");
-            text.add_counted(b"the breakpoint on line ", line, b" ends the run. ");
+            text.add_counted(b"the breakpoint on line ", line, b" ends the run\n");
             text.add_counted(
-                b"`run` goes on from there, `clear ",
+                b"  `run` goes on from there, `clear ",
                 line,
                 b"` takes it off\n",
             );
@@ -211,7 +211,7 @@ pub fn unknown_text(scene: &Scene<'_>, deed: &Deed) -> Text {
             );
         }
         _ => text.add(
-            b"  no branch was stepped yet; `next 0` steps branch 0, and `ready` numbers what can be taken\n",
+            b"  no branch was stepped yet; `next 0` steps branch 0\n  `ready` numbers what can be taken\n",
         ),
     }
     text

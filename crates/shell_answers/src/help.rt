@@ -1,7 +1,8 @@
 // Help: all words on one screen, or one word with an example.
 use crate::Scene;
 use crate::mistakes::add_unknown_word;
-use crate::usage::usage_of;
+use crate::terms::term_of;
+use crate::usage::{Usage, usage_of};
 use plain_words::Text;
 
 /// All words.
@@ -12,9 +13,9 @@ const SCREEN: &[u8] = b"  ready, r       number the steps that can be taken; a b
   undo T         take back step T alone; roll T with all that depend on it
   rollvalue X    take back what wrote X last, with all that depend on it
   vars, value X  all variables, one variable
-  why X, why T   the steps that led to the value of X, to step T; with `all` all
+  why X, why T   what led to X, a variable or channel, to step T; with `all` all
   waiting        who waits for whom
-  live, show T   the steps so far, one step in words
+  live [N]       the steps so far, the newest N in words; show T tells one step
   blame X        the last step that wrote X
   consequences T the steps that depend on step T
   list [LINE]    the source around a line: > can go on, * breakpoint, ! choice
@@ -25,7 +26,7 @@ const SCREEN: &[u8] = b"  ready, r       number the steps that can be taken; a b
   step PLACE [ARM], branch K, trace   as in a script
   save NAME      the trace to a new file; load NAME takes the steps of a trace
   script NAME    the lines so far to a new file; save! and script! write over
-  help WORD      more of one word, with an example
+  help WORD      more of one word, with an example; of a notion, as ring, place
   quit           end; what was saved stays
 ";
 
@@ -35,16 +36,20 @@ pub(crate) fn add_help(text: &mut Text, scene: &Scene<'_>, rest: &[u8]) {
     if word.is_empty() {
         return text.add(SCREEN);
     }
-    match usage_of(word) {
-        Some(usage) => {
-            text.add(b"  ");
-            text.add(usage.form.as_bytes());
-            text.add(b"\n    ");
-            text.add(usage.does.as_bytes());
-            text.add(b"\n    example: ");
-            text.add(usage.example.as_bytes());
-            text.add(b"\n");
-        }
-        None => add_unknown_word(text, scene.alloc, word, b""),
+    match (usage_of(word), term_of(word)) {
+        (Some(usage), _) => add_word(text, &usage),
+        (None, Some(term)) => term.add_to(text),
+        (None, None) => add_unknown_word(text, scene.alloc, word, b""),
     }
+}
+
+/// Adds help on one word.
+fn add_word(text: &mut Text, usage: &Usage) {
+    text.add(b"  ");
+    text.add(usage.form.as_bytes());
+    text.add(b"\n    ");
+    text.add(usage.does.as_bytes());
+    text.add(b"\n    example: ");
+    text.add(usage.example.as_bytes());
+    text.add(b"\n");
 }

@@ -2,6 +2,7 @@
 use crate::Scene;
 use crate::names::{add_given, add_unknown_name};
 use crate::program_words::{add_program_word, program_word};
+use crate::steps::add_newest_of;
 use crate::usage::{USAGES, add_usage, usage_of};
 use findings::Nearest;
 use line_text::{cut_at_space, read_ticket};
@@ -22,9 +23,17 @@ pub fn mistake_text(scene: &Scene<'_>, line: &[u8]) -> Text {
     } else if names_variable(word) && is_one_field(rest) {
         add_unknown_name(&mut text, scene, rest.get(1..).unwrap_or(b""));
     } else {
-        add_usage(&mut text, word, rest);
+        add_other(&mut text, scene, word, rest);
     }
     text
+}
+
+/// Adds the newest steps, where so many are asked for, else how the word is written.
+fn add_other(text: &mut Text, scene: &Scene<'_>, word: &[u8], rest: &[u8]) {
+    match read_ticket(rest) {
+        Some(count) if word == b"live".as_slice() => add_newest_of(text, scene, count),
+        _ => add_usage(text, word, rest),
+    }
 }
 
 /// Whether the name of a variable stands behind the word.
@@ -60,7 +69,7 @@ fn add_number_alone(text: &mut Text, number: &[u8]) {
 /// Adds that a place is wanted, and that a number is typed alone.
 fn add_step_by_number(text: &mut Text, rest: &[u8]) {
     text.add(
-        b"  `step` takes a place, as `step /0.0/0`; the number of a step in `ready` is typed alone, as `",
+        b"  `step` takes a place, as `step /0.0/0`\n  the number of a step in `ready` is typed alone, as `",
     );
     text.add(rest.strip_prefix(b" ").unwrap_or(b""));
     text.add(b"`\n");
@@ -102,7 +111,7 @@ struct Usual {
 }
 
 /// What people type who know other debuggers.
-const USUALS: [Usual; 14] = [
+const USUALS: [Usual; 15] = [
     Usual {
         given: "exit",
         word: "quit",
@@ -158,6 +167,10 @@ const USUALS: [Usual; 14] = [
     Usual {
         given: "u",
         word: "undo",
+    },
+    Usual {
+        given: "redo",
+        word: "ready",
     },
 ];
 

@@ -15,7 +15,7 @@ const MOST_NAMES: usize = 12;
 const MOST_GIVEN: usize = 200;
 
 /// Adds what was typed, as a terminal may show it; what is too long is cut.
-pub fn add_given(text: &mut Text, given: &[u8]) {
+pub(crate) fn add_given(text: &mut Text, given: &[u8]) {
     let mut told: usize = 0;
     for character in given.chars() {
         if told >= MOST_GIVEN {
@@ -58,11 +58,13 @@ fn add_channel_asked(text: &mut Text, system: &System, channel: u32, given: &[u8
     add_given(text, given);
     text.add(b"` is ");
     text.add(kind_of(system, channel));
-    text.add(b", and no variable; `live` lists the steps");
-    if !is_sync(system, channel) {
-        text.add(b" with each value on it");
-    }
-    text.add(b", and `why T` tells what led to step T\n");
+    text.add(b", and no variable\n  `why ");
+    add_given(text, given);
+    text.add(if is_sync(system, channel) {
+        b"` tells the last step on it, `live` lists the steps\n"
+    } else {
+        b"` tells the last step on it with its value, `live` lists the steps\n"
+    });
 }
 
 /// Adds that nothing has this name, and which is meant.

@@ -1,4 +1,4 @@
-// What led to a step: a line for each step, with what it read and which of the others it follows.
+// What led to a step: a line for each step, with what it read and its direct causes among the others.
 use crate::Scene;
 use crate::steps::{add_numbers, add_step, joint, steps_word};
 use past::{Past, PastEvent};
@@ -25,7 +25,7 @@ pub(crate) fn add_past(text: &mut Text, scene: &Scene<'_>, past: &Past, subject:
             text.add(b"  ");
             add_step(text, scene, ticket);
             add_reads(text, scene, b", from ", event, written.as_slice());
-            add_follows(text, scene, told, one, event, written.as_slice());
+            add_causes(text, scene, one, event, written.as_slice());
             text.add(b"\n");
             next = next.saturating_add(1);
         }
@@ -127,18 +127,17 @@ fn add_read(text: &mut Text, scene: &Scene<'_>, variable: u32, written: &[Writte
     }
 }
 
-/// Adds the told steps that it follows, but for those that wrote what it read.
-fn add_follows(
+/// Adds its direct causes, but for those that wrote what it read.
+fn add_causes(
     text: &mut Text,
     scene: &Scene<'_>,
-    told: &[PastEvent],
     one: &PastEvent,
     event: &Event,
     written: &[Written],
 ) {
     let mut numbers = Vec::new(scene.alloc);
-    for ticket in one.follows.as_slice().iter().rev() {
-        if is_told(told, *ticket) && !is_source(event, written, *ticket) {
+    for ticket in one.causes.as_slice().iter().rev() {
+        if !is_source(event, written, *ticket) {
             let _ = numbers.push(*ticket);
         }
     }
@@ -148,11 +147,6 @@ fn add_follows(
         text.add(b" ");
         add_numbers(text, numbers.as_slice());
     }
-}
-
-/// Whether one of the told steps has the ticket.
-fn is_told(told: &[PastEvent], ticket: u64) -> bool {
-    told.binary_search_by_key(&ticket, |one| one.ticket).is_ok()
 }
 
 /// Whether the event read what the step of this ticket wrote.

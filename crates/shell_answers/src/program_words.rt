@@ -56,7 +56,7 @@ pub(crate) fn program_word(word: &[u8]) -> Option<ProgramWord> {
 pub(crate) fn add_program_word(text: &mut Text, found: &ProgramWord, rest: &[u8]) {
     text.add(b"  `");
     text.add(found.word.as_bytes());
-    text.add(b"` is a command of the program; outside of the shell type `balsadbg ");
+    text.add(b"` is a command of the program\n  outside of the shell type `balsadbg ");
     text.add(found.word.as_bytes());
     match read_ticket(rest) {
         Some(number) if found.operands == "N" => text.add_counted(b" ", number, b""),
@@ -64,7 +64,7 @@ pub(crate) fn add_program_word(text: &mut Text, found: &ProgramWord, rest: &[u8]
     }
     text.add(b"`");
     if found.operands == "FILE STIMULUS TRACE" {
-        text.add(b"; `save TRACE` writes the trace here");
+        text.add(b"\n  `save TRACE` writes the trace here");
     }
     text.add(b"\n");
 }

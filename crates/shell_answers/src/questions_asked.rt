@@ -1,8 +1,8 @@
 // What words that ask nothing of the desk are answered.
 use crate::Scene;
+use crate::channels_asked::add_why_name;
 use crate::ends::add_waiting;
 use crate::help::add_help;
-use crate::names::add_unknown_name;
 use crate::past_steps::add_past;
 use crate::show::add_shown;
 use crate::source_lines::add_lines;
@@ -83,13 +83,13 @@ fn add_reason_of(text: &mut Text, scene: &Scene<'_>, subject: &[u8], all: bool) 
         return add_usage(text, b"why", subject);
     };
     match reason_of(scene.alloc, scene.machine(), name, all) {
-        Ok(reason) => add_reason(text, scene, subject, &reason),
+        Ok(reason) => add_reason(text, scene, subject, &reason, all),
         Err(_) => text.add(b"  there was no memory to find it out\n"),
     }
 }
 
 /// Adds the reason.
-fn add_reason(text: &mut Text, scene: &Scene<'_>, subject: &[u8], reason: &Reason) {
+fn add_reason(text: &mut Text, scene: &Scene<'_>, subject: &[u8], reason: &Reason, all: bool) {
     match reason {
         Reason::Value(variable, past) => {
             add_valued(text, scene, *variable);
@@ -106,6 +106,6 @@ fn add_reason(text: &mut Text, scene: &Scene<'_>, subject: &[u8], reason: &Reaso
             text.add(subject);
             text.add(b"; `live` lists them\n");
         }
-        Reason::Unknown => add_unknown_name(text, scene, subject),
+        Reason::Unknown => add_why_name(text, scene, subject, all),
     }
 }

@@ -66,7 +66,7 @@ fn add_stopped(text: &mut Text, line: u64) {
     text.add_counted(
         b"  its next step is on line ",
         line,
-        b", which has a breakpoint; ",
+        b", which has a breakpoint\n  ",
     );
     text.add_counted(
         b"`clear ",

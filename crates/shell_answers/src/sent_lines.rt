@@ -20,10 +20,8 @@ pub(crate) fn add_sent_line(text: &mut Text, scene: &Scene<'_>, line: u64) {
 
 /// Adds that a run does not stop at a send to an output port.
 fn add_sent_out(text: &mut Text) {
-    text.add(
-        b"  a run stops at no send to an output port, since the environment takes that step; ",
-    );
-    text.add(b"where nothing else is on this line, break on what comes before\n");
+    text.add(b"  a run stops at no send to an output port: the environment takes that step\n");
+    text.add(b"  where nothing else is on this line, break on what comes before\n");
 }
 
 /// Whether the branch sends to an output port on this line.

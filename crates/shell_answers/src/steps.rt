@@ -58,8 +58,24 @@ pub(crate) fn add_newest(text: &mut Text, scene: &Scene<'_>, count: usize) {
     let first = count.saturating_sub(MOST_TOLD);
     if first > 0 {
         text.add_counted(b"  the newest ", MOST_TOLD as u64, b" in words; ");
-        text.add(b"`show T` tells any one\n");
+        text.add(b"`live N` tells N of them, `show T` any one\n");
     }
+    add_steps(text, scene, first, count);
+}
+
+/// Adds a line for each of so many of the newest live steps, or of all where there are fewer.
+pub(crate) fn add_newest_of(text: &mut Text, scene: &Scene<'_>, most: u64) {
+    let count = scene.machine().live_events().len();
+    let most = usize::try_from(most).unwrap_or(usize::MAX);
+    let first = count.saturating_sub(most);
+    if first >= count {
+        text.add(b"  no step is live, or none was asked for\n");
+    }
+    add_steps(text, scene, first, count);
+}
+
+/// Adds a line for each live step from one index up to another.
+fn add_steps(text: &mut Text, scene: &Scene<'_>, first: usize, count: usize) {
     for index in first..count {
         if let Some((ticket, _)) = scene.machine().live_at(index as u64) {
             text.add(b"  ");

@@ -33,7 +33,7 @@ pub(crate) const USAGES: [Usage; 33] = [
     Usage {
         word: "run",
         form: "run [N]",
-        does: "steps the branches in turn until a breakpoint, until nothing can go on, or N steps",
+        does: "steps the branches in turn: to a breakpoint, to the end, or N steps",
         example: "run 10",
     },
     Usage {
@@ -75,7 +75,7 @@ pub(crate) const USAGES: [Usage; 33] = [
     Usage {
         word: "rollvalue",
         form: "rollvalue X",
-        does: "takes back the last step that wrote the variable X, and all that depend on it",
+        does: "takes back what wrote the variable X last, and all that depends on it",
         example: "rollvalue x",
     },
     Usage {
@@ -93,7 +93,7 @@ pub(crate) const USAGES: [Usage; 33] = [
     Usage {
         word: "why",
         form: "why X [all], or why T [all]",
-        does: "tells which steps led to the value of the variable X, or to step T",
+        does: "tells what led to the value of X, to the last step on channel X, or to step T",
         example: "why x",
     },
     Usage {
@@ -110,9 +110,9 @@ pub(crate) const USAGES: [Usage; 33] = [
     },
     Usage {
         word: "live",
-        form: "live",
-        does: "lists the steps that were taken and not taken back",
-        example: "live",
+        form: "live [N]",
+        does: "lists the steps that were taken and not taken back; or the newest N in words",
+        example: "live 2",
     },
     Usage {
         word: "show",
@@ -135,7 +135,7 @@ pub(crate) const USAGES: [Usage; 33] = [
     Usage {
         word: "list",
         form: "list [LINE]",
-        does: "shows the source around a line; > can go on there, * has a breakpoint, ! would choose",
+        does: "shows the source around a line: > can go on, * breakpoint, ! choice",
         example: "list 7",
     },
     Usage {
@@ -159,13 +159,13 @@ pub(crate) const USAGES: [Usage; 33] = [
     Usage {
         word: "session",
         form: "session K",
-        does: "makes the lines that follow those of session K, 0 to 15, with breakpoints of its own",
+        does: "turns to session K, 0 to 15, which has breakpoints of its own",
         example: "session 1",
     },
     Usage {
         word: "save",
         form: "save NAME",
-        does: "writes the trace of the live steps to a new file; `save! NAME` writes over one",
+        does: "writes the trace of the live steps to a new file; `save!` writes over one",
         example: "save adder.trace",
     },
     Usage {
@@ -183,7 +183,7 @@ pub(crate) const USAGES: [Usage; 33] = [
     Usage {
         word: "script",
         form: "script NAME",
-        does: "writes the lines so far to a new file, as `balsadbg debug` reads it; `script! NAME` writes over one",
+        does: "writes the lines so far to a new file, for `balsadbg debug`; `script!` over one",
         example: "script adder.script",
     },
     Usage {
@@ -201,13 +201,13 @@ pub(crate) const USAGES: [Usage; 33] = [
     Usage {
         word: "help",
         form: "help [WORD]",
-        does: "lists the words, or tells of one",
+        does: "lists the words, or tells of one, or of a notion, as `ring` or `place`",
         example: "help undo",
     },
     Usage {
         word: "quit",
         form: "quit",
-        does: "ends; what was saved stays",
+        does: "ends, as Ctrl-D and Ctrl-C do; what was saved stays",
         example: "quit",
     },
 ];
@@ -222,8 +222,14 @@ pub(crate) fn usage_of(word: &[u8]) -> Option<Usage> {
     None
 }
 
-/// Adds why the line is none of this word with `rest` behind it, and how the word is written, where it is known.
+/// Adds why the line is none of this word with `rest` behind it, and how the word is written.
 pub(crate) fn add_usage(text: &mut Text, word: &[u8], rest: &[u8]) {
+    text.add(b"  ");
+    add_usage_words(text, word, rest);
+}
+
+/// The same without the blanks before it; nothing where the word is none.
+pub(crate) fn add_usage_words(text: &mut Text, word: &[u8], rest: &[u8]) {
     let Some(usage) = usage_of(word) else {
         return;
     };
@@ -236,11 +242,11 @@ pub(crate) fn add_usage(text: &mut Text, word: &[u8], rest: &[u8]) {
             text.add(usage.example.as_bytes());
         }
         None => {
-            text.add(b"  nothing stands behind `");
+            text.add(b"nothing stands behind `");
             text.add(word);
         }
     }
-    text.add(b"`; it ");
+    text.add(b"`\n  it ");
     text.add(usage.does.as_bytes());
     text.add(b"\n");
 }
@@ -248,12 +254,12 @@ pub(crate) fn add_usage(text: &mut Text, word: &[u8], rest: &[u8]) {
 /// Adds that the operand is missing, where nothing is given, or that what is given is none.
 fn add_misfit(text: &mut Text, usage: &Usage, operand: &str, rest: &[u8]) {
     if rest.is_empty() {
-        text.add(b"  `");
+        text.add(b"`");
         text.add(usage.word.as_bytes());
         text.add(b"` lacks ");
         text.add(operand.as_bytes());
     } else {
-        text.add(b"  that does not fit behind `");
+        text.add(b"that does not fit behind `");
         text.add(usage.word.as_bytes());
         text.add(b"`");
     }

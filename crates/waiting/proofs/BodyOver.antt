@@ -1,5 +1,5 @@
 -- Nothing of the body is left exactly where the first branch of the tree is finished.
-use Rattle.std.proofs.Common.{◌≡◌, ℕ, zero, suc, ◌+◌, ◌*◌, ◌<◌, List, [], ◌∷◌, map, Bool, true, false, cond, Option, Some, None, refl, sym, ◌∙◌, ap, subst, arith, rules}
+use Rattle.std.proofs.Common.{◌≡◌, ℕ, zero, suc, ◌+◌, ◌*◌, ◌<◌, List, [], map, Bool, true, false, cond, Option, Some, None, refl, sym, ◌∙◌, ap, subst, arith, rules}
 use Rattle.std.specs.Global.{Vec}
 use Rattle.system.specs.Expression.{Expression, Decision}
 use Rattle.system.specs.Residual.{Residual, done, beside, closing, within, along}

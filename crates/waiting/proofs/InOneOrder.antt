@@ -13,7 +13,7 @@ use Rattle.local_actions.specs.Actions.{NotBehind, opened_arm, Precedes}
 use Rattle.local_actions.specs.declared.action.ActionKind.{ActionKind}
 use Rattle.local_actions.specs.declared.action.ActionKind.TheVariants.{Assigns, Tests, Turns, Sends, Receives, Syncs, Opens, Releases, Closes}
 use Rattle.local_actions.specs.declared.action.LocalAction.{LocalAction}
-use Rattle.waiting.specs.Waits.{arm_of, ArmBefore, ArmsRise, EachOnce, OneList}
+use Rattle.waiting.specs.Waits.{arm_of, ArmBefore, ArmsRise, NoTwoAlike, OneList}
 
 -- ---- the order of arms
 arm-chain : (i j k : Option ℕ) → ArmBefore i j → ArmBefore j k → ArmBefore i k
@@ -67,7 +67,7 @@ pub all-rise : (xs : List LocalAction) → InOrder Precedes xs → InOrder ArmsR
 all-rise [] order = tt
 all-rise (x ∷ xs) order = (every-map (Precedes x) (ArmsRise x) xs (arms-rise x) order.0, all-rise xs order.1)
 
-pub arms-once : (xs : List LocalAction) → InOrder ArmsRise xs → EachOnce xs
+pub arms-once : (xs : List LocalAction) → InOrder ArmsRise xs → NoTwoAlike xs
 arms-once [] arms = tt
 arms-once (x ∷ xs) arms = (
   λ y i at arm.

@@ -3,4 +3,5 @@ mod Leftover
 mod InOneOrder
 mod RingOfState
 mod HelpsEach
+mod LackLaws
 mod HeldPlaces

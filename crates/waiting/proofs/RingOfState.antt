@@ -52,4 +52,4 @@ names-deadlocked m S actions marks l h = (
 pub names-ring : (m : AtMachine) (S : State) (actions : List LocalAction) (ring : List ℕ) → ListsWaiting S actions → TellsRing (helped_in m S) S.residual actions ring
     → NamesRing m S actions ring
 names-ring m S actions [] l h = λ ring r. h ring (rings (Waits S) (λ x. In x actions) (back S actions l) (helped_in m S) S.residual ring r)
-names-ring m S actions (i ∷ rest) l h = (h.0, h.1, rings (λ x. In x actions) (Waits S) l.exactly (helped_in m S) S.residual h.0 h.2, h.3)
+names-ring m S actions (i ∷ rest) l h = (h.0, h.1, rings (λ x. In x actions) (Waits S) l.exactly (helped_in m S) S.residual h.0 h.2, h.3, h.4)

@@ -1,6 +1,5 @@
--- Whether more in the stimulus is all that a run lacks. (Own. A loop that reads its input for ever waits for more of it
--- in the end: no fault of the circuit, as a deadlock is.)
-use Rattle.std.specs.Prelude.{◌==◌, ◌||◌, ◌&&◌, ℕ, ◌+◌, List, [], ◌∷◌, Bool, true, false, not, Option, None, Some, cond, is_some, slice_get}
+-- What the environment gives, and who waits for more of it.
+use Rattle.std.specs.Prelude.{◌==◌, ◌||◌, ◌&&◌, ℕ, List, [], ◌∷◌, Bool, false, Option, None, Some, cond, is_some}
 use Rattle.system.specs.declared.system.Branch as outside
 use Rattle.system.specs.declared.system.Branch.TheVariants.{Feed, Drain, Syncs}
 use Rattle.system.specs.declared.system.System.{System}
@@ -15,10 +14,7 @@ use Rattle.local_actions.specs.declared.action.ActionKind.TheVariants as action
 use Rattle.rings.specs.Partners.{partner_in}
 use Rattle.rings.specs.declared.partner.Partner.{Partner}
 use Rattle.rings.specs.declared.partner.Partner.TheVariants as partner
-use Rattle.waiting.specs.Progress.{is_idle, is_in_body, is_outlet}
-use Rattle.waiting.specs.declared.progress.Progress.{Progress}
-use Rattle.waiting.specs.declared.progress.Progress.TheVariants.{GoesOn, Done, Stuck}
-use Rattle.waiting.specs.declared.waiting.Waiting.{Waiting}
+use Rattle.waiting.specs.Progress.{is_in_body, is_outlet}
 
 -- the line of the source at a place
 abbrev pub line_at : AtMachine → Place → Option ℕ
@@ -55,59 +51,11 @@ is_starved m x (Some (partner.Behind a)) = false
 is_starved m x (Some partner.Open) = false
 is_starved m x None = false
 
--- an action that none of the others has to go on for, with this partner: an output port's, or one that waits for more
--- input
+-- an action, with this partner, for which none of the others has to go on: another hand helps, the user's, who gives
+-- more input, or that of the environment at an output port, which takes whatever comes
 abbrev pub is_helped : AtMachine → LocalAction → Option Partner → Bool
 is_helped m x p = is_outlet x.action || is_starved m x p
 
 -- the same of an action that waits in S
 abbrev pub helped_in : AtMachine → State → LocalAction → Bool
 helped_in m S x = is_helped m x (Some (partner_in S.residual x))
-
--- its partner may be there already, or come from more than one branch
-abbrev pub is_open : Option Partner → Bool
-is_open (Some (partner.Behind a)) = false
-is_open (Some partner.Gone) = false
-is_open (Some partner.Open) = true
-is_open None = false
-
--- an action of an output port, or one of which it is known where its partner stands
-abbrev pub is_settled : LocalAction → Option Partner → Bool
-is_settled x p = is_outlet x.action || not (is_open p)
-
--- one of these actions, of which the first has the partner of number n, waits for more input
-abbrev pub any_starved : AtMachine → List Partner → ℕ → List LocalAction → Bool
-any_starved m partners n [] = false
-any_starved m partners n (x ∷ xs) = is_starved m x (slice_get partners n) || any_starved m partners (n + 1) xs
-
--- of each of them it is known where its partner stands
-abbrev pub all_settled : List Partner → ℕ → List LocalAction → Bool
-all_settled partners n [] = true
-all_settled partners n (x ∷ xs) = is_settled x (slice_get partners n) && all_settled partners (n + 1) xs
-
-abbrev pub is_stuck : Progress → Bool
-is_stuck GoesOn = false
-is_stuck Done = false
-is_stuck Stuck = true
-
--- whether there is a mark, and it is set
-abbrev pub is_set : Option Bool → Bool
-is_set (Some b) = b
-is_set None = false
-
--- none of these actions, of which the first has the mark of number n, stands in the body or is held by it, and is
--- deadlocked
-abbrev pub none_deadlocked : List Bool → ℕ → List LocalAction → Bool
-none_deadlocked marks n [] = true
-none_deadlocked marks n (x ∷ xs) =
-    not (not (is_idle x) && is_set (slice_get marks n)) && none_deadlocked marks (n + 1) xs
-
--- Nothing can go on, and nothing in the body is deadlocked, so that each that waits there waits for the environment in
--- the end, by whichever of its arms, and one action does so itself. (What the environment has left over, and nobody
--- takes, waits for ever, and keeps nobody.)
-abbrev pub lacks_input : AtMachine → Waiting → Bool
-lacks_input m w =
-    is_stuck w.progress
-    && none_deadlocked w.deadlocked.items 0 w.actions
-    && any_starved m w.partners.items 0 w.actions
-    && all_settled w.partners.items 0 w.actions

@@ -1,4 +1,5 @@
 pub mod Input
+pub mod Lacking
 pub mod Progress
 pub mod Rings
 pub mod Told

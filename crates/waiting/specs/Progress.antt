@@ -7,7 +7,6 @@ use Rattle.system.specs.Residual.{Residual, done, beside}
 use Rattle.runs.specs.Moves.{Place}
 use Rattle.runs.specs.Steps.{State, Allowed}
 use Rattle.runs.specs.declared.event.Event.{Event}
-use Rattle.local_actions.specs.Actions.{Offered}
 use Rattle.local_actions.specs.declared.action.LocalAction.{LocalAction}
 use Rattle.local_actions.specs.declared.action.ActionKind.{ActionKind}
 use Rattle.local_actions.specs.declared.action.ActionKind.TheVariants.{Receives, Releases}

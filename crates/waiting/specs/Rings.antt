@@ -5,7 +5,7 @@ use Rattle.runs.specs.Steps.{State}
 use Rattle.machine.specs.AtMachine.{AtMachine}
 use Rattle.local_actions.specs.declared.action.LocalAction.{LocalAction}
 use Rattle.rings.specs.Partners.{partner_in}
-use Rattle.rings.specs.Rings.{EachOnce, IsDeadlocked, IsRing, places_at}
+use Rattle.rings.specs.Rings.{EachOnce, InTurn, IsDeadlocked, IsRing, places_at}
 use Rattle.rings.specs.declared.partner.Partner.{Partner}
 use Rattle.waiting.specs.Input.{helped_in}
 use Rattle.waiting.specs.Waits.{Waits}
@@ -30,9 +30,10 @@ NamesDeadlocked m S actions marks =
 abbrev pub IsRingIn : AtMachine → State → List Place → Type 0
 IsRingIn m S ring = IsRing (Waits S) (helped_in m S) S.residual ring
 
--- the indexes are those of actions whose places are a ring, each once; or there is no ring, and none is told
+-- the indexes are those of actions whose places are a ring, each once, and of which each itself waits for the next, of
+-- a choice the arm that is told; or there is no ring, and none is told
 abbrev pub NamesRing : AtMachine → State → List LocalAction → List ℕ → Type 0
 NamesRing m S actions [] = (ring : List Place) → IsRingIn m S ring → ⊥
 NamesRing m S actions (i ∷ rest) =
     (ring : List Place) × (places_at actions (i ∷ rest) ≡ map (λ (a : Place). Some a) ring)
-    × IsRingIn m S ring × EachOnce ring
+    × IsRingIn m S ring × EachOnce ring × InTurn S.residual actions i i rest

@@ -16,7 +16,8 @@ use Rattle.local_actions.specs.declared.action.ActionKind.{ActionKind}
 use Rattle.local_actions.specs.declared.action.ActionKind.TheVariants as action
 use Rattle.rings.specs.declared.partner.Partner.{Partner}
 use Rattle.rings.specs.declared.partner.Partner.TheVariants as partner
-use Rattle.waiting.specs.Input.{fed_channel, lacks_input, line_at}
+use Rattle.waiting.specs.Input.{fed_channel, line_at}
+use Rattle.waiting.specs.internal.LackTests.{lacks_input}
 use Rattle.waiting.specs.declared.progress.Progress.{Progress}
 use Rattle.waiting.specs.declared.progress.Progress.TheVariants.{GoesOn, Done, Stuck}
 use Rattle.waiting.specs.declared.waiting.Waiting.{Waiting}

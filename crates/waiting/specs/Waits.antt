@@ -20,11 +20,11 @@ abbrev pub arm_of : ActionKind → Option ℕ
 arm_of (Opens c k) = Some k
 arm_of _ = None
 
--- no two stand at one place, but for arms of one choice
-abbrev pub EachOnce : List LocalAction → Type 0
-EachOnce [] = Unit {0}
-EachOnce (x ∷ xs) =
-    ((y : LocalAction) → In y xs → y.place ≡ x.place → arm_of y.action ≡ arm_of x.action → ⊥) × EachOnce xs
+-- no two stand at one place, but for different arms of one choice
+abbrev pub NoTwoAlike : List LocalAction → Type 0
+NoTwoAlike [] = Unit {0}
+NoTwoAlike (x ∷ xs) =
+    ((y : LocalAction) → In y xs → y.place ≡ x.place → arm_of y.action ≡ arm_of x.action → ⊥) × NoTwoAlike xs
 
 -- the one comes before the other; what opens no arm before all arms
 abbrev pub ArmBefore : Option ℕ → Option ℕ → Type 0
@@ -42,7 +42,7 @@ pub record ListsWaiting (S : State) (actions : List LocalAction) : Type 0 where
   pub exactly : (x : LocalAction) → In x actions ↔ Waits S x
   pub in_order : InOrder NotBehind actions
   pub arms : InOrder ArmsRise actions
-  pub once : EachOnce actions
+  pub once : NoTwoAlike actions
 
 -- there is one such list
 abbrev pub OneList : Type 0

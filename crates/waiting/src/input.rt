@@ -1,8 +1,12 @@
 // Whether more in the stimulus is all that a run lacks.
-ghost use Rattle.std.specs.Prelude.{◌≡◌, IfOk, slice_get};
+ghost use Rattle.std.specs.Prelude.{◌≡◌, ◌↔◌, IfOk, IsTrue, slice_get};
 ghost use Rattle.std.specs.Option.{option_copied};
+ghost use Rattle.runs.specs.Steps.{State};
 ghost use Rattle.waiting.specs.Input as model;
+ghost use Rattle.waiting.specs.Lacking.{LacksInput};
+ghost use Rattle.waiting.specs.Told.{IsTold};
 ghost use Rattle.waiting.specs.internal.Helps.{helps};
+ghost use Rattle.waiting.specs.internal.LackTests as tests;
 
 use crate::progress::{Progress, is_idle, is_in_body, is_outlet};
 use crate::text::partner_at;
@@ -19,15 +23,23 @@ impl Waiting {
     /// the environment has no more of. What the environment has left over, and nobody takes, counts for nothing. Where
     /// it is not known from where a partner comes, the answer is no. The machine is the one that was asked.
     pub fn lacks_input(&self, machine: &Machine) -> bool
-        ensures { result ≡ model.lacks_input machine.now self.now }
+        ensures result { result ≡ tests.lacks_input machine.now self.now }
+        ensures meant { (S : State) → IsTold machine.now S self.now → IsTrue result ↔ LacksInput machine.now S }
     {
-        let actions = self.actions.as_slice();
-        let partners = self.partners.as_slice();
-        is_stuck(self.progress)
-            && none_deadlocked(actions, self.deadlocked.as_slice())
-            && any_starved(machine, actions, partners)
-            && all_settled(actions, partners)
+        passes_tests(self, machine)
     }
+}
+
+/// Whether input is all that lacks, test by test.
+fn passes_tests(waiting: &Waiting, machine: &Machine) -> bool
+    ensures { result ≡ tests.lacks_input machine.now waiting.now }
+{
+    let actions = waiting.actions.as_slice();
+    let partners = waiting.partners.as_slice();
+    is_stuck(waiting.progress)
+        && none_deadlocked(actions, waiting.deadlocked.as_slice())
+        && any_starved(machine, actions, partners)
+        && all_settled(actions, partners)
 }
 
 /// For each of the actions whether it is helped from elsewhere, so that none of the others has to go on for it. It is
@@ -49,7 +61,7 @@ pub(crate) fn helped_among(
 
 /// Whether it is stuck.
 fn is_stuck(progress: Progress) -> bool
-    ensures { result ≡ model.is_stuck progress }
+    ensures { result ≡ tests.is_stuck progress }
 {
     match progress {
         Progress::Stuck => true,
@@ -59,7 +71,7 @@ fn is_stuck(progress: Progress) -> bool
 
 /// Whether one of the actions waits for more input.
 fn any_starved(machine: &Machine, actions: &[LocalAction], partners: &[Partner]) -> bool
-    ensures { result ≡ model.any_starved machine.now partners.now 0 actions.now }
+    ensures { result ≡ tests.any_starved machine.now partners.now 0 actions.now }
 {
     for (index, action) in actions.iter().enumerate() {
         if is_starved(machine, action, partner_at(partners, index)) {
@@ -71,7 +83,7 @@ fn any_starved(machine: &Machine, actions: &[LocalAction], partners: &[Partner])
 
 /// Whether of each of the actions it is known where its partner stands.
 fn all_settled(actions: &[LocalAction], partners: &[Partner]) -> bool
-    ensures { result ≡ model.all_settled partners.now 0 actions.now }
+    ensures { result ≡ tests.all_settled partners.now 0 actions.now }
 {
     for (index, action) in actions.iter().enumerate() {
         if !is_settled(action, partner_at(partners, index)) {
@@ -83,7 +95,7 @@ fn all_settled(actions: &[LocalAction], partners: &[Partner]) -> bool
 
 /// Whether none of the actions, which have these marks, stands in the body or is held by it, and is deadlocked.
 fn none_deadlocked(actions: &[LocalAction], marks: &[bool]) -> bool
-    ensures { result ≡ model.none_deadlocked marks.now 0 actions.now }
+    ensures { result ≡ tests.none_deadlocked marks.now 0 actions.now }
 {
     for (index, action) in actions.iter().enumerate() {
         if !is_idle(action) && is_set(marks, index) {
@@ -95,7 +107,7 @@ fn none_deadlocked(actions: &[LocalAction], marks: &[bool]) -> bool
 
 /// Whether the mark of this index is there, and set.
 fn is_set(marks: &[bool], index: usize) -> bool
-    ensures { result ≡ model.is_set (slice_get marks.now index) }
+    ensures { result ≡ tests.is_set (slice_get marks.now index) }
 {
     match marks.get(index) {
         Some(mark) => *mark,
@@ -112,14 +124,14 @@ fn is_helped(machine: &Machine, offered: &LocalAction, partner: Option<&Partner>
 
 /// Whether the action is an output port's, or it is known where its partner stands.
 fn is_settled(offered: &LocalAction, partner: Option<&Partner>) -> bool
-    ensures { result ≡ model.is_settled offered.now (option_copied partner.entry) }
+    ensures { result ≡ tests.is_settled offered.now (option_copied partner.entry) }
 {
     is_outlet(&offered.action) || !is_open(partner)
 }
 
 /// Whether it may be there already, or come from more than one branch.
 fn is_open(partner: Option<&Partner>) -> bool
-    ensures { result ≡ model.is_open (option_copied partner.entry) }
+    ensures { result ≡ tests.is_open (option_copied partner.entry) }
 {
     match partner {
         Some(Partner::Open) => true,

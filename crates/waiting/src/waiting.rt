@@ -1,9 +1,5 @@
 // The answer.
 ghost use Rattle.std.specs.Prelude.{◌≡◌, IfOk, Some, length, map};
-ghost use Rattle.runs.specs.Object.{Reaches};
-ghost use Rattle.runs.specs.Ready.{ReadyList};
-ghost use Rattle.runs.specs.Steps.{State};
-ghost use Rattle.machine.specs.AtMachine.{object};
 ghost use Rattle.system.specs.Residual.{Residual};
 ghost use Rattle.rings.specs.Partners.{partner_in};
 ghost use Rattle.rings.specs.Rings.{TellsDeadlocked};
@@ -14,6 +10,7 @@ use crate::actions::left_over;
 use crate::input::helped_among;
 use crate::places::Places;
 use crate::progress::{Progress, progress_of};
+use allowed_events::events_among;
 use local_actions::{LocalAction, actions_of};
 use machine::Machine;
 use rings::{Partner, deadlocked_among, partners_of, ring_among};
@@ -41,15 +38,15 @@ pub struct Waiting {
 
 /// Exactly the actions that the state of the machine offers and whose place no allowed event has, each once, in order
 /// of place, the allowed events, how the run stands, what each of the actions waits for, which are deadlocked, and a
-/// ring exactly where there is one. It takes two walks of the tree, however many events are live. It is an error if
-/// there is no memory.
+/// ring exactly where there is one. It walks once over what the tree offers, from which it tells the allowed events too,
+/// and once over what is still to come, where partners stand that are not offered yet. It is an error if there is no
+/// memory.
 pub fn who_waits(alloc: Global, machine: &Machine) -> Result<Waiting, AllocError>
     ensures { IfOk result (λ told. TellsWaits machine.now told) }
 {
-    machine.is_sound();
     let (tree, store) = machine.state();
     let actions = actions_of(alloc, tree, store)?;
-    let ready = ready_events(machine)?;
+    let ready = events_among(alloc, actions.as_slice())?;
     let progress = progress_of(tree, ready.as_slice());
     let places = Places::of(alloc, ready.as_slice())?;
     let actions = left_over(actions, &places);
@@ -85,15 +82,4 @@ fn deadlocked_of(
 {
     let helped = helped_among(alloc, machine, actions, partners)?;
     deadlocked_among(alloc, actions, partners, helped.as_slice())
-}
-
-/// The events that may be taken now, in order. It is an error if there is no memory.
-fn ready_events(machine: &Machine) -> Result<Items<Event>, AllocError>
-    ensures { IfOk result (λ events. (T : State) × Reaches (object machine.now) T × ReadyList T events) }
-{
-    match machine.ready() {
-        Ok(events) => Ok(events),
-        // No other refusal is told.
-        Err(_) => Err(AllocError),
-    }
 }

@@ -49,7 +49,7 @@ const LINES: [(&[u8], &[u8], &[u8]); 29] = [
     (
         b"undo 1\n",
         b"refused 24 2\n",
-        b"  step 1 stays: step 2 (sent 5 to o, line 1) depends on it. `roll 1` takes back 2 steps: 1 and 2\n",
+        b"  step 1 stays: step 2 (sent 5 to o, line 1) depends on it\n  `roll 1` takes back 2 steps: 1 and 2\n",
     ),
     (
         b"show 1\n",
@@ -75,34 +75,34 @@ const LINES: [(&[u8], &[u8], &[u8]); 29] = [
     (
         b"break x\n",
         b"",
-        b"  that does not fit behind `break`: write `break LINE`, as `break 7`; it sets a breakpoint on a line\n",
+        b"  that does not fit behind `break`: write `break LINE`, as `break 7`\n  it sets a breakpoint on a line\n",
     ),
     (
         b"save old\n",
         b"",
-        b"  old is there already, and stays as it is; `save! old` writes over it\n",
+        b"  not saved: old is there already, and stays as it is; `save! old` writes over it\n",
     ),
     (b"save! old\n", b"", b"  wrote old, 41 bytes\n"),
     (
         b"save full\n",
         b"",
-        b"  full: the disk is full, and nothing was written\n",
+        b"  not saved: full: the disk is full, and nothing was written\n",
     ),
     (
         b"save closed\n",
         b"",
-        b"  closed: you may not read or write it there\n",
+        b"  not saved: closed: you may not read or write it there\n",
     ),
     (b"script new\n", b"", b"  wrote new, 40 bytes\n"),
     (
         b"load folder\n",
         b"",
-        b"  folder is no file: it is a folder or a device\n",
+        b"  not loaded: folder is no file: it is a folder or a device\n",
     ),
     (
         b"load other\n",
         b"",
-        b"  other: refused 31; its first line is not `balsadbg trace 2`, or ends as on Windows. The steps stay as they are\n",
+        b"  not loaded: other: refused 31\n  its first line is not `balsadbg trace 2`, or ends as on Windows\n  the steps stay as they are\n",
     ),
     (
         b"undo\n",
@@ -122,7 +122,7 @@ const LINES: [(&[u8], &[u8], &[u8]); 29] = [
     (
         b"break 1\n",
         b"ok\n",
-        b"  a run stops at no send to an output port, since the environment takes that step; where nothing else is on this line, break on what comes before\n",
+        b"  a run stops at no send to an output port: the environment takes that step\n  where nothing else is on this line, break on what comes before\n",
     ),
     (b"load one\n", b"", b"  loaded 1 step\n"),
     (
@@ -138,7 +138,7 @@ const LINES: [(&[u8], &[u8], &[u8]); 29] = [
     (
         b"branch 0\n",
         b"stopped 1\n",
-        b"  its next step is on line 1, which has a breakpoint; `clear 1` takes it off, `ready` and a number take the step\n",
+        b"  its next step is on line 1, which has a breakpoint\n  `clear 1` takes it off, `ready` and a number take the step\n",
     ),
     (b"quit\n", b"", b""),
 ];

@@ -1,26 +1,35 @@
--- What an answer that is to be written says.
-use Rattle.std.specs.Prelude.{◌≡◌, ℕ, List, Result, MatchResult}
+-- What a run has on its way to the answer to a request.
+use Rattle.std.specs.Prelude.{◌≡◌, ◌⊎◌, ℕ, List, [], Some, Err}
+use Rattle.system.specs.declared.system.System.{System}
+use Rattle.runs.specs.declared.command.Refusal.TheVariants.{NoSuchEvent}
+use Rattle.debug_session.specs.Accepting.{AcceptedAs}
 use Rattle.debug_session.specs.declared.fault.Fault.{Fault}
 use Rattle.debug_session.specs.declared.fault.Fault.TheVariants.{Refused}
-use Rattle.runs.specs.declared.command.Refusal.TheVariants.{NoSuchEvent}
 use Rattle.questions.specs.declared.why.Why.{Why}
 use Rattle.picture.specs.declared.Pictured.{Pictured}
-use Rattle.command_line.specs.Answering.{accepted_line}
-use Rattle.command_line.specs.Working.{work_text}
-use Rattle.command_line.specs.declared.answer.Answer.{Answer}
+use Rattle.command_line.specs.Answering.{Holding, FilesGive, FilesRefuse, NotHad}
+use Rattle.command_line.specs.Used.{Outcome, Used, IsUntouched, Tells}
 
--- the text of an answer
-abbrev pub answer_text : Answer → List ℕ
-answer_text Answer.Accepted = accepted_line
-answer_text (Answer.Lines lines) = lines.items
-answer_text (Answer.Worked done) = work_text done.stepped done.live
+-- the file of this name holds a source that describes this system without a stimulus
+abbrev pub SourceGives : Holding → List ℕ → List ℕ → System → Type 0
+SourceGives holds file source system = holds file (Some source) × AcceptedAs source [] system
 
--- the answer to the question why, and its refusal, are made of this
-abbrev pub AnswersWhyOf : Why → Result Answer Fault → Type 0
-AnswersWhyOf (Why.Told lines) made = MatchResult made (λ _. Unit {0}) (λ _. ⊥)
-AnswersWhyOf (Why.Refused reason words) made = MatchResult made (λ _. ⊥) (λ fault. fault ≡ Refused reason)
+-- the files describe this system, and the trace has this text
+abbrev pub RunHad : Holding → List ℕ → List ℕ → List ℕ → System → List ℕ → Type 0
+RunHad holds file stimulus trace system text = FilesGive holds file stimulus system × holds trace (Some text)
 
--- a picture, and the refusal of one, are made of this
-abbrev pub AnswersPictureOf : Pictured → Result Answer Fault → Type 0
-AnswersPictureOf (Pictured.Text text) made = MatchResult made (λ _. Unit {0}) (λ _. ⊥)
-AnswersPictureOf (Pictured.NoSuchStep words) made = MatchResult made (λ _. ⊥) (λ fault. fault ≡ Refused NoSuchEvent)
+-- they describe none, or else the trace was not had
+abbrev pub RunNotHad : Holding → List ℕ → List ℕ → List ℕ → Fault → Type 0
+RunNotHad holds file stimulus trace fault =
+    FilesRefuse holds file stimulus fault
+    ⊎ ((system : System) × FilesGive holds file stimulus system × NotHad (holds trace) fault)
+
+-- the answer to the question why is told, or ends the run
+abbrev pub TellsWhy : {O : Type 0} → Why → Used O → Outcome → Type 0
+TellsWhy (Why.Told lines) out done = Tells lines.items out done
+TellsWhy (Why.Refused reason words) out done = (done ≡ Err (Refused reason)) × IsUntouched out
+
+-- a picture is told, or ends the run where it cannot be drawn
+abbrev pub TellsPicture : {O : Type 0} → Pictured → Used O → Outcome → Type 0
+TellsPicture (Pictured.Text text) out done = Tells text.items out done
+TellsPicture (Pictured.NoSuchStep words) out done = (done ≡ Err (Refused NoSuchEvent)) × IsUntouched out

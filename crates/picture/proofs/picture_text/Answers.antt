@@ -1,8 +1,15 @@
-use Rattle.std.proofs.Common.{ℕ, List, Result}
-use Rattle.picture.proofs.Refusing.{pictured}
+use Rattle.trace_file.specs.declared.fault.Fault.TheVariants.{Memory}
+use Rattle.picture.proofs.Drawn.{refused}
 use Rattle.picture.proofs.picture_text.Goals as goal
+
+pub returns-in_err-machine : goal.returns-in_err-machine
+returns-in_err-machine c =
+    refused c.from_residual.result c.in_err-machine.field-0.0 _ _ c.in_err-machine.ensures c.from_residual.ensures.1
+
+pub returns-in_err-drawn : goal.returns-in_err-drawn
+returns-in_err-drawn c =
+    refused c.from_residual-in_err-drawn.result Memory _ _ tt c.from_residual-in_err-drawn.ensures.1
 
 pub returns : goal.returns
 returns c =
-    pictured c.args.checked c.args.trace.now c.args.source.now c.args.names c.args.drawing c.run_picture.result
-    c.run_picture.ensures
+    (c.in_ok-machine.machine, c.in_ok-machine.ensures, c.in_ok-drawn.ensures)

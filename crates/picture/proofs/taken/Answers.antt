@@ -1,4 +1,4 @@
-use Rattle.picture.proofs.Refusing.{shows-run}
+use Rattle.picture.proofs.Drawn.{shows-run}
 use Rattle.picture.proofs.taken.Goals as goal
 
 pub returns-in-Ok : goal.returns-in-Ok

@@ -1,7 +1,7 @@
 -- How deadlocked places are found by the indexes of actions: all are marked, and a mark is taken away where nothing
 -- that is marked holds an action back. No reader has to believe it: the contract of `deadlocked_among` ties it to
 -- `TellsDeadlocked`.
-use Rattle.std.specs.Prelude.{◌≡◌, ◌⊎◌, ℕ, ◌+◌, ◌<◌, List, [], ◌∷◌, length, Bool, true, false, ◌&&◌, Option, Some, None, slice_get, slice_index}
+use Rattle.std.specs.Prelude.{◌≡◌, ◌⊎◌, ℕ, ◌<◌, ◌==◌, List, length, Bool, true, false, ◌&&◌, ◌||◌, Option, Some, None, slice_get, slice_index}
 use Rattle.runs.specs.Moves.{Place}
 use Rattle.local_actions.specs.internal.At.{is_under}
 use Rattle.local_actions.specs.declared.action.LocalAction.{LocalAction}
@@ -34,16 +34,18 @@ Released actions marks (partner.Behind p) = (j : ℕ) → supports actions marks
 Released actions marks partner.Gone = ⊥
 Released actions marks partner.Open = Unit {0}
 
--- none of the actions before index n does
-abbrev pub NoneBefore : List LocalAction → List Bool → ℕ → Partner → Type 0
-NoneBefore actions marks n (partner.Behind p) = (j : ℕ) → j < n → supports actions marks p j ≡ false
-NoneBefore actions marks n partner.Gone = Unit {0}
-NoneBefore actions marks n partner.Open = Unit {0}
+-- whether nothing holds a partner back, of one that may be there and waits for so many
+abbrev pub is_free : Option Partner → ℕ → Bool
+is_free (Some (partner.Behind p)) n = n == 0
+is_free (Some partner.Open) n = true
+is_free (Some partner.Gone) n = false
+is_free None n = false
 
--- for each action up to where none does: it has not to be looked at again
-abbrev pub Passed : List LocalAction → List Partner → List Bool → List ℕ → Type 0
-Passed actions partners marks passed =
-    (i : ℕ) (p : Partner) → slice_get partners i ≡ Some p → NoneBefore actions marks (slice_index passed i) p
+-- whether action i is marked, and is helped or not held back
+abbrev pub is_loose : List Partner → List Bool → List Bool → List ℕ → ℕ → Bool
+is_loose partners helped marks counts i =
+    is_marked (slice_get marks i)
+    && (is_marked (slice_get helped i) || is_free (slice_get partners i) (slice_index counts i))
 
 -- action i is not helped and held back
 abbrev pub Firm : List LocalAction → List Partner → List Bool → List Bool → ℕ → Type 0
@@ -65,9 +67,3 @@ AllFirm actions partners helped marks =
 abbrev pub IsLoose : List LocalAction → List Partner → List Bool → List Bool → ℕ → Type 0
 IsLoose actions partners helped marks i =
     (i < length actions) × (is_marked (slice_get marks i) ≡ true) × Loose actions partners helped marks i
-
--- how many are marked
-abbrev pub count_marked : List Bool → ℕ
-count_marked [] = 0
-count_marked (true ∷ bs) = count_marked bs + 1
-count_marked (false ∷ bs) = count_marked bs

@@ -1,15 +1,17 @@
 -- What holds of the marks while they are taken away.
 -- No reader has to believe it: the contract of `deadlocked_among` ties it to `TellsDeadlocked`.
-use Rattle.std.specs.Prelude.{◌≡◌, ℕ, List, length, map, Bool, true, Some, slice_get}
+use Rattle.std.specs.Prelude.{◌≡◌, ◌⊎◌, ℕ, List, length, map, Bool, true, false, Some, slice_get, slice_index}
 use Rattle.syntax.specs.Lists.{In}
 use Rattle.system.specs.Residual.{Residual}
 use Rattle.runs.specs.Moves.{Place}
+use Rattle.last_events.specs.declared.uses.UseTable.{UseTable}
 use Rattle.local_actions.specs.declared.action.LocalAction.{LocalAction}
 use Rattle.rings.specs.Partners.{partner_in}
 use Rattle.rings.specs.Rings.{Helped, HoldEachOther}
 use Rattle.rings.specs.declared.partner.Partner.{Partner}
-use Rattle.rings.specs.internal.Loosened.{is_marked, Passed}
+use Rattle.rings.specs.internal.Loosened.{AllFirm, is_free, is_marked}
 use Rattle.rings.specs.internal.Search.{same_at}
+use Rattle.rings.specs.internal.Tally.{Counted}
 
 -- places that hold each other back keep their marks
 abbrev pub Keeps : List LocalAction → List Partner → List Bool → List Bool → Type 0
@@ -18,10 +20,23 @@ Keeps xs ps hs marks =
     → HoldEachOther (λ x. In x xs) help r places
     → (i : ℕ) (x : LocalAction) → slice_get xs i ≡ Some x → In x.place places → is_marked (slice_get marks i) ≡ true
 
-pub record Loosening (xs : List LocalAction) (ps : List Partner) (hs marks : List Bool) (passed : List ℕ) : Type 0 where
+-- action i is not helped, and held back by one for which it waits, or by none that it could wait for
+abbrev pub Sturdy : List Partner → List Bool → List ℕ → ℕ → Type 0
+Sturdy ps hs counts i = (is_marked (slice_get hs i) ≡ false) × (is_free (slice_get ps i) (slice_index counts i) ≡ false)
+
+pub record Loosening (xs : List LocalAction) (ps : List Partner) (hs marks : List Bool) (edges : UseTable)
+    (counts todo : List ℕ) : Type 0 where
   pub size : length marks ≡ length xs
-  pub steps : length passed ≡ length xs
-  pub so_far : Passed xs ps marks passed
+  pub sizes : length counts ≡ length xs
   -- those at one place are marked together
   pub alike : (i j : ℕ) → same_at xs i j ≡ true → is_marked (slice_get marks i) ≡ is_marked (slice_get marks j)
   pub keeps : Keeps xs ps hs marks
+  pub counted : Counted edges (length xs) marks counts
+  -- what is marked is sturdy, or is looked at later
+  pub pending : (i : ℕ) → is_marked (slice_get marks i) ≡ true → In i todo ⊎ Sturdy ps hs counts i
+
+-- and nothing is left to be looked at: each that is marked is firm
+pub record Loosened (xs : List LocalAction) (ps : List Partner) (hs marks : List Bool) (edges : UseTable)
+    (counts todo : List ℕ) : Type 0 where
+  pub loosening : Loosening xs ps hs marks edges counts todo
+  pub firm : AllFirm xs ps hs marks

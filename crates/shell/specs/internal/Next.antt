@@ -1,59 +1,70 @@
 -- One line more of a session.
 -- No reader has to believe it: `proofs/TakenLemmas.antt` ties it to `Taken.antt`.
-use Rattle.std.specs.Prelude.{ℕ, ◌≡◌, ◌≢◌, ◌⊎◌, List, ◌++◌, Bool, true, false, Option, Result}
+use Rattle.std.specs.Prelude.{ℕ, ◌≡◌, ◌≢◌, ◌⊎◌, List, [], ◌++◌, Bool, true, false, Option, Result}
 use Rattle.std.specs.Prelude.{MatchBool, MatchOption, MatchResult}
 use Rattle.std.specs.Io.KnownBytes.{Appends, Consumes}
 use Rattle.debug_session.specs.Script.{IsLine, with_end}
 use Rattle.debug_session.specs.declared.fault.Fault.{Fault}
 use Rattle.debug_session.specs.declared.fault.Fault.TheVariants.{WriteFailed}
 use Rattle.shell_desk.specs.AtBench.{AtBench}
-use Rattle.shell.specs.Files.{Files}
-use Rattle.shell.specs.Lines.{AnsweredAsTyped, LineLeaves}
-use Rattle.shell.specs.Taken.{Finished, Shown, Stopped, TellsLack}
+use Rattle.shell_files.specs.Files.{Files}
+use Rattle.shell.specs.Lines.{LineLeaves}
+use Rattle.shell.specs.Taken.{Finished, Shown, StandsFirst, Stopped, TellsLost, TellsUnread, head_of}
 use Rattle.shell.specs.declared.answer.Outcome.{Outcome}
 
 -- one line was taken with its end, done and shown, and did not end the session
-abbrev pub OneShown : Files → List ℕ → List ℕ → AtBench → Option (List ℕ) → Option (List ℕ) → Option (List ℕ)
+abbrev pub OneShown : Files → Bool → List ℕ → List ℕ → AtBench → Option (List ℕ) → Option (List ℕ) → Option (List ℕ)
     → Option (List ℕ) → AtBench → Type 0
-OneShown files source stimulus b read left wrote contents b' =
+OneShown files at_terminal source stimulus b read left wrote contents b' =
     (line : List ℕ) × (outcome : Outcome) × (shown : List ℕ) × IsLine line × Consumes read left (with_end line)
     × Appends wrote contents shown × LineLeaves files source stimulus b line outcome b'
-    × (outcome ≢ Outcome.Over) × Shown source b line shown b'
+    × (outcome ≢ Outcome.Over) × Shown at_terminal source b line outcome shown b'
 
 -- all lines were done, and shown on the writer
-abbrev pub FinishedOn : Files → List ℕ → List ℕ → AtBench → Option (List ℕ) → Option (List ℕ) → Option (List ℕ)
+abbrev pub FinishedOn : Files → Bool → List ℕ → List ℕ → AtBench → Option (List ℕ) → Option (List ℕ) → Option (List ℕ)
     → Option (List ℕ) → AtBench → Type 0
-FinishedOn files source stimulus b read left wrote contents b' =
-    (output : List ℕ) × Appends wrote contents output × Finished files source stimulus b read left output b'
+FinishedOn files at_terminal source stimulus b read left wrote contents b' =
+    (output : List ℕ) × Appends wrote contents output × Finished files at_terminal source stimulus b read left output b'
 
 -- the session ended so, without a greeting
-abbrev pub Ended : Files → List ℕ → List ℕ → AtBench → Option (List ℕ) → Option (List ℕ) → Option (List ℕ)
+abbrev pub Ended : Files → Bool → List ℕ → List ℕ → AtBench → Option (List ℕ) → Option (List ℕ) → Option (List ℕ)
     → Option (List ℕ) → Result (Unit {0}) Fault → AtBench → Type 0
-Ended files source stimulus b read left wrote contents result b' =
+Ended files at_terminal source stimulus b read left wrote contents result b' =
     MatchResult result
-    (λ _. FinishedOn files source stimulus b read left wrote contents b')
-    (λ fault. Stopped files source stimulus b read left fault b')
+    (λ _. FinishedOn files at_terminal source stimulus b read left wrote contents b')
+    (λ fault. Stopped files at_terminal source stimulus b read left [] wrote contents fault b')
 
 -- where others may follow one line was taken with its end; else it was the last, or it stopped
-abbrev pub NextEnds : Files → List ℕ → List ℕ → AtBench → Option (List ℕ) → Option (List ℕ) → Option (List ℕ)
+abbrev pub NextEnds : Files → Bool → List ℕ → List ℕ → AtBench → Option (List ℕ) → Option (List ℕ) → Option (List ℕ)
     → Option (List ℕ) → Result Bool Fault → AtBench → Type 0
-NextEnds files source stimulus b read left wrote contents result b' =
+NextEnds files at_terminal source stimulus b read left wrote contents result b' =
     MatchResult result
-    (λ more. MatchBool more (OneShown files source stimulus b read left wrote contents b')
-    (FinishedOn files source stimulus b read left wrote contents b'))
-    (λ fault. Stopped files source stimulus b read left fault b')
+    (λ more. MatchBool more (OneShown files at_terminal source stimulus b read left wrote contents b')
+    (FinishedOn files at_terminal source stimulus b read left wrote contents b'))
+    (λ fault. Stopped files at_terminal source stimulus b read left [] wrote contents fault b')
 
--- such an answer was written on: its own part, where there was memory for it, and words
-abbrev pub Answers : {V : Type 0} → Option V → (V → List ℕ) → Option (List ℕ) → Option (List ℕ) → Type 0
-Answers answer items wrote contents =
-    (own : List ℕ) × (words : List ℕ) × Appends wrote contents (own ++ words)
-    × MatchOption answer (TellsLack own) (λ text. own ≡ items text)
+-- what was told first of an answer that became this: its own part, or that there was no memory for it, or none to read
+-- the line
+abbrev pub Tells : {V : Type 0} → Outcome → Option V → (V → List ℕ) → List ℕ → Type 0
+Tells outcome answer items told =
+    ((outcome ≡ Outcome.Unread) × TellsUnread told)
+    ⊎ ((outcome ≢ Outcome.Unread) × MatchOption answer (TellsLost told) (λ text. told ≡ items text))
 
--- the answer to a line stands there: its own part, or that it lacks, and words
-abbrev pub OwnShown : List ℕ → AtBench → List ℕ → AtBench → Option (List ℕ) → Option (List ℕ) → Type 0
-OwnShown source b line b' wrote contents =
-    (own : List ℕ) × (words : List ℕ) × Appends wrote contents (own ++ words)
-    × (AnsweredAsTyped source b line own b' ⊎ TellsLack own)
+-- such words were written on, behind what is said before them
+abbrev pub HeadedOn : Outcome → Option (List ℕ) → Option (List ℕ) → Type 0
+HeadedOn outcome wrote contents = (words : List ℕ) × Appends wrote contents (head_of outcome ++ words)
+
+-- such an answer was written on: what is told first, and words behind what is said before them
+abbrev pub Answers : {V : Type 0} → Outcome → Option V → (V → List ℕ) → Option (List ℕ) → Option (List ℕ) → Type 0
+Answers outcome answer items wrote contents =
+    (own : List ℕ) × (words : List ℕ) × Appends wrote contents (own ++ (head_of outcome ++ words))
+    × Tells outcome answer items own
+
+-- the answer to a line that became this stands there
+abbrev pub OwnShown : List ℕ → AtBench → List ℕ → Outcome → AtBench → Option (List ℕ) → Option (List ℕ) → Type 0
+OwnShown source b line outcome b' wrote contents =
+    (own : List ℕ) × (words : List ℕ) × Appends wrote contents (own ++ (head_of outcome ++ words))
+    × StandsFirst source b line outcome own b'
 
 -- whether others may follow a line that was complete or not and became this
 abbrev pub GoesOn : Bool → Outcome → Bool → Type 0
@@ -66,5 +77,5 @@ abbrev pub TakenEnds : Files → List ℕ → List ℕ → AtBench → List ℕ 
 TakenEnds files source stimulus b line complete wrote contents result b' =
     (outcome : Outcome) × LineLeaves files source stimulus b line outcome b'
     × MatchResult result
-    (λ more. GoesOn complete outcome more × OwnShown source b line b' wrote contents)
+    (λ more. GoesOn complete outcome more × OwnShown source b line outcome b' wrote contents)
     (λ fault. fault ≡ WriteFailed)

@@ -11,9 +11,9 @@ use Rattle.shell_desk.specs.declared.deed.Done.{Done}
 use Rattle.shell_desk.specs.declared.word.Word.{Word}
 use Rattle.shell_desk.specs.AtBench.{AtBench}
 use Rattle.shell_desk.specs.Does.{Does, TurnsTo}
-use Rattle.shell.specs.Asking.{GoesOnWith, WordAsks}
+use Rattle.shell.specs.Asking.{IsToldAlone, WordAsks}
 use Rattle.shell.specs.Beginning.{BeginsAt}
-use Rattle.shell.specs.Files.{Files}
+use Rattle.shell_files.specs.Files.{Files}
 use Rattle.shell.specs.Lines.{IsNew, IsSaved, line_count}
 use Rattle.shell.specs.declared.answer.Outcome.{Outcome}
 
@@ -41,15 +41,15 @@ LoadsTrace source stimulus trace b _ b' = ⊥
 abbrev pub IsNewUnless : Files → Bool → List ℕ → Type 0
 IsNewUnless files over rest = over ≡ false → IsNew files rest
 
--- the trace was saved to the file that the rest names, or that was told in words alone
+-- the trace was saved to the file that the rest names, or was not
 abbrev pub SavesTrace : Files → AtBench → List ℕ → Bool → Outcome → Type 0
 SavesTrace files b rest over outcome =
-    (outcome ≡ Outcome.Done) ⊎ ((outcome ≡ Outcome.Saved) × IsSaved files b rest × IsNewUnless files over rest)
+    (outcome ≡ Outcome.NotSaved) ⊎ ((outcome ≡ Outcome.Saved) × IsSaved files b rest × IsNewUnless files over rest)
 
--- these bytes were written to the file that the rest names, or that was told in words alone
-abbrev pub WritesFile : Files → List ℕ → List ℕ → Bool → Outcome → Outcome → Type 0
-WritesFile files bytes rest over done outcome =
-    (outcome ≡ Outcome.Done)
+-- these bytes were written to the file that the rest names, or were not
+abbrev pub WritesFile : Files → List ℕ → List ℕ → Bool → Outcome → Outcome → Outcome → Type 0
+WritesFile files bytes rest over done not_done outcome =
+    (outcome ≡ not_done)
     ⊎ ((outcome ≡ done) × ((name : List ℕ) × (rest ≡ 32 ∷ name) × files.holds name bytes)
     × IsNewUnless files over rest)
 
@@ -59,7 +59,7 @@ Quits rest outcome = ((rest ≡ []) × (outcome ≡ Outcome.Over)) ⊎ ((rest �
 
 -- the session goes on, and nothing is asked
 abbrev pub RestsWith : Word → List ℕ → Deed → Type 0
-RestsWith word rest deed = GoesOnWith word rest × (deed ≡ Deed.Rest)
+RestsWith word rest deed = IsToldAlone word rest × (deed ≡ Deed.Rest)
 
 -- the step that has the number is taken, or there was no memory to read the line
 abbrev pub TakesNumber : ℕ → AtBench → Outcome → AtBench → Type 0

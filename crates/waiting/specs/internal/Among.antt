@@ -1,6 +1,6 @@
 -- What the code goes through to tell who waits.
 -- No reader has to believe it: the contract of `who_waits` ties it to `Waits` and `StandsLike`.
-use Rattle.std.specs.Prelude.{List, [], ◌∷◌, Bool, true, false, ◌||◌, ◌&&◌, cond, Option, None, Some}
+use Rattle.std.specs.Prelude.{List, [], ◌∷◌, Bool, true, false, ◌||◌, cond, Option, None, Some}
 use Rattle.runs.specs.Moves.{Place}
 use Rattle.runs.specs.Tests.{same_place}
 use Rattle.runs.specs.declared.event.Event.{Event}

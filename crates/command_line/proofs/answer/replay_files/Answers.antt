@@ -1,40 +1,42 @@
-use Rattle.std.proofs.Common.{ℕ, List, inl, inr, subst}
-use Rattle.debug_session.specs.Replaying.{Replays, RefusesTrace}
-use Rattle.command_line.proofs.Handing.{refused}
+use Rattle.std.proofs.Common.{ℕ, List, inl, inr, refl, subst}
+use Rattle.debug_session.specs.Replaying.{Replays}
+use Rattle.command_line.proofs.AnsweringLemmas.{run-not-had, run-refused}
+use Rattle.command_line.proofs.Handing.{handed-on}
+use Rattle.command_line.proofs.TellingLemmas.{tells-same}
 use Rattle.command_line.proofs.answer.replay_files.Goals as goal
 
 pub returns-in_err-checked : goal.returns-in_err-checked
-returns-in_err-checked g c =
-    refused c.from_residual.result c.in_err-checked.field-0.0 _ _ (inl c.in_err-checked.ensures)
-    c.from_residual.ensures.1
-
-pub returns-in_err-read_trace : goal.returns-in_err-read_trace
-returns-in_err-read_trace g c =
-    refused c.from_residual-in_err-read_trace.result c.in_err-read_trace.field-0.0 _ _
-    (inr (c.in_ok-checked.checked, c.in_ok-checked.ensures, inl c.in_err-read_trace.ensures))
-    c.from_residual-in_err-read_trace.ensures.1
+returns-in_err-checked g c = inl (
+  c.in_err-checked.field-0.0,
+  run-not-had (g.F.Files.holds c.args.from.now.files.now) c.args.names.now.file.now c.args.names.now.stimulus.now
+      c.args.names.now.trace.now c.in_err-checked.field-0.0
+      c.in_err-checked.ensures,
+  handed-on c.from_residual.result c.in_err-checked.field-0.0 c.from_residual.ensures.1,
+  refl,
+)
 
 pub returns-in_err-events : goal.returns-in_err-events
-returns-in_err-events g c =
-    refused c.from_residual-in_err-events.result c.in_err-events.field-0.0 _ _
-    (inr (
-      c.in_ok-checked.checked,
-      c.in_ok-checked.ensures,
-      inr (
-        c.read_trace.new.texts.trace.items,
-        c.in_ok-read_trace.ensures,
-        subst (λ (t : List ℕ). RefusesTrace c.in_ok-checked.checked t c.in_err-events.field-0.0) c.as_slice.ensures.value
-            c.in_err-events.ensures,
-      ),
-    ))
-    c.from_residual-in_err-events.ensures.1
+returns-in_err-events g c = inl (
+  c.in_err-events.field-0.0,
+  run-refused (g.F.Files.holds c.args.from.now.files.now) c.args.names.now.file.now c.args.names.now.stimulus.now
+      c.args.names.now.trace.now c.in_ok-checked.checked c.read_run.new.texts.trace.items c.as_slice.result.now
+      c.in_err-events.field-0.0 c.in_ok-checked.ensures c.as_slice.ensures.value
+      c.in_err-events.ensures,
+  handed-on c.from_residual-in_err-events.result c.in_err-events.field-0.0 c.from_residual-in_err-events.ensures.1,
+  refl,
+)
 
 pub returns : goal.returns
-returns g c = (
-  c.in_ok-checked.checked,
-  c.read_trace.new.texts.trace.items,
-  c.in_ok-checked.ensures,
-  c.in_ok-read_trace.ensures,
-  subst (λ (t : List ℕ). Replays c.in_ok-checked.checked t c.in_ok-events.events.items) c.as_slice.ensures.value
-      c.in_ok-events.ensures,
+returns g c = inr (
+  c.in_ok-events.events.items,
+  (
+    c.in_ok-checked.checked,
+    c.read_run.new.texts.trace.items,
+    c.in_ok-checked.ensures.0,
+    c.in_ok-checked.ensures.1,
+    subst (λ (t : List ℕ). Replays c.in_ok-checked.checked t c.in_ok-events.events.items) c.as_slice.ensures.value
+        c.in_ok-events.ensures,
+  ),
+  tells-same g.O.Write.contents c.args.out.now c.write_out.new.writer c.as_slice-2.result.now c.in_ok-events.events.items c.write_out.result
+      c.as_slice-2.ensures.value (c.write_out.ensures.bytes, c.write_out.ensures.failures),
 )

@@ -1,44 +1,40 @@
-use Rattle.std.proofs.Common.{ℕ, List, inl, inr, subst}
+use Rattle.std.proofs.Common.{inl, refl}
 use Rattle.debug_session.specs.Wrapping.{of_trace}
-use Rattle.picture.specs.Pictures.{IsPictured}
-use Rattle.trace_file.specs.Loading as trace
-use Rattle.command_line.proofs.AnsweringLemmas.{picture-answered, trace-refused}
-use Rattle.command_line.proofs.Handing.{refused}
+use Rattle.picture.proofs.public.Shown.{shown}
+use Rattle.command_line.specs.Used.{used}
+use Rattle.command_line.proofs.AnsweringLemmas.{picture-answered, run-not-had, run-refused, trace-refused}
+use Rattle.command_line.proofs.Handing.{handed-on}
 use Rattle.command_line.proofs.draw.picture_files.Goals as goal
 
 pub returns-in_err-checked : goal.returns-in_err-checked
-returns-in_err-checked g c =
-    refused c.from_residual.result c.in_err-checked.field-0.0 _ _ (inl (inl c.in_err-checked.ensures))
-    c.from_residual.ensures.1
-
-pub returns-in_err-read_trace : goal.returns-in_err-read_trace
-returns-in_err-read_trace g c =
-    refused c.from_residual-in_err-read_trace.result c.in_err-read_trace.field-0.0 _ _
-    (inl (inr (c.in_ok-checked.checked, c.in_ok-checked.ensures, inl c.in_err-read_trace.ensures)))
-    c.from_residual-in_err-read_trace.ensures.1
+returns-in_err-checked g c = inl (
+  c.in_err-checked.field-0.0,
+  inl (run-not-had (g.F.Files.holds c.args.from.now.files.now) c.args.names.now.file.now c.args.names.now.stimulus.now
+      c.args.names.now.trace.now c.in_err-checked.field-0.0
+      c.in_err-checked.ensures),
+  handed-on c.from_residual.result c.in_err-checked.field-0.0 c.from_residual.ensures.1,
+  refl,
+)
 
 pub returns-in_err-pictured : goal.returns-in_err-pictured
-returns-in_err-pictured g c =
-    refused c.from_residual-in_err-pictured.result (of_trace c.in_err-pictured.field-0.0) _ _
-    (inl (inr (
-      c.in_ok-checked.checked,
-      c.in_ok-checked.ensures,
-      inr (
-        c.read_trace.new.texts.trace.items,
-        c.in_ok-read_trace.ensures,
-        trace-refused c.in_ok-checked.checked c.read_trace.new.texts.trace.items c.in_err-pictured.field-0.0
-            (subst (λ (t : List ℕ). trace.IsRefused c.in_ok-checked.checked t c.in_err-pictured.field-0.0)
-            c.as_slice-2.ensures.value c.in_err-pictured.ensures),
-      ),
-    )))
-    c.from_residual-in_err-pictured.ensures.1
+returns-in_err-pictured g c = inl (
+  (of_trace c.in_err-pictured.field-0.0),
+  inl (run-refused (g.F.Files.holds c.args.from.now.files.now) c.args.names.now.file.now c.args.names.now.stimulus.now
+      c.args.names.now.trace.now c.in_ok-checked.checked c.read_run.new.texts.trace.items c.as_slice-2.result.now
+      (of_trace c.in_err-pictured.field-0.0) c.in_ok-checked.ensures c.as_slice-2.ensures.value
+      (trace-refused c.in_ok-checked.checked c.as_slice-2.result.now c.in_err-pictured.field-0.0
+      c.in_err-pictured.ensures)),
+  handed-on c.from_residual-in_err-pictured.result (of_trace c.in_err-pictured.field-0.0) c.from_residual-in_err-pictured.ensures.1,
+  refl,
+)
 
 pub returns : goal.returns
 returns g c =
-    picture-answered (g.F.Files.holds c.args.files.now) c.args.asked.now.file.now c.args.asked.now.stimulus.now
-    c.args.asked.now.trace.now c.args.asked.now.drawing c.form_of.result c.in_ok-checked.checked
-    c.read_trace.new.texts.trace.items c.in_ok-pictured.pictured c.told_picture.result c.in_ok-checked.ensures
-    c.in_ok-read_trace.ensures
-    (subst (λ (t : List ℕ). IsPictured c.in_ok-checked.checked t c.form_of.result c.in_ok-pictured.pictured)
-    c.as_slice-2.ensures.value c.in_ok-pictured.ensures)
-    c.form_of.ensures c.told_picture.ensures
+    picture-answered (g.F.Files.holds c.args.from.now.files.now) c.args.names.now.file.now c.args.names.now.stimulus.now
+    c.args.names.now.trace.now c.args.drawing c.form_of.result c.in_ok-checked.checked
+    c.read_run.new.texts.trace.items c.as_slice-2.result.now c.in_ok-pictured.pictured
+    (used g.O.Write.contents c.args.out.now c.tell_picture.new.out) c.tell_picture.result c.in_ok-checked.ensures
+    c.as_slice-2.ensures.value
+    (shown c.in_ok-checked.checked c.as_slice-2.result.now _ c.form_of.result c.in_ok-pictured.pictured
+    c.in_ok-pictured.ensures)
+    c.form_of.ensures c.tell_picture.ensures

@@ -17,7 +17,7 @@ returns-in_err-read_texts g c =
 
 pub returns : goal.returns
 returns g c =
-    debug-session (g.F.Files.holds c.args.files.now) c.args.file.now c.args.stimulus.now
+    debug-session (g.F.Files.holds c.args.from.now.files.now) c.args.file.now c.args.stimulus.now
     c.read_texts.new.texts.source.items c.read_texts.new.texts.values.items c.as_slice.result.now
     c.as_slice-2.result.now
     (used (reader_remaining g.I.Read.remaining) c.args.reader.now c.debug_keeping.new.reader)

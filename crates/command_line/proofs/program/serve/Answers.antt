@@ -11,6 +11,6 @@ returns-clause-served g c = (
   c.words_behind-words.ensures,
   c.finish.ensures.status,
   subst (λ (t : List ℕ). Tells (told_with c.perform-done.result t)
-      (used g.E.Write.contents c.args.err.now c.finish.new.err) c.finish.result.told) c.as_slice-2.ensures.value
+      (used g.E.Write.contents c.args.err.now c.finish.new.err) c.finish.result.told) c.as_slice.ensures.value
       c.finish.ensures.told,
 )

@@ -1,7 +1,15 @@
+use Rattle.std.proofs.Common.{inl, inr, refl}
 use Rattle.debug_session.specs.declared.fault.Fault.TheVariants.{Memory}
-use Rattle.command_line.proofs.Handing.{refused}
-use Rattle.std.proofs.Common.{refl}
+use Rattle.command_line.proofs.Handing.{handed-on}
 use Rattle.command_line.proofs.question.show_page.Goals as goal
 
 pub returns-in_err-text : goal.returns-in_err-text
-returns-in_err-text c = refused c.from_residual.result Memory _ _ refl c.from_residual.ensures.1
+returns-in_err-text g c = inl (
+  Memory,
+  refl,
+  handed-on c.from_residual.result Memory c.from_residual.ensures.1,
+  refl,
+)
+
+pub returns : goal.returns
+returns g c = inr (c.as_bytes.result.now, tt, (c.write_out.ensures.bytes, c.write_out.ensures.failures))

@@ -1,44 +1,43 @@
-use Rattle.std.proofs.Common.{ℕ, List, inl, inr, subst}
+use Rattle.std.proofs.Common.{ℕ, List, inl, inr, refl, subst}
 use Rattle.debug_session.specs.Wrapping.{of_trace}
 use Rattle.questions.specs.Asking.{IsWaitingText}
-use Rattle.trace_file.specs.Loading as trace
-use Rattle.command_line.proofs.AnsweringLemmas.{trace-refused}
-use Rattle.command_line.proofs.Handing.{refused}
+use Rattle.command_line.proofs.AnsweringLemmas.{run-not-had, run-refused, trace-refused}
+use Rattle.command_line.proofs.Handing.{handed-on}
+use Rattle.command_line.proofs.TellingLemmas.{tells-same}
 use Rattle.command_line.proofs.question.waiting_files.Goals as goal
 
 pub returns-in_err-checked : goal.returns-in_err-checked
-returns-in_err-checked g c =
-    refused c.from_residual.result c.in_err-checked.field-0.0 _ _ (inl c.in_err-checked.ensures)
-    c.from_residual.ensures.1
+returns-in_err-checked g c = inl (
+  c.in_err-checked.field-0.0,
+  run-not-had (g.F.Files.holds c.args.from.now.files.now) c.args.names.now.file.now c.args.names.now.stimulus.now
+      c.args.names.now.trace.now c.in_err-checked.field-0.0
+      c.in_err-checked.ensures,
+  handed-on c.from_residual.result c.in_err-checked.field-0.0 c.from_residual.ensures.1,
+  refl,
+)
 
-pub returns-in_err-read_trace : goal.returns-in_err-read_trace
-returns-in_err-read_trace g c =
-    refused c.from_residual-in_err-read_trace.result c.in_err-read_trace.field-0.0 _ _
-    (inr (c.in_ok-checked.checked, c.in_ok-checked.ensures, inl c.in_err-read_trace.ensures))
-    c.from_residual-in_err-read_trace.ensures.1
-
-pub returns-in_err-waiting_text : goal.returns-in_err-waiting_text
-returns-in_err-waiting_text g c =
-    refused c.from_residual-in_err-waiting_text.result (of_trace c.in_err-waiting_text.field-0.0) _ _
-    (inr (
-      c.in_ok-checked.checked,
-      c.in_ok-checked.ensures,
-      inr (
-        c.read_trace.new.texts.trace.items,
-        c.in_ok-read_trace.ensures,
-        trace-refused c.in_ok-checked.checked c.read_trace.new.texts.trace.items c.in_err-waiting_text.field-0.0
-            (subst (λ (t : List ℕ). trace.IsRefused c.in_ok-checked.checked t c.in_err-waiting_text.field-0.0)
-            c.as_slice.ensures.value c.in_err-waiting_text.ensures),
-      ),
-    ))
-    c.from_residual-in_err-waiting_text.ensures.1
+pub returns-in_err-text : goal.returns-in_err-text
+returns-in_err-text g c = inl (
+  (of_trace c.in_err-text.field-0.0),
+  run-refused (g.F.Files.holds c.args.from.now.files.now) c.args.names.now.file.now c.args.names.now.stimulus.now
+      c.args.names.now.trace.now c.in_ok-checked.checked c.read_run.new.texts.trace.items c.as_slice.result.now
+      (of_trace c.in_err-text.field-0.0) c.in_ok-checked.ensures c.as_slice.ensures.value
+      (trace-refused c.in_ok-checked.checked c.as_slice.result.now c.in_err-text.field-0.0 c.in_err-text.ensures),
+  handed-on c.from_residual-in_err-text.result (of_trace c.in_err-text.field-0.0) c.from_residual-in_err-text.ensures.1,
+  refl,
+)
 
 pub returns : goal.returns
-returns g c = (
-  c.in_ok-checked.checked,
-  c.read_trace.new.texts.trace.items,
-  c.in_ok-checked.ensures,
-  c.in_ok-read_trace.ensures,
-  subst (λ (t : List ℕ). IsWaitingText c.in_ok-checked.checked t c.in_ok-waiting_text.field-0.items) c.as_slice.ensures.value
-      c.in_ok-waiting_text.ensures,
+returns g c = inr (
+  c.in_ok-text.text.items,
+  (
+    c.in_ok-checked.checked,
+    c.read_run.new.texts.trace.items,
+    c.in_ok-checked.ensures.0,
+    c.in_ok-checked.ensures.1,
+    subst (λ (t : List ℕ). IsWaitingText c.in_ok-checked.checked t c.in_ok-text.text.items) c.as_slice.ensures.value
+        c.in_ok-text.ensures,
+  ),
+  tells-same g.O.Write.contents c.args.out.now c.write_out.new.writer c.as_slice-2.result.now c.in_ok-text.text.items c.write_out.result
+      c.as_slice-2.ensures.value (c.write_out.ensures.bytes, c.write_out.ensures.failures),
 )

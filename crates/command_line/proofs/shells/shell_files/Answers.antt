@@ -23,13 +23,16 @@ returns g c = inr (
   c.read_start.new.texts.values.items,
   c.read_start.new.texts.trace.items,
   c.in_ok-read_start.ensures,
-  session-on any_files c.read_start.new.texts.source.items c.read_start.new.texts.values.items c.as_slice.result.now
-      c.as_slice-2.result.now (text_of (option_copied c.args.start.now.trace) c.read_start.new.texts.trace.items)
-      (option_copied c.trace_text.result) ((c.run.new.reader ≡ c.args.reader.now) × (c.run.new.out ≡ c.args.out.now))
-      (reader_remaining g.I.Read.remaining (device c.args.reader.now))
-      (reader_remaining g.I.Read.remaining (device c.run.new.reader)) (g.O.Write.contents (device c.args.out.now))
-      (g.O.Write.contents (device c.run.new.out)) c.run.result c.as_slice.ensures.value
-      c.as_slice-2.ensures.value c.trace_text.ensures c.run.ensures.ends,
+  (
+    c.is_terminal-has_prompt.result,
+    session-on any_files c.is_terminal-has_prompt.result c.read_start.new.texts.source.items c.read_start.new.texts.values.items c.as_slice.result.now
+        c.as_slice-2.result.now (text_of (option_copied c.args.start.now.trace) c.read_start.new.texts.trace.items)
+        (option_copied c.trace_text.result) ((c.run.new.reader ≡ c.args.reader.now) × (c.run.new.out ≡ c.args.out.now))
+        (reader_remaining g.I.Read.remaining (device c.args.reader.now))
+        (reader_remaining g.I.Read.remaining (device c.run.new.reader)) (g.O.Write.contents (device c.args.out.now))
+        (g.O.Write.contents (device c.run.new.out)) c.run.result c.as_slice.ensures.value
+        c.as_slice-2.ensures.value c.trace_text.ensures c.run.ensures.ends,
+  ),
   c.run.ensures.read_failures,
   c.run.ensures.write_failures,
 )

@@ -12,6 +12,6 @@ pub returns-then-has_moved-clause-does : goal.returns-then-has_moved-clause-does
 returns-then-has_moved-clause-does c =
     does_one c.args.desk.now c.asked-reply.new.desk c.args.command.now c.asked-reply.result c.asked-reply.ensures.answers
 
-pub returns-else-has_moved-clause-does : goal.returns-else-has_moved-clause-does
-returns-else-has_moved-clause-does c =
+pub returns-clause-does : goal.returns-clause-does
+returns-clause-does c =
     does_one c.args.desk.now c.asked-reply.new.desk c.args.command.now c.asked-reply.result c.asked-reply.ensures.answers

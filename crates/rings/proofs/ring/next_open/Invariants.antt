@@ -1,6 +1,10 @@
-use Rattle.std.proofs.Common.{◌≡◌, ◌<◌, ℕ, true, false, slice_get}
-use Rattle.rings.specs.internal.Search.{is_open, waits}
+use Rattle.std.proofs.Common.{◌≡◌, ◌<◌, ◌≤◌, ℕ, false, length, slice_get}
+use Rattle.last_events.specs.LastEvents.{Uses}
+use Rattle.rings.specs.internal.Search.{is_open}
 use Rattle.rings.proofs.ring.next_open.Given as goal
 
-abbrev pub invariant-loop-next : goal.invariant-loop-next
-invariant-loop-next l = (j : ℕ) → j < l.next → waits l.actions l.partners l.marks l.top j ≡ true → is_open (slice_get l.seen j) ≡ false
+abbrev pub invariant-nexts : goal.invariant-nexts
+invariant-nexts l = (j : ℕ) → l.below ≤ j → j < length l.seen → Uses l.nexts l.top j → is_open (slice_get l.seen j) ≡ false
+
+abbrev pub decreases-nexts : goal.decreases-nexts
+decreases-nexts l = l.below

@@ -30,7 +30,8 @@ search-preserved-in_default-next_open c =
     let old : c.search.way.items ≡ c.pop.new.self.items ++ c.in-Some.top ∷ [] = c.pop.ensures.items ∙ ap (λ (o : Option ℕ). c.pop.new.self.items ++ option_to_list o) c.in-Some.is in
     let no : c.next_open.result ≡ None = first_of (cc, search rules) in
     goes-back-as n w (same_at c.args.actions.now) c.args.seen.now c.search.seen c.note-in_default-next_open.new.seen c.args.start c.in-Some.top c.search.way.items c.pop.new.self.items c.search.invariant old
-    (subst (λ (o : Option ℕ). NextOpen n w c.search.seen c.in-Some.top o) no c.next_open.ensures) c.note-in_default-next_open.ensures
+    (subst (λ (o : Option ℕ). NextOpen n w c.search.seen c.in-Some.top o) no (subst (λ (k : ℕ). NextOpen n w c.search.seen k c.next_open.result) c.in_ok-row.ensures
+    (c.next_open.ensures c.args.actions.now c.requires.nexts c.search.invariant.searching.size))) c.note-in_default-next_open.ensures
 
 pub part_from-requires : goal.part_from-requires
 part_from-requires c =
@@ -50,7 +51,8 @@ returns-in-Some-index_on c =
     ap (λ (z : List ℕ). slice_get z c.in-Some-index_on.index) (c.as_slice-in-Some-index_on.ensures.value ∙ sym c.as_slice.ensures.value) ∙ on.1 in
     IfOk-weaker c.part_from.result _ _ (λ part h. told-from n w u c.args.seen.now c.search.seen _ c.args.start c.in-Some.top c.in-Some-next_open.next on.0 c.in-Some-index_on.index c.search.way.items
     c.pop.new.self.items c.as_slice-in-Some-index_on.result.now part.items (alike c.args.actions.now c.args.partners.now c.args.marks.now) c.search.invariant old
-    (subst (λ (o : Option ℕ). NextOpen n w c.search.seen c.in-Some.top o) c.in-Some-next_open.is c.next_open.ensures)
+    (subst (λ (o : Option ℕ). NextOpen n w c.search.seen c.in-Some.top o) c.in-Some-next_open.is (subst (λ (k : ℕ). NextOpen n w c.search.seen k c.next_open.result) c.in_ok-row.ensures
+    (c.next_open.ensures c.args.actions.now c.requires.nexts c.search.invariant.searching.size)))
     (c.as_slice-in-Some-index_on.ensures.value ∙ c.in_ok-push-2.ensures.items) at on.2 h) c.part_from.ensures
 
 pub search-smaller : goal.search-smaller
@@ -60,10 +62,12 @@ search-smaller c =
     let old : c.search.way.items ≡ c.pop.new.self.items ++ c.in-Some.top ∷ [] = c.pop.ensures.items ∙ ap (λ (o : Option ℕ). c.pop.new.self.items ++ option_to_list o) c.in-Some.is in
     let same : c.as_slice.result.now ≡ c.pop.new.self.items ++ c.in-Some.top ∷ [] = c.as_slice.ensures.value ∙ c.in_ok-push-2.ensures.items in
     let next : NextOpen n w c.search.seen c.in-Some.top (Some c.in-Some-next_open.next) =
-    subst (λ (o : Option ℕ). NextOpen n w c.search.seen c.in-Some.top o) c.in-Some-next_open.is c.next_open.ensures in
+    subst (λ (o : Option ℕ). NextOpen n w c.search.seen c.in-Some.top o) c.in-Some-next_open.is (subst (λ (k : ℕ). NextOpen n w c.search.seen k c.next_open.result) c.in_ok-row.ensures
+    (c.next_open.ensures c.args.actions.now c.requires.nexts c.search.invariant.searching.size)) in
     let new : slice_get c.search.seen c.in-Some-next_open.next ≡ Some New =
     next-is-new n w (same_at c.args.actions.now) c.args.seen.now c.search.seen c.args.start c.in-Some.top c.in-Some-next_open.next c.search.way.items c.pop.new.self.items c.search.invariant old
-    (subst (λ (o : Option ℕ). NextOpen n w c.search.seen c.in-Some.top o) c.in-Some-next_open.is c.next_open.ensures)
+    (subst (λ (o : Option ℕ). NextOpen n w c.search.seen c.in-Some.top o) c.in-Some-next_open.is (subst (λ (k : ℕ). NextOpen n w c.search.seen k c.next_open.result) c.in_ok-row.ensures
+    (c.next_open.ensures c.args.actions.now c.requires.nexts c.search.invariant.searching.size)))
     (λ i. c.in_default-index_on.ensures c.in-Some-next_open.next (subst (λ (z : List ℕ). In c.in-Some-next_open.next z) (sym same) i)
     (itself c.args.actions.now c.in-Some-next_open.next next.0)) in
     let less : count_new c.note-in-Some.new.seen + 1 ≡ count_new c.search.seen =
@@ -79,7 +83,8 @@ search-preserved c =
     let w : Test = waits c.args.actions.now c.args.partners.now c.args.marks.now in
     let old : c.search.way.items ≡ c.pop.new.self.items ++ c.in-Some.top ∷ [] = c.pop.ensures.items ∙ ap (λ (o : Option ℕ). c.pop.new.self.items ++ option_to_list o) c.in-Some.is in
     let next : NextOpen n w c.search.seen c.in-Some.top (Some c.in-Some-next_open.next) =
-    subst (λ (o : Option ℕ). NextOpen n w c.search.seen c.in-Some.top o) c.in-Some-next_open.is c.next_open.ensures in
+    subst (λ (o : Option ℕ). NextOpen n w c.search.seen c.in-Some.top o) c.in-Some-next_open.is (subst (λ (k : ℕ). NextOpen n w c.search.seen k c.next_open.result) c.in_ok-row.ensures
+    (c.next_open.ensures c.args.actions.now c.requires.nexts c.search.invariant.searching.size)) in
     let same : c.as_slice.result.now ≡ c.pop.new.self.items ++ c.in-Some.top ∷ [] = c.as_slice.ensures.value ∙ c.in_ok-push-2.ensures.items in
     goes-on-as n w (same_at c.args.actions.now) c.args.seen.now c.search.seen c.note-in-Some.new.seen c.args.start c.in-Some.top c.in-Some-next_open.next c.search.way.items c.pop.new.self.items
     c.push-in-Some-2.new.self.items c.search.invariant old next.0 next.1

@@ -13,7 +13,7 @@ returns-in-Ok-clause-ends g c = inr (
   c.in-Ok.ensures.1,
   (
     c.run_on-done.new.session.bench,
-    subst (λ (b : AtBench). EndsAt (g.H.Host.files c.args.host.now) c.args.texts.source.now c.args.texts.stimulus.now b (reader_remaining g.R.Read.remaining c.args.reader.now.device)
+    subst (λ (b : AtBench). EndsAt (g.H.Host.files c.args.host.now) c.args.is_terminal c.args.texts.source.now c.args.texts.stimulus.now b (reader_remaining g.R.Read.remaining c.args.reader.now.device)
         (reader_remaining g.R.Read.remaining c.run_on-done.new.reader.device) (g.O.Write.contents c.args.out.now.device)
         (g.O.Write.contents c.run_on-done.new.out.device) c.run_on-done.result c.run_on-done.new.session.bench)
         c.in-Ok.ensures.2 c.run_on-done.ensures.ends,

@@ -4,6 +4,6 @@ use Rattle.shell.proofs.output.write_answer.Goals as goal
 
 pub returns-in-Ok-clause-bytes : goal.returns-in-Ok-clause-bytes
 returns-in-Ok-clause-bytes g c =
-    answers-behind (λ text. text.items) c.args.answer.own (g.W.Write.contents (device c.args.out.now))
-    (g.W.Write.contents (device c.write_own.new.out)) (g.W.Write.contents (device c.write_text.new.out)) c.write_text.result
-    c.in-Ok.ensures.bytes c.write_text.ensures.bytes
+    answers-behind (λ text. text.items) c.args.answer.outcome c.args.answer.own (g.W.Write.contents (device c.args.out.now))
+    (g.W.Write.contents (device c.write_own.new.out)) (g.W.Write.contents (device c.write_headed.new.out))
+    c.write_headed.result c.in-Ok.ensures.bytes c.write_headed.ensures.bytes

@@ -1,5 +1,5 @@
 use Rattle.std.proofs.Common.{◌≡◌, drop}
-use Rattle.waiting.specs.Input.{all_settled}
+use Rattle.waiting.specs.internal.LackTests.{all_settled}
 use Rattle.waiting.proofs.input.all_settled.Given as goal
 
 -- of those that are left the same holds

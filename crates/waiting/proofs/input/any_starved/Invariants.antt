@@ -1,5 +1,5 @@
 use Rattle.std.proofs.Common.{◌≡◌, drop}
-use Rattle.waiting.specs.Input.{any_starved}
+use Rattle.waiting.specs.internal.LackTests.{any_starved}
 use Rattle.waiting.proofs.input.any_starved.Given as goal
 
 -- of the actions that are left the same holds

@@ -1,5 +1,5 @@
 use Rattle.std.proofs.Common.{◌≡◌, drop}
-use Rattle.waiting.specs.Input.{none_deadlocked}
+use Rattle.waiting.specs.internal.LackTests.{none_deadlocked}
 use Rattle.waiting.proofs.input.none_deadlocked.Given as goal
 
 -- of those that are left the same holds

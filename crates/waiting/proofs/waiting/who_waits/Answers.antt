@@ -26,33 +26,31 @@ returns c =
     let actions : List LocalAction = c.in_ok-actions.actions in
     let events : List Event = c.in_ok-ready.ready in
     let exact : OffersExactly S actions = c.in_ok-actions.ensures.exactly stands.tidy in
-    let ready = c.in_ok-ready.ensures in
-    let one = c.is_sound.ensures.one_state in
-    let same : ready.0 ≡ S = one.2 ready.0 ready.1 ∙ sym (one.2 S stands.reaches) in
-    let list : ReadyList S events = subst (λ (T : State). ReadyList T events) same ready.2 in
-    let held : Has c.in_ok-places.places events = subst (λ (es : List Event). Has c.in_ok-places.places es) c.as_slice-2.ensures c.in_ok-places.ensures in
+    let list : ReadyList S events =
+    c.in_ok-ready.ensures S (subst (λ (xs : List LocalAction). OffersExactly S xs) (sym c.as_slice.ensures) exact) in
+    let held : Has c.in_ok-places.places events = subst (λ (es : List Event). Has c.in_ok-places.places es) c.as_slice-3.ensures c.in_ok-places.ensures in
     let kept : List LocalAction = c.left_over-actions.result in
     let left : kept ≡ left_over events actions = c.left_over-actions.ensures ∙ left-alike (is_there c.in_ok-places.places) events actions held in
     let over : Bool = body_is_over S.residual in
     let told : c.progress_of-progress.result ≡ progress_of over events =
-    c.progress_of-progress.ensures stands.tidy ∙ ap (λ (es : List Event). progress_of over es) c.as_slice.ensures in
+    c.progress_of-progress.ensures stands.tidy ∙ ap (λ (es : List Event). progress_of over es) c.as_slice-2.ensures in
     let waits : ListsWaiting S kept =
     subst (λ (xs : List LocalAction). ListsWaiting S xs) (sym left)
     (lists-waiting S actions events exact (c.in_ok-actions.ensures.in_order stands.tidy) (c.in_ok-actions.ensures.once stands.tidy) list) in
-    let offered : (x : LocalAction) → In x c.as_slice-3.result.now → Offered S x =
-    λ x i. ((waits.exactly x).0 (subst (λ (xs : List LocalAction). In x xs) c.as_slice-3.ensures i)).offered in
+    let offered : (x : LocalAction) → In x c.as_slice-4.result.now → Offered S x =
+    λ x i. ((waits.exactly x).0 (subst (λ (xs : List LocalAction). In x xs) c.as_slice-4.ensures i)).offered in
     let partners : c.in_ok-partners.partners.items ≡ map (partner_in S.residual) kept =
-    c.in_ok-partners.ensures.partners c.state.result.1.now offered ∙ ap (λ (xs : List LocalAction). map (partner_in S.residual) xs) c.as_slice-3.ensures in
-    let given : c.as_slice-5.result.now ≡ map (partner_in S.residual) c.as_slice-4.result.now =
-    c.as_slice-5.ensures.value ∙ partners ∙ ap (λ (xs : List LocalAction). map (partner_in S.residual) xs) (sym c.as_slice-4.ensures) in
+    c.in_ok-partners.ensures.partners c.state.result.1.now offered ∙ ap (λ (xs : List LocalAction). map (partner_in S.residual) xs) c.as_slice-4.ensures in
+    let given : c.as_slice-6.result.now ≡ map (partner_in S.residual) c.as_slice-5.result.now =
+    c.as_slice-6.ensures.value ∙ partners ∙ ap (λ (xs : List LocalAction). map (partner_in S.residual) xs) (sym c.as_slice-5.ensures) in
     let marks : List Bool = c.in_ok-deadlocked.deadlocked.items in
     let dead : TellsDeadlocked (helped_in c.args.machine.now S) S.residual kept marks =
-    subst (λ (xs : List LocalAction). TellsDeadlocked (helped_in c.args.machine.now S) S.residual xs marks) c.as_slice-4.ensures (c.in_ok-deadlocked.ensures S.residual given) in
-    let given-again : c.as_slice-7.result.now ≡ map (partner_in S.residual) c.as_slice-6.result.now =
-    c.as_slice-7.ensures.value ∙ partners ∙ ap (λ (xs : List LocalAction). map (partner_in S.residual) xs) (sym c.as_slice-6.ensures) in
-    let dead-again : TellsDeadlocked (helped_in c.args.machine.now S) S.residual c.as_slice-6.result.now c.as_slice-8.result.now =
-    subst (λ (xs : List LocalAction). TellsDeadlocked (helped_in c.args.machine.now S) S.residual xs c.as_slice-8.result.now) (sym c.as_slice-6.ensures)
-    (subst (λ (bs : List Bool). TellsDeadlocked (helped_in c.args.machine.now S) S.residual kept bs) (sym c.as_slice-8.ensures.value) dead) in (
+    subst (λ (xs : List LocalAction). TellsDeadlocked (helped_in c.args.machine.now S) S.residual xs marks) c.as_slice-5.ensures (c.in_ok-deadlocked.ensures S.residual given) in
+    let given-again : c.as_slice-8.result.now ≡ map (partner_in S.residual) c.as_slice-7.result.now =
+    c.as_slice-8.ensures.value ∙ partners ∙ ap (λ (xs : List LocalAction). map (partner_in S.residual) xs) (sym c.as_slice-7.ensures) in
+    let dead-again : TellsDeadlocked (helped_in c.args.machine.now S) S.residual c.as_slice-7.result.now c.as_slice-9.result.now =
+    subst (λ (xs : List LocalAction). TellsDeadlocked (helped_in c.args.machine.now S) S.residual xs c.as_slice-9.result.now) (sym c.as_slice-7.ensures)
+    (subst (λ (bs : List Bool). TellsDeadlocked (helped_in c.args.machine.now S) S.residual kept bs) (sym c.as_slice-9.ensures.value) dead) in (
       S,
       stands.reaches,
       record {
@@ -62,7 +60,7 @@ returns c =
         partners = partners;
         deadlocked = names-deadlocked c.args.machine.now S kept marks waits dead;
         ring = names-ring c.args.machine.now S kept c.in_ok-ring.ring.items waits
-            (subst (λ (xs : List LocalAction). TellsRing (helped_in c.args.machine.now S) S.residual xs c.in_ok-ring.ring.items) c.as_slice-6.ensures
+            (subst (λ (xs : List LocalAction). TellsRing (helped_in c.args.machine.now S) S.residual xs c.in_ok-ring.ring.items) c.as_slice-7.ensures
             (c.in_ok-ring.ensures S.residual (helped_in c.args.machine.now S) given-again dead-again));
       },
     )

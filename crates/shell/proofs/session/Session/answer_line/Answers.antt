@@ -1,5 +1,5 @@
-use Rattle.std.proofs.Common.{ap, ◌∙◌}
-use Rattle.shell.proofs.LeavesLemmas.{asks-nothing, not-empty, not-want, own-lines, typed-loose, typed-says}
+use Rattle.std.proofs.Common.{inl, inr, ap, ◌∙◌}
+use Rattle.shell.proofs.LeavesLemmas.{asks-nothing, done-read, may-be-step, not-empty, not-want, own-lines, typed-loose, typed-says}
 use Rattle.shell.proofs.session.Session.answer_line.Goals as goal
 
 pub answer_loose-requires : goal.answer_loose-requires
@@ -28,3 +28,18 @@ returns-else-is_want-clause-own g c =
     (not-empty c.checked-checked.result.now c.args.line.now c.in-Err.fault
     (not-want c.in-Err.fault c.is_want.result c.is_want.ensures c.if-is_want.false) c.in-Err.ensures.fault)
     c.answer_loose.ensures.own
+
+-- what was read is done
+pub returns-in-Ok-clause-unread : goal.returns-in-Ok-clause-unread
+returns-in-Ok-clause-unread g c = λ unread. absurd (done-read c.answer_script.result.outcome c.answer_script.ensures.outcome unread)
+
+pub returns-then-is_want-clause-unread : goal.returns-then-is_want-clause-unread
+returns-then-is_want-clause-unread g c = λ unread.
+    inl (may-be-step c.checked-checked.result.now c.args.line.now c.in-Err.fault c.is_want.result c.is_want.ensures
+    c.if-is_want.true c.in-Err.ensures.fault)
+
+pub returns-else-is_want-clause-unread : goal.returns-else-is_want-clause-unread
+returns-else-is_want-clause-unread g c = λ unread.
+    inr (asks-nothing c.args.self.now.bench.desk.machine.checked c.checked-checked.result.now c.args.line.now c.in-Err.fault
+    (c.checked-checked.ensures ∙ ap (λ m. m.checked) (c.machine.ensures ∙ ap (λ d. d.machine) c.desk.ensures))
+    (not-want c.in-Err.fault c.is_want.result c.is_want.ensures c.if-is_want.false) c.in-Err.ensures.fault)

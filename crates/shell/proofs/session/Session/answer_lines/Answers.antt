@@ -1,4 +1,4 @@
-use Rattle.std.proofs.Common.{◌≡◌, ◌∙◌, Ok, Err, inl, refl}
+use Rattle.std.proofs.Common.{◌≡◌, ◌∙◌, Ok, Err, refl}
 use Rattle.std.specs.Io.Buffered.{reader_remaining}
 use Rattle.devices.specs.Counting.{failures}
 use Rattle.debug_session.specs.Counting.{after_reading, after_writing}
@@ -16,11 +16,11 @@ loop-taken-preserved g c =
       c.answer_next.ensures.write_failures ∙ (wrote ∙ c.loop-taken.invariant.1),
       λ left contents r b' rest.
           c.loop-taken.invariant.2 left contents r b'
-          (ended-more (g.H.Host.files c.args.host.now) c.args.setting.now.texts.source.now c.args.setting.now.texts.stimulus.now c.loop-taken.self.bench
+          (ended-more (g.H.Host.files c.args.host.now) c.args.is_terminal c.args.setting.now.texts.source.now c.args.setting.now.texts.stimulus.now c.loop-taken.self.bench
           c.answer_next.new.self.bench b' (reader_remaining g.R.Read.remaining c.loop-taken.reader.device)
           (reader_remaining g.R.Read.remaining c.answer_next.new.reader.device) left (g.O.Write.contents c.loop-taken.out.device)
           (g.O.Write.contents c.answer_next.new.out.device) contents r
-          (next-true (g.H.Host.files c.args.host.now) c.args.setting.now.texts.source.now c.args.setting.now.texts.stimulus.now c.loop-taken.self.bench
+          (next-true (g.H.Host.files c.args.host.now) c.args.is_terminal c.args.setting.now.texts.source.now c.args.setting.now.texts.stimulus.now c.loop-taken.self.bench
           c.answer_next.new.self.bench (reader_remaining g.R.Read.remaining c.loop-taken.reader.device)
           (reader_remaining g.R.Read.remaining c.answer_next.new.reader.device) (g.O.Write.contents c.loop-taken.out.device)
           (g.O.Write.contents c.answer_next.new.out.device) c.answer_next.result c.in-Ok-true.field-0 c.in-Ok-true.is c.in-Ok-true.field-0-test
@@ -32,7 +32,7 @@ pub returns-in-Ok-false-clause-ends : goal.returns-in-Ok-false-clause-ends
 returns-in-Ok-false-clause-ends g c =
     c.loop-taken.invariant.2 (reader_remaining g.R.Read.remaining c.answer_next.new.reader.device)
     (g.O.Write.contents c.answer_next.new.out.device) (Ok tt) c.answer_next.new.self.bench
-    (next-false (g.H.Host.files c.args.host.now) c.args.setting.now.texts.source.now c.args.setting.now.texts.stimulus.now c.loop-taken.self.bench
+    (next-false (g.H.Host.files c.args.host.now) c.args.is_terminal c.args.setting.now.texts.source.now c.args.setting.now.texts.stimulus.now c.loop-taken.self.bench
     c.answer_next.new.self.bench (reader_remaining g.R.Read.remaining c.loop-taken.reader.device)
     (reader_remaining g.R.Read.remaining c.answer_next.new.reader.device) (g.O.Write.contents c.loop-taken.out.device)
     (g.O.Write.contents c.answer_next.new.out.device) c.answer_next.result c.in-Ok-false.field-0 c.in-Ok-false.is c.in-Ok-false.field-0-test
@@ -47,5 +47,6 @@ pub returns-clause-ends : goal.returns-clause-ends
 returns-clause-ends g c =
     c.loop-taken.invariant.2 (reader_remaining g.R.Read.remaining c.loop-taken.reader.device) (g.O.Write.contents c.loop-taken.out.device)
     (Err Fault.Memory) c.loop-taken.self.bench
-    (stopped-first (g.H.Host.files c.args.host.now) c.args.setting.now.texts.source.now c.args.setting.now.texts.stimulus.now c.loop-taken.self.bench
-    (reader_remaining g.R.Read.remaining c.loop-taken.reader.device) Fault.Memory (inl refl))
+    (stopped-first (g.H.Host.files c.args.host.now) c.args.is_terminal c.args.setting.now.texts.source.now c.args.setting.now.texts.stimulus.now
+    c.loop-taken.self.bench (reader_remaining g.R.Read.remaining c.loop-taken.reader.device)
+    (g.O.Write.contents c.loop-taken.out.device) Fault.Memory refl)

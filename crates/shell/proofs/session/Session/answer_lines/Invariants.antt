@@ -11,7 +11,7 @@ abbrev pub invariant-loop-taken : goal.invariant-loop-taken
 invariant-loop-taken g l =
     (failures l.reader ≡ failures l.initial.reader) × (failures l.out ≡ failures l.initial.out)
     × ((left contents : Option (List ℕ)) (r : Result (Unit {0}) Fault) (b' : AtBench)
-    → Ended (g.H.Host.files l.host) l.setting.texts.source.now l.setting.texts.stimulus.now l.self.bench (reader_remaining g.R.Read.remaining l.reader.device) left
+    → Ended (g.H.Host.files l.host) l.is_terminal l.setting.texts.source.now l.setting.texts.stimulus.now l.self.bench (reader_remaining g.R.Read.remaining l.reader.device) left
     (g.O.Write.contents l.out.device) contents r b'
-    → Ended (g.H.Host.files l.host) l.setting.texts.source.now l.setting.texts.stimulus.now l.initial.self.bench
+    → Ended (g.H.Host.files l.host) l.is_terminal l.setting.texts.source.now l.setting.texts.stimulus.now l.initial.self.bench
     (reader_remaining g.R.Read.remaining l.initial.reader.device) left (g.O.Write.contents l.initial.out.device) contents r b')

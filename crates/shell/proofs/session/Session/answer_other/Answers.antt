@@ -1,4 +1,4 @@
-use Rattle.shell.proofs.LeavesLemmas.{goes-on-with, other-load, other-quit, other-save, other-save-over, other-script, other-script-over, other-told}
+use Rattle.shell.proofs.LeavesLemmas.{told-alone, other-load, other-quit, other-save, other-save-over, other-script, other-script-over, other-told}
 use Rattle.shell.proofs.session.Session.answer_other.Goals as goal
 
 pub returns-in-Load : goal.returns-in-Load
@@ -38,4 +38,5 @@ pub returns-in_default : goal.returns-in_default
 returns-in_default g c =
     other-told (g.H.Host.files c.args.host.now) c.args.setting.now.texts.source.now c.args.setting.now.texts.stimulus.now
     c.args.self.now.bench c.args.word c.args.rest.now c.answer_question.result.outcome
-    (goes-on-with c.args.word c.args.rest.now c.in_default.not-Load c.in_default.not-Quit) c.answer_question.ensures
+    (told-alone c.args.word c.args.rest.now c.in_default.not-Save c.in_default.not-SaveOver c.in_default.not-Load
+    c.in_default.not-Script c.in_default.not-ScriptOver c.in_default.not-Quit) c.answer_question.ensures

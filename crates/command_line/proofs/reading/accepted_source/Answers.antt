@@ -1,0 +1,15 @@
+use Rattle.std.proofs.Common.{inl}
+use Rattle.command_line.proofs.AnsweringLemmas.{source-accepted}
+use Rattle.command_line.proofs.Handing.{refused}
+use Rattle.command_line.proofs.reading.accepted_source.Goals as goal
+
+pub returns-in_err-read_source : goal.returns-in_err-read_source
+returns-in_err-read_source g c =
+    refused c.from_residual.result c.in_err-read_source.field-0.0 _ _ (inl c.in_err-read_source.ensures)
+    c.from_residual.ensures.1
+
+pub returns : goal.returns
+returns g c =
+    source-accepted (g.F.Files.holds c.args.from.now.files.now) c.args.file.now c.read_source.new.texts.source.items
+    c.as_slice.result.now c.accept.result c.in_ok-read_source.ensures c.as_slice.ensures.value c.accept.ensures.system
+    c.accept.ensures.fault

@@ -1,0 +1,122 @@
+// What is said of files that are saved, written or loaded, behind the word that says whether it was done.
+use crate::names::add_given;
+use crate::steps::steps_word;
+use crate::usage::add_usage_words;
+use plain_words::Text;
+use shell_desk::Word;
+use shell_files::FileFault;
+use std::alloc::Global;
+
+/// What was written: so many bytes to the file of this name.
+pub fn written_text(alloc: Global, name: &str, count: u64) -> Text {
+    let mut text = Text::new(alloc);
+    add_given(&mut text, name.as_bytes());
+    text.add_counted(b", ", count, b" bytes\n");
+    text
+}
+
+/// How many steps were loaded.
+pub fn loaded_text(alloc: Global, count: u64) -> Text {
+    let mut text = Text::new(alloc);
+    text.add_number(count);
+    text.add(steps_word(count));
+    text.add(b"\n");
+    text
+}
+
+/// How a word is written with the name of a file, where `rest` is none.
+pub fn unnamed_text(alloc: Global, word: Word, rest: &[u8]) -> Text {
+    let mut text = Text::new(alloc);
+    add_usage_words(&mut text, word.spelling(), rest);
+    text
+}
+
+/// Why the file of this name was not read or written by the word.
+pub fn file_fault_text(alloc: Global, name: &str, fault: FileFault, word: Word) -> Text {
+    let mut text = Text::new(alloc);
+    add_given(&mut text, name.as_bytes());
+    match fault {
+        FileFault::Exists => add_exists(&mut text, name, word),
+        _ => text.add(fault_words(fault)),
+    }
+    text
+}
+
+/// Adds that the file is there, and which word writes over it.
+fn add_exists(text: &mut Text, name: &str, word: Word) {
+    text.add(b" is there already, and stays as it is; `");
+    text.add(word.spelling());
+    text.add(b"! ");
+    add_given(text, name.as_bytes());
+    text.add(b"` writes over it\n");
+}
+
+/// What is the matter with a file.
+fn fault_words(fault: FileFault) -> &'static [u8] {
+    match fault {
+        FileFault::Memory => b": there was no memory for it, and nothing changed\n",
+        FileFault::Missing => b": there is no such file or folder\n",
+        FileFault::Exists => b" is there already, and stays as it is\n",
+        FileFault::PartExists =>
+            b".part is in the way: a file is written there first, and then renamed; remove it\n",
+        FileFault::LinkPartExists =>
+            b" is a link, and beside the file to which it leads lies one with `.part` behind the name; remove that\n",
+        FileFault::NoFile => b" is no file: it is a folder or a device\n",
+        FileFault::LeadsNowhere =>
+            b" is a link that leads to no file; it stays as it is, and nothing was written\n",
+        FileFault::AtHand =>
+            b" is the description or the stimulus of this session, and is not written over\n",
+        FileFault::Forbidden => b": you may not read or write it there\n",
+        FileFault::Full => b": the disk is full, and nothing was written\n",
+        FileFault::Other => b": the system refused it, and nothing changed\n",
+    }
+}
+
+/// Why the trace in the file of this name was not loaded: the refusal of this number, which names this line if it names
+/// one, what the line has, and what helps.
+pub fn refused_trace_text(
+    alloc: Global,
+    name: &str,
+    trace: &[u8],
+    number: u32,
+    line: Option<u64>,
+) -> Text {
+    let mut text = Text::new(alloc);
+    add_given(&mut text, name.as_bytes());
+    text.add_counted(b": refused ", u64::from(number), b"");
+    match line {
+        Some(line) => add_refused_line(&mut text, trace, line),
+        None => text.add(b"\n"),
+    }
+    text.add(b"  ");
+    text.add(why_refused(number));
+    text.add(b"\n  the steps stay as they are\n");
+    text
+}
+
+/// Adds the number of the line, and what the line of this number, from 1, has in the trace.
+fn add_refused_line(text: &mut Text, trace: &[u8], line: u64) {
+    text.add_counted(b" ", line, b"\n");
+    for (index, row) in trace.split(|byte| *byte == b'\n').enumerate() {
+        if (index as u64).saturating_add(1) == line {
+            text.add_counted(b"  line ", line, b" is `");
+            add_given(text, row);
+            text.add(b"`\n");
+            break;
+        }
+    }
+}
+
+/// What the number of a refusal says of a trace.
+fn why_refused(number: u32) -> &'static [u8] {
+    match number {
+        1 => b"there was no memory for it",
+        31 => b"its first line is not `balsadbg trace 2`, or ends as on Windows",
+        32 => b"that line is none of a trace, or is cut off, or ends as on Windows",
+        33 =>
+            b"that step cannot be taken there: it is of another description or stimulus, or\n  lines were exchanged",
+        34 =>
+            b"another step is due on that line: with `balsadbg trace 1` in the first line\n  any order loads",
+        _ => b"it is no trace of this description",
+    }
+}
