@@ -132,10 +132,22 @@ fn is_beside_at_work(
         return Ok(false);
     };
     let child = Address::below(alloc, parent, Entry::Ordered(number))?;
-    if is_branch_at_work(alloc, tree, store, child.entries(), branch.saturating_add(1))? {
+    if is_branch_at_work(
+        alloc,
+        tree,
+        store,
+        child.entries(),
+        branch.saturating_add(1),
+    )? {
         return Ok(true);
     }
-    is_branch_at_work(alloc, tree, store, child.entries(), branch.saturating_sub(1))
+    is_branch_at_work(
+        alloc,
+        tree,
+        store,
+        child.entries(),
+        branch.saturating_sub(1),
+    )
 }
 
 /// Whether the tree offers anything in this branch of the place.
