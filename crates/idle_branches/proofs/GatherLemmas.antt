@@ -13,9 +13,9 @@ use Rattle.runs.proofs.public.Lists.{in-left, in-right}
 use Rattle.idle_branches.specs.Idle.{AreEnds}
 use Rattle.idle_branches.specs.declared.ends.Ends.{Ends}
 use Rattle.idle_branches.specs.declared.used.Used.{Used}
-use Rattle.idle_branches.specs.internal.Known.{Known, Acts, ActsOn, FitEach, Fits, FitsArms, Grows, Offers, known_at, list_at, parts, parts_of}
+use Rattle.idle_branches.specs.internal.Known.{Known, Acts, ActsOn, FitEach, Fits, FitsArms, Grows, known_at, list_at, parts, parts_of}
 use Rattle.idle_branches.specs.internal.Gathering.{Adds, FitsArm, FitsLast, Holds}
-use Rattle.idle_branches.specs.internal.Gathered.{AddsParts, Extends}
+use Rattle.idle_branches.specs.internal.Gathered.{AddsParts}
 use Rattle.idle_branches.proofs.FitsLemmas.{fits-along, fits-within}
 use Rattle.idle_branches.proofs.ChainLemmas.{each-both}
 
@@ -91,25 +91,15 @@ bodies-fit u (a ∷ arms) f = (f.0.1, bodies-fit u arms f.1)
 pub choose-fits : (u : Known) (arms : List OnChannel) → Every (FitsArm u) arms → Fits u (choose_of arms)
 choose-fits u arms f = (arms-act u arms f, bodies-fit u arms f)
 
-pub feed-fits : (u : Known) (k c w : ℕ) (vs : List Word) → Offers u c → Fits u (feed_from k c w vs)
-feed-fits u k c w [] f = tt
-feed-fits u k c w (v ∷ vs) f = fits-within u k (send c w (constant v)) (feed_from (suc k) c w vs) f (feed-fits u (suc k) c w vs f)
+pub feed-fits : (u : Known) (k c w : ℕ) (vs : List Word) → Fits u (feed_from k c w vs)
+feed-fits u k c w [] = tt
+feed-fits u k c w (v ∷ vs) = fits-within u k (send c w (constant v)) (feed_from (suc k) c w vs) tt (feed-fits u (suc k) c w vs)
 
-pub syncs-fit : (u : Known) (k c n : ℕ) → Offers u c × Acts u c → Fits u (syncs_from k c n)
+pub syncs-fit : (u : Known) (k c n : ℕ) → Acts u c → Fits u (syncs_from k c n)
 syncs-fit u k c zero f = tt
 syncs-fit u k c (suc n) f = fits-within u k (sync c) (syncs_from (suc k) c n) f (syncs-fit u (suc k) c n f)
 
 -- ---- a channel more
-pub offer-added : (k channel : ℕ) (a b : Used) → b.offers ≡ a.offers ++ channel ∷ [] → b.acting ≡ a.acting
-    → Adds k a (λ u. Offers u channel) b
-offer-added k channel a b more same u is held = (
-  (
-    (λ c i. held.0 c (subst (λ (cs : List ℕ). In c cs) (sym more) (in-left c a.offers (channel ∷ []) i))),
-    (λ c i acts. held.1 c i (subst (λ (t : List (List ℕ)). ActsOn t c i) (ap (λ t. t.items) (sym same)) acts)),
-  ),
-  held.0 channel (subst (λ (cs : List ℕ). In channel cs) (sym more) (in-right channel a.offers (channel ∷ []) (inl refl))),
-)
-
 -- one more acts on a channel
 acts-more : (t : List (List ℕ)) (n k : ℕ) → n < length t → ActsOn (slice_set t n (list_at t n ++ k ∷ [])) n k
 acts-more [] n k less = absurd (omega arith)
@@ -129,21 +119,18 @@ get-list [] n row less is = absurd (omega arith)
 get-list (x ∷ t) zero row less is = sym is
 get-list (x ∷ t) (suc n) row less is = get-list t n row (omega arith) is
 
-pub act-added : (k channel : ℕ) (a b : Used) → channel < length a.acting.items → b.offers ≡ a.offers
+pub act-added : (k channel : ℕ) (a b : Used) → channel < length a.acting.items
     → b.acting.items ≡ slice_set a.acting.items channel (list_at a.acting.items channel ++ k ∷ []) → Adds k a (λ u. Acts u channel) b
-act-added k channel a b less same more u is held =
+act-added k channel a b less more u is held =
     let grown : Grows (slice_set a.acting.items channel (list_at a.acting.items channel ++ k ∷ [])) u.acting =
-    subst (λ (t : List (List ℕ)). Grows t u.acting) more held.1 in (
-      (
-        (λ c i. held.0 c (subst (λ (cs : List ℕ). In c cs) (sym same) i)),
-        (λ c i acts. grown c i (acts-still a.acting.items channel k c i acts)),
-      ),
+    subst (λ (t : List (List ℕ)). Grows t u.acting) more held in (
+      (λ c i acts. grown c i (acts-still a.acting.items channel k c i acts)),
       subst (λ (n : ℕ). ActsOn u.acting channel n) (sym is) (grown channel k (acts-more a.acting.items channel k less)),
     )
 
 -- ---- branches one after another
 pub parts-none : (a : Ends) → AddsParts a [] a
-parts-none a = record { count = omega arith; fits = λ offers acting e. (e, tt) }
+parts-none a = record { count = omega arith; fits = λ acting e. (e, tt) }
 
 pub parts-both : (a b c : Ends) (rs qs : List Residual) → AddsParts a rs b → AddsParts b qs c → AddsParts a (rs ++ qs) c
 parts-both a b c rs qs one other = record {
@@ -152,53 +139,33 @@ parts-both a b c rs qs one other = record {
       let first = one.count in
       let second = other.count in
       omega arith;
-  fits = λ offers acting e.
-      let last = other.fits offers acting e in
-      let first = one.fits offers acting last.0 in (
+  fits = λ acting e.
+      let last = other.fits acting e in
+      let first = one.fits acting last.0 in (
         first.0,
-        each-both (known_at offers acting) (length a.offers.items) rs qs first.1
-            (subst (λ (n : ℕ). FitEach (known_at offers acting) n qs) one.count last.1),
+        each-both (known_at acting) a.count rs qs first.1 (subst (λ (n : ℕ). FitEach (known_at acting) n qs) one.count last.1),
       );
 }
 
 pub parts-more : (a b c : Ends) (r : Residual) (rs : List Residual) → AddsParts a (r ∷ []) b → AddsParts b rs c → AddsParts a (r ∷ rs) c
 parts-more a b c r rs one other = parts-both a b c (r ∷ []) rs one other
 
--- the list behind others
-list-behind : (xs more : List (List ℕ)) (x : List ℕ) → list_at (xs ++ x ∷ more) (length xs) ≡ x
-list-behind [] more x = refl
-list-behind (y ∷ xs) more x = list-behind xs more x
-
--- a branch is ended
-pub part-added : (a b : Ends) (k : ℕ) (used : Used) (r : Residual) → k ≡ length a.offers.items → Adds k a.used (λ u. Fits u r) used
-    → b.offers.items ≡ a.offers.items ++ used.offers ∷ [] → b.used.acting ≡ used.acting → AddsParts a (r ∷ []) b
-part-added a b k used r number adds more same = record {
-  count =
-      let size = length-append a.offers.items (used.offers ∷ []) in
-      let all = ap length more in
-      omega arith;
-  fits = λ offers acting e.
-      let split : offers ≡ a.offers.items ++ used.offers ∷ e.0.0 =
-      e.0.1 ∙ (ap (λ xs. xs ++ e.0.0) more ∙ append_assoc a.offers.items (used.offers ∷ []) e.0.0) in
-      let grows : Grows used.acting.items acting =
-      subst (λ (t : List (List ℕ)). Grows t acting) (ap (λ v. v.items) same) e.1 in
-      let here : list_at offers (length a.offers.items) ≡ used.offers =
-      ap (λ xs. list_at xs (length a.offers.items)) split ∙ list-behind a.offers.items e.0.0 used.offers in
-      let u : Known = known_at offers acting (length a.offers.items) in
-      let held : Holds used u = ((λ c i. subst (λ (cs : List ℕ). In c cs) (sym here) i), grows) in
-      let before = adds u (sym number) held in (
-        ((used.offers ∷ e.0.0, split), before.0.1),
-        (before.1, tt),
-      );
+-- a branch more
+pub part-added : (a b : Ends) (k : ℕ) (r : Residual) → k ≡ a.count → b.count ≡ k + 1 → Adds k a.used (λ u. Fits u r) b.used
+    → AddsParts a (r ∷ []) b
+part-added a b k r number more adds = record {
+  count = omega arith;
+  fits = λ acting held.
+      let before = adds (known_at acting a.count) (sym number) held in (before.0, (before.1, tt));
 }
 
 -- those of a system
-pub are-ends : (system : System) (a b c : Ends) → a.offers.items ≡ [] → AddsParts a (parts_of system.main (parallel_of system.main)) b
+pub are-ends : (system : System) (a b c : Ends) → a.count ≡ 0 → AddsParts a (parts_of system.main (parallel_of system.main)) b
     → AddsParts b (map branch_of system.environment) c → AreEnds system c
 are-ends system a b c none body ports =
     let all = parts-both a b c (parts_of system.main (parallel_of system.main)) (map branch_of system.environment) body ports in
-    subst (λ (n : ℕ). FitEach (known_at c.offers.items c.used.acting.items) n (parts system)) (ap length none)
-    (all.fits c.offers.items c.used.acting.items (([], sym (append-nil c.offers.items)), λ n i acts. acts)).1
+    subst (λ (n : ℕ). FitEach (known_at c.used.acting.items) n (parts system)) none
+    (all.fits c.used.acting.items (λ n i acts. acts)).1
 
 -- a loop over branches
 pub parts-on : {X : Type 0} (f : X → Residual) (xs : List X) (i : ℕ) (x : X) (a b : Ends) → drop i xs ≡ x ∷ drop (i + 1) xs

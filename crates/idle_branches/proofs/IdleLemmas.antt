@@ -5,21 +5,23 @@ use Rattle.address.specs.Places.{Before}
 use Rattle.address.specs.declared.Entry.{Entry}
 use Rattle.address.specs.declared.Entry.TheVariants.{Ordered, Branch}
 use Rattle.syntax.specs.Lists.{In, Every}
-use Rattle.system.specs.Expression.{Store}
 use Rattle.system.specs.declared.command.Command.{Command}
 use Rattle.system.specs.declared.system.System.{System}
 use Rattle.system_places.specs.SystemBranches.{parallel_of, branch_at, branch_of_port, branch_within, child_number}
 use Rattle.sharing_check.specs.Rule.{is_shared, SharesWell}
-use Rattle.runs.specs.Moves.{Place}
+use Rattle.runs.specs.Moves.{Place, Move, sends, syncs, releases}
 use Rattle.runs.specs.Dependence.{Directly, Earlier, SomeBefore}
-use Rattle.runs.specs.Events.{Located, Makes, assigning, testing, turning, meeting, opening as opens_with_data, opening_without_data, shutting, syncing, acting, places}
+use Rattle.runs.specs.Events.{Located, at, Makes, assigning, testing, turning, meeting, opening as opens_with_data, opening_without_data, shutting, syncing, acting, places}
 use Rattle.runs.specs.Steps.{State, Run, Step, Allowed, opening}
 use Rattle.runs.specs.declared.event.Event.{Event}
+use Rattle.runs.proofs.public.AtOnce.{Offers, OffersAll, offered}
 use Rattle.runs.proofs.public.FromOpening.{ordered, states_are_well_formed}
-use Rattle.runs.proofs.public.Orders.{Last, past, run-join}
-use Rattle.idle_branches.specs.Idle.{AreEnds, Faces, IdleIn, Passes, StaysIdle, TakesPart, TouchesNoShared}
+use Rattle.runs.proofs.public.Orders.{Last, past, run-formed, run-join}
+use Rattle.local_actions.specs.Actions.{Decided, Offered, action_of}
+use Rattle.local_actions.specs.declared.action.LocalAction.{LocalAction}
+use Rattle.idle_branches.specs.Idle.{AreEnds, IdleIn, Passes, StaysIdle, TakesPart, TouchesNoShared, given_on}
 use Rattle.idle_branches.specs.declared.ends.Ends.{Ends}
-use Rattle.idle_branches.specs.internal.Known.{Known, known_at}
+use Rattle.idle_branches.specs.internal.Known.{ActsOn, Known, known_at}
 use Rattle.idle_branches.proofs.ChainLemmas.{FitsLocated, moves-fit, run-keeps, whole-opens}
 
 -- a place before another lies in its branch
@@ -50,44 +52,62 @@ earlier-end : (h : List Event) (e x : Event) → Earlier (h ++ e ∷ x ∷ []) e
 earlier-end [] e x = inl (refl, inl refl)
 earlier-end (y ∷ h) e x = inr (earlier-end h e x)
 
+-- what a move is that the state offers
+shown : (T : State) (a : Place) (m : Move) → Offers T.residual (at a m) → Decided T.store m
+    → Offered T (record { place = a; action = action_of T.store m })
+shown T a m o d = record { move = m; after = o.0; possible = o.1; decided = d; shown = refl }
+
 module _ (system : System) (ends : Ends) where
   abbrev known : ℕ → Known
-  known k = known_at ends.offers.items ends.used.acting.items k
+  known k = known_at ends.used.acting.items k
 
-  -- the side of an event that does not act faces the branch that acts
-  faces : (s : Store) (ls : List Located) (x : Event) (b : Place) (j k : ℕ) → Makes s ls x → Every (FitsLocated known system) ls
-      → In b (places x) → branch_at system b ≡ Some j → branch_at system (acting x) ≡ Some k → (b ≡ acting x) ⊎ Faces ends j k
-  faces s ls x b j k (assigning a y w e) f (inl is) at acts = inl is
-  faces s ls x b j k (assigning a y w e) f (inr bad) at acts = absurd bad
-  faces s ls x b j k (testing a d n g) f (inl is) at acts = inl is
-  faces s ls x b j k (testing a d n g) f (inr bad) at acts = absurd bad
-  faces s ls x b j k (turning a) f (inl is) at acts = inl is
-  faces s ls x b j k (turning a) f (inr bad) at acts = absurd bad
-  faces s ls x b j k (meeting a c d w e y p) f (inl is) at acts = inr (d, f.0 j (ap (branch_at system) (sym is) ∙ at), f.1.0 k acts)
-  faces s ls x b j k (meeting a c d w e y p) f (inr (inl is)) at acts = inl is
-  faces s ls x b j k (meeting a c d w e y p) f (inr (inr bad)) at acts = absurd bad
-  faces s ls x b j k (opens_with_data a c d w n e p) f (inl is) at acts = inr (d, f.0 j (ap (branch_at system) (sym is) ∙ at), f.1.0 k acts)
-  faces s ls x b j k (opens_with_data a c d w n e p) f (inr (inl is)) at acts = inl is
-  faces s ls x b j k (opens_with_data a c d w n e p) f (inr (inr bad)) at acts = absurd bad
-  faces s ls x b j k (opening_without_data a c d n p) f (inl is) at acts = inr (d, (f.0 j (ap (branch_at system) (sym is) ∙ at)).0, f.1.0 k acts)
-  faces s ls x b j k (opening_without_data a c d n p) f (inr (inl is)) at acts = inl is
-  faces s ls x b j k (opening_without_data a c d n p) f (inr (inr bad)) at acts = absurd bad
-  faces s ls x b j k (shutting a c d p) f (inl is) at acts = inr (d, f.0 j (ap (branch_at system) (sym is) ∙ at), f.1.0 k acts)
-  faces s ls x b j k (shutting a c d p) f (inr (inl is)) at acts = inl is
-  faces s ls x b j k (shutting a c d p) f (inr (inr bad)) at acts = absurd bad
-  faces s ls x b j k (syncing a c d p l) f (inl is) at acts = inl is
-  faces s ls x b j k (syncing a c d p l) f (inr (inl is)) at acts = inr (d, (f.1.0 j (ap (branch_at system) (sym is) ∙ at)).0, (f.0 k acts).1)
-  faces s ls x b j k (syncing a c d p l) f (inr (inr bad)) at acts = absurd bad
+  -- at the place the state offers the other side of a channel on which branch k acts
+  record Partner (T : State) (b : Place) (k : ℕ) : Type 0 where
+    pub action : LocalAction
+    pub channel : ℕ
+    pub offered : Offered T action
+    pub is : action.place ≡ b
+    pub given : given_on action.action ≡ Some channel
+    pub acts : ActsOn ends.used.acting.items channel k
 
-  -- what comes at a place behind one of e is not in a branch that e cannot bring a step
-  no-later : (s : Store) (ls : List Located) (e x : Event) (k : ℕ) → Makes s ls x → Every (FitsLocated known system) ls
-      → Passes system ends e k → branch_at system (acting x) ≡ Some k → SomeBefore e x → ⊥
-  no-later s ls e x k makes fits passes acts (a, b, in-e, in-x, before) =
-      let same = same-branch system a b before in
-      let lies = passes.in_branches a in-e in
-      elim (faces s ls x b lies.0 k makes fits in-x (sym same ∙ lies.1) acts) [
-        | inl is ↦ passes.apart (a, in-e, same ∙ ap (branch_at system) is ∙ acts)
-        | inr faced ↦ passes.faces_none lies.0 (a, in-e, lies.1) faced
+  -- the side of an event that does not act is a partner of the branch that acts
+  partner : (T : State) (ls : List Located) (x : Event) (b : Place) (k : ℕ) → Makes T.store ls x → OffersAll T.residual ls
+      → Every (FitsLocated known system) ls → In b (places x) → branch_at system (acting x) ≡ Some k → (b ≡ acting x) ⊎ Partner T b k
+  partner T ls x b k (assigning a y w e) o f (inl is) acts = inl is
+  partner T ls x b k (assigning a y w e) o f (inr bad) acts = absurd bad
+  partner T ls x b k (testing a d n g) o f (inl is) acts = inl is
+  partner T ls x b k (testing a d n g) o f (inr bad) acts = absurd bad
+  partner T ls x b k (turning a) o f (inl is) acts = inl is
+  partner T ls x b k (turning a) o f (inr bad) acts = absurd bad
+  partner T ls x b k (meeting a c d w e y p) o f (inl is) acts =
+      inr (record { action = _; channel = d; offered = shown T a (sends d w e false) o.0 tt; is = sym is; given = refl; acts = f.1.0 k acts })
+  partner T ls x b k (meeting a c d w e y p) o f (inr (inl is)) acts = inl is
+  partner T ls x b k (meeting a c d w e y p) o f (inr (inr bad)) acts = absurd bad
+  partner T ls x b k (opens_with_data a c d w n e p) o f (inl is) acts =
+      inr (record { action = _; channel = d; offered = shown T a (sends d w e true) o.0 tt; is = sym is; given = refl; acts = f.1.0 k acts })
+  partner T ls x b k (opens_with_data a c d w n e p) o f (inr (inl is)) acts = inl is
+  partner T ls x b k (opens_with_data a c d w n e p) o f (inr (inr bad)) acts = absurd bad
+  partner T ls x b k (opening_without_data a c d n p) o f (inl is) acts =
+      inr (record { action = _; channel = d; offered = shown T a (syncs d true) o.0 tt; is = sym is; given = refl; acts = f.1.0 k acts })
+  partner T ls x b k (opening_without_data a c d n p) o f (inr (inl is)) acts = inl is
+  partner T ls x b k (opening_without_data a c d n p) o f (inr (inr bad)) acts = absurd bad
+  partner T ls x b k (shutting a c d p) o f (inl is) acts =
+      inr (record { action = _; channel = d; offered = shown T a (releases d) o.0 tt; is = sym is; given = refl; acts = f.1.0 k acts })
+  partner T ls x b k (shutting a c d p) o f (inr (inl is)) acts = inl is
+  partner T ls x b k (shutting a c d p) o f (inr (inr bad)) acts = absurd bad
+  partner T ls x b k (syncing a c d p l) o f (inl is) acts = inl is
+  partner T ls x b k (syncing a c d p l) o f (inr (inl is)) acts =
+      inr (record { action = _; channel = d; offered = shown T c (syncs d false) o.1.0 tt; is = sym is; given = refl; acts = f.0 k acts })
+  partner T ls x b k (syncing a c d p l) o f (inr (inr bad)) acts = absurd bad
+
+  -- what comes at a place behind one of e is not in a branch that e cannot have brought a step
+  no-later : (T : State) (ls : List Located) (e x : Event) (k : ℕ) → Makes T.store ls x → OffersAll T.residual ls
+      → Every (FitsLocated known system) ls → Passes system ends T e k → branch_at system (acting x) ≡ Some k → SomeBefore e x → ⊥
+  no-later T ls e x k makes offers fits passes acts (a, b, in-e, in-x, before) =
+      elim (partner T ls x b k makes offers fits in-x acts) [
+        | inl is ↦ passes.apart (a, in-e, same-branch system a b before ∙ ap (branch_at system) is ∙ acts)
+        | inr met ↦ passes.faces_none
+            (met.action, met.channel, (met.offered, (a, in-e, subst (λ (q : Place). Before a q) (sym met.is) before)), met.given, met.acts)
       ]
 
 -- a test that comes out
@@ -118,8 +138,10 @@ stays-idle system ends h S T e k rule are run step passes idle x (U, next) acts 
     let whole = run-keeps (known system ends) system (opening system) S h (whole-opens (known system ends) system are) run in
     let after = run-keeps (known system ends) system S T (e ∷ []) whole (T, step, refl) in
     let fits = moves-fit (known system ends) system T.residual next.moves U.residual after next.moved in
-    let later = no-later system ends T.store next.moves e x k next.makes fits passes acts in
+    let formed = states_are_well_formed system h S run in
+    let offers = offered T.residual U.residual T.store next.moves x (run-formed S T (e ∷ []) formed (T, step, refl)) next.makes next.moved in
+    let later = no-later system ends T next.moves e x k next.makes offers fits passes acts in
     let all : Run (opening system) (h ++ e ∷ x ∷ []) U = run-join (opening system) S U h (e ∷ x ∷ []) run (T, step, (U, next, refl)) in
-    let last = past S T U e (x ∷ []) (states_are_well_formed system h S run) step (U, next, refl)
+    let last = past S T U e (x ∷ []) formed step (U, next, refl)
     (not-direct system h U e x rule all passes.unshared later, tt) in
     idle x (last.run.0, last.run.1) acts

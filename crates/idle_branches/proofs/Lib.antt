@@ -1,3 +1,4 @@
+mod BehindLemmas
 mod ChainLemmas
 mod FitsLemmas
 mod GatherLemmas

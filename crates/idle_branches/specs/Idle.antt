@@ -1,5 +1,6 @@
 -- Branches that have no step.
-use Rattle.std.specs.Prelude.{◌≡◌, ◌⊎◌, ℕ, List, Some, true}
+use Rattle.std.specs.Prelude.{◌≡◌, ◌⊎◌, ℕ, List, Option, None, Some, true}
+use Rattle.address.specs.Places.{Before}
 use Rattle.syntax.specs.Lists.{In}
 use Rattle.system.specs.declared.system.System.{System}
 use Rattle.system_places.specs.SystemBranches.{branch_at}
@@ -8,8 +9,12 @@ use Rattle.runs.specs.Moves.{Place}
 use Rattle.runs.specs.Events.{acting, places}
 use Rattle.runs.specs.Steps.{State, Run, Step, Allowed, opening}
 use Rattle.runs.specs.declared.event.Event.{Event}
+use Rattle.local_actions.specs.Actions.{Offered}
+use Rattle.local_actions.specs.declared.action.ActionKind.{ActionKind}
+use Rattle.local_actions.specs.declared.action.ActionKind.TheVariants.{Sends, Syncs, Releases}
+use Rattle.local_actions.specs.declared.action.LocalAction.{LocalAction}
 use Rattle.idle_branches.specs.declared.ends.Ends.{Ends}
-use Rattle.idle_branches.specs.internal.Known.{ActsOn, FitEach, known_at, list_at, parts}
+use Rattle.idle_branches.specs.internal.Known.{ActsOn, FitEach, known_at, parts}
 
 -- no event that is allowed in S acts in branch k
 abbrev pub IdleIn : System → State → ℕ → Type 0
@@ -19,13 +24,26 @@ IdleIn system S k = (x : Event) → Allowed S x → branch_at system (acting x) 
 abbrev pub TakesPart : System → Event → ℕ → Type 0
 TakesPart system e k = (a : Place) × In a (places e) × (branch_at system a ≡ Some k)
 
--- each place of the event lies in a branch
-abbrev pub InBranches : System → Event → Type 0
-InBranches system e = (a : Place) → In a (places e) → (k : ℕ) × (branch_at system a ≡ Some k)
+-- the channel at whose other side the action is, where it does not act on it alone: it sends, makes a handshake without
+-- data, or waits for the close
+abbrev pub given_on : ActionKind → Option ℕ
+given_on (Sends c v read) = Some c
+given_on (Syncs c) = Some c
+given_on (Releases c) = Some c
+given_on _ = None
 
--- branch j stands at the other side of a channel on which branch k acts
-abbrev pub Faces : Ends → ℕ → ℕ → Type 0
-Faces ends j k = (c : ℕ) × In c (list_at ends.offers.items j) × ActsOn ends.used.acting.items c k
+-- behind the event, which led to T, this is offered: it comes behind a place of the event in a sequence
+abbrev pub OffersBehind : State → Event → LocalAction → Type 0
+OffersBehind T e x = Offered T x × ((a : Place) × In a (places e) × Before a x.place)
+
+-- and it is at the other side of a channel on which branch k acts
+abbrev pub Faces : Ends → State → Event → ℕ → Type 0
+Faces ends T e k =
+    (x : LocalAction) × (c : ℕ) × OffersBehind T e x × (given_on x.action ≡ Some c) × ActsOn ends.used.acting.items c k
+
+-- among these is all that the state offers behind the place
+abbrev pub HasBehind : State → Place → List LocalAction → Type 0
+HasBehind S a found = (x : LocalAction) → Offered S x → Before a x.place → In x found
 
 -- the event reads or writes the variable
 abbrev pub Touches : Event → ℕ → Type 0
@@ -35,20 +53,19 @@ Touches e x = (e.written ≡ Some x) ⊎ In x e.read
 abbrev pub TouchesNoShared : System → Event → Type 0
 TouchesNoShared system e = (x : ℕ) → is_shared system x ≡ true → Touches e x → ⊥
 
--- the event cannot bring branch k a step
-pub record Passes (system : System) (ends : Ends) (e : Event) (k : ℕ) : Type 0 where
-  pub in_branches : InBranches system e
+-- the event, which led to T, cannot have brought branch k a step
+pub record Passes (system : System) (ends : Ends) (T : State) (e : Event) (k : ℕ) : Type 0 where
   pub apart : TakesPart system e k → ⊥
-  pub faces_none : (j : ℕ) → TakesPart system e j → Faces ends j k → ⊥
+  pub faces_none : Faces ends T e k → ⊥
   pub unshared : TouchesNoShared system e
 
--- all channels that the branches use are known
+-- all channels on which the branches act are known
 abbrev pub AreEnds : System → Ends → Type 0
-AreEnds system ends = FitEach (known_at ends.offers.items ends.used.acting.items) 0 (parts system)
+AreEnds system ends = FitEach (known_at ends.used.acting.items) 0 (parts system)
 
 -- a branch that has no step has none behind an event that cannot bring it one
 abbrev pub StaysIdle : Type 0
 StaysIdle =
     (system : System) (ends : Ends) (h : List Event) (S T : State) (e : Event) (k : ℕ) → SharesWell system →
-    AreEnds system ends → Run (opening system) h S → Step S e T → Passes system ends e k → IdleIn system S k →
+    AreEnds system ends → Run (opening system) h S → Step S e T → Passes system ends T e k → IdleIn system S k →
     IdleIn system T k

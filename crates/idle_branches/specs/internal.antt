@@ -1,3 +1,4 @@
+pub mod Behind
 pub mod Gathered
 pub mod Gathering
 pub mod Known

@@ -1,5 +1,5 @@
-// The channels that the branches of a system use.
-ghost use Rattle.std.specs.Prelude.{◌≡◌, ℕ, ◌∷◌, ◌++◌, [], length, map, true, Some, IfOk, MatchBool, OnOk};
+// The channels on which the branches of a system act.
+ghost use Rattle.std.specs.Prelude.{◌≡◌, ℕ, ◌∷◌, [], map, true, Some, IfOk, MatchBool, OnOk};
 ghost use Rattle.syntax.specs.Lists.{In};
 ghost use Rattle.std.specs.Option.{option_copied};
 ghost use Rattle.system.specs.Translation.{residual_of, branch_of};
@@ -13,15 +13,15 @@ use crate::used::{Used, add_command};
 use runs::Event;
 use sharing_check::Checked;
 use std::alloc::{AllocError, Global};
-use std::mem;
 use syntax::Items;
 use system::{Action, Branch, Command, System};
 
-/// For each branch of a system the channels at whose other side it stands, and for each channel the branches that act
-/// on it: of a meeting the receiver, of two handshakes without data both.
+/// For each channel of a system the branches that act on it: of a meeting the receiver, of two handshakes without data
+/// both.
 #[derive(Drop)]
 pub struct Ends {
-    pub(crate) offers: Vec<Items<u32>>,
+    /// so many branches were gone through
+    pub(crate) count: u64,
     pub(crate) used: Used,
 }
 
@@ -32,16 +32,9 @@ impl Ends {
     {
         let system = checked.system();
         let mut ends = Ends::none(alloc, system.channels.len())?;
-        ends.add_body(alloc, &system.main)?;
-        ends.add_ports(alloc, system.environment.as_slice())?;
+        ends.add_body(&system.main)?;
+        ends.add_ports(system.environment.as_slice())?;
         Ok(ends)
-    }
-
-    /// The channels at whose other side the branch stands.
-    pub fn offered_by(&self, branch: u32) -> &[u32]
-        ensures { result.now ≡ list_at self.now.offers.items branch }
-    {
-        list_in(self.offers.as_slice(), branch)
     }
 
     /// The branches that act on the channel.
@@ -53,96 +46,84 @@ impl Ends {
 
     /// No branches yet, of a system of so many channels.
     fn none(alloc: Global, channels: usize) -> Result<Ends, AllocError>
-        ensures { IfOk result (λ ends. ends.offers.items ≡ []) }
+        ensures { IfOk result (λ ends. ends.count ≡ 0) }
     {
         let mut acting = Vec::with_capacity(alloc, channels)?;
         for number in 0..channels {
             acting.push(Items::new(alloc))?;
         }
         Ok(Ends {
-            offers: Vec::new(alloc),
-            used: Used {
-                offers: Items::new(alloc),
-                acting,
-            },
+            count: 0,
+            used: Used { acting },
         })
     }
 
     /// Adds the branches of the body: its children where it is a parallel, else itself.
-    fn add_body(&mut self, alloc: Global, body: &Command) -> Result<(), AllocError>
+    fn add_body(&mut self, body: &Command) -> Result<(), AllocError>
         ensures { OnOk result
             (AddsParts self.old (parts_of body.now (places.parallel_of body.now)) self.new) }
     {
         match parallel_of(body) {
-            Some(children) => self.add_children(alloc, children.as_slice()),
-            None => self.add_alone(alloc, body),
+            Some(children) => self.add_children(children.as_slice()),
+            None => self.add_alone(body),
         }
     }
 
     /// Adds the body as one branch.
-    fn add_alone(&mut self, alloc: Global, body: &Command) -> Result<(), AllocError>
+    fn add_alone(&mut self, body: &Command) -> Result<(), AllocError>
         ensures { OnOk result (AddsParts self.old (residual_of body.now ∷ []) self.new) }
     {
-        self.add_branch(alloc, body)
+        self.add_branch(body)
     }
 
     /// Adds these as branches.
-    fn add_children(&mut self, alloc: Global, children: &[Command]) -> Result<(), AllocError>
+    fn add_children(&mut self, children: &[Command]) -> Result<(), AllocError>
         ensures { OnOk result (AddsParts self.old (map residual_of children.now) self.new) }
     {
         for child in children {
-            self.add_branch(alloc, child)?;
+            self.add_branch(child)?;
         }
         Ok(())
     }
 
     /// Adds the environment at each port as a branch.
-    fn add_ports(&mut self, alloc: Global, ports: &[Branch]) -> Result<(), AllocError>
+    fn add_ports(&mut self, ports: &[Branch]) -> Result<(), AllocError>
         ensures { OnOk result (AddsParts self.old (map branch_of ports.now) self.new) }
     {
         for port in ports {
-            self.add_port(alloc, port)?;
+            self.add_port(port)?;
         }
         Ok(())
     }
 
     /// Adds a command as a branch.
-    fn add_branch(&mut self, alloc: Global, command: &Command) -> Result<(), AllocError>
+    fn add_branch(&mut self, command: &Command) -> Result<(), AllocError>
         ensures { OnOk result (AddsParts self.old (residual_of command.now ∷ []) self.new) }
     {
         let number = self.next_number()?;
         add_command(command, number, &mut self.used)?;
-        self.end_branch(alloc)
+        self.count = u64::from(number) + 1;
+        Ok(())
     }
 
     /// Adds the environment at a port as a branch.
-    fn add_port(&mut self, alloc: Global, port: &Branch) -> Result<(), AllocError>
+    fn add_port(&mut self, port: &Branch) -> Result<(), AllocError>
         ensures { OnOk result (AddsParts self.old (branch_of port.now ∷ []) self.new) }
     {
         let number = self.next_number()?;
         self.used.add_port(number, port)?;
-        self.end_branch(alloc)
+        self.count = u64::from(number) + 1;
+        Ok(())
     }
 
     /// The number of the next branch. It is an error if it has not 32 bits.
     fn next_number(&self) -> Result<u32, AllocError>
-        ensures { IfOk result (λ number. number ≡ length self.now.offers.items) }
+        ensures { IfOk result (λ number. number ≡ self.now.count) }
     {
-        let count = self.offers.len();
-        if count > 4294967295 {
+        if self.count > 4294967295 {
             return Err(AllocError);
         }
-        Ok(count as u32)
-    }
-
-    /// Ends the branch that is gone through.
-    fn end_branch(&mut self, alloc: Global) -> Result<(), AllocError>
-        ensures offers { OnOk result (self.new.offers.items ≡ self.old.offers.items ++ self.old.used.offers ∷ []) }
-        ensures acting { self.new.used.acting ≡ self.old.used.acting }
-    {
-        let offers = mem::replace(&mut self.used.offers, Items::new(alloc));
-        self.offers.push(offers)?;
-        Ok(())
+        Ok(self.count as u32)
     }
 }
 

@@ -1,32 +1,23 @@
-// The channels that a command uses, by their sides.
+// The channels on which a command acts.
 ghost use Rattle.std.specs.Prelude.{◌≡◌, map, OnOk};
 ghost use Rattle.std.specs.Option.{option_map};
 ghost use Rattle.system.specs.Translation.{residual_of, branch_of};
 ghost use Rattle.system.specs.internal.ArmParts.{guarded_of, labelled_of, arm_of};
-ghost use Rattle.idle_branches.specs.internal.Known.{Acts, Fits, Offers};
+ghost use Rattle.idle_branches.specs.internal.Known.{Acts, Fits};
 ghost use Rattle.idle_branches.specs.internal.Gathering.{Adds, FitsAll, FitsEachArm, FitsLast};
 
 use std::alloc::AllocError;
 use syntax::Items;
 use system::{Action, Arm, Branch, Command, Guarded, Labelled};
 
-/// The channels that branches use.
+/// The channels on which branches act.
 #[derive(Drop)]
 pub(crate) struct Used {
-    /// those at whose other side the branch stands that is gone through
-    pub offers: Items<u32>,
     /// for each channel the branches that act on it, one as often as it does
     pub acting: Vec<Items<u32>>,
 }
 
 impl Used {
-    /// Adds a channel at whose other side the branch stands.
-    fn add_offer(&mut self, branch: u32, channel: u32) -> Result<(), AllocError>
-        ensures { OnOk result (Adds branch self.old (λ u. Offers u channel) self.new) }
-    {
-        self.offers.push(channel)
-    }
-
     /// Adds a branch that acts on a channel. It is an error if there is no such channel, as there is in each system.
     fn add_act(&mut self, branch: u32, channel: u32) -> Result<(), AllocError>
         ensures { OnOk result (Adds branch self.old (λ u. Acts u channel) self.new) }
@@ -38,36 +29,27 @@ impl Used {
         self.acting[index].push(branch)
     }
 
-    /// Adds a channel on which the branch makes handshakes without data.
-    fn add_sync(&mut self, branch: u32, channel: u32) -> Result<(), AllocError>
-        ensures { OnOk result (Adds branch self.old (λ u. Offers u channel × Acts u channel) self.new) }
-    {
-        self.add_offer(branch, channel)?;
-        self.add_act(branch, channel)
-    }
-
-    /// Adds the channel that a branch of the environment uses.
+    /// Adds the channel on which a branch of the environment acts, if it does on one.
     pub(crate) fn add_port(&mut self, branch: u32, port: &Branch) -> Result<(), AllocError>
         ensures { OnOk result (Adds branch self.old (λ u. Fits u (branch_of port.now)) self.new) }
     {
         match port {
-            Branch::Feed(channel, _, _) => self.add_offer(branch, *channel),
+            Branch::Feed(_, _, _) => Ok(()),
             Branch::Drain(channel) => self.add_act(branch, *channel),
-            Branch::Syncs(channel, _) => self.add_sync(branch, *channel),
+            Branch::Syncs(channel, _) => self.add_act(branch, *channel),
         }
     }
 }
 
-/// Adds the channels that a command of the branch uses.
+/// Adds the channels on which a command of the branch acts.
 #[cycle(used)]
 pub(crate) fn add_command(command: &Command, branch: u32, used: &mut Used) -> Result<(), AllocError>
     ensures { OnOk result (Adds branch used.old (λ u. Fits u (residual_of command.now)) used.new) }
 {
     match command.action.get() {
-        Action::Continue | Action::Halt | Action::Assign(_, _, _) => Ok(()),
-        Action::Send(channel, _, _) => used.add_offer(branch, channel.number),
+        Action::Continue | Action::Halt | Action::Assign(_, _, _) | Action::Send(_, _, _) => Ok(()),
         Action::Receive(channel, _) => used.add_act(branch, channel.number),
-        Action::Sync(channel) => used.add_sync(branch, channel.number),
+        Action::Sync(channel) => used.add_act(branch, channel.number),
         Action::Loop(body) => add_command(body, branch, used),
         Action::While(_, body) => add_command(body, branch, used),
         Action::If(arms, last) => {
@@ -88,7 +70,7 @@ pub(crate) fn add_command(command: &Command, branch: u32, used: &mut Used) -> Re
     }
 }
 
-/// Adds the channels that these commands use.
+/// Adds the channels on which these commands act.
 #[cycle(used)]
 fn add_all(commands: &[Command], branch: u32, used: &mut Used) -> Result<(), AllocError>
     ensures { OnOk result (Adds branch used.old (FitsAll (map residual_of commands.now)) used.new) }
@@ -99,7 +81,7 @@ fn add_all(commands: &[Command], branch: u32, used: &mut Used) -> Result<(), All
     Ok(())
 }
 
-/// Adds the channels that the arms of an `if` use.
+/// Adds the channels on which the arms of an `if` act.
 #[cycle(used)]
 fn add_guarded(arms: &[Guarded], branch: u32, used: &mut Used) -> Result<(), AllocError>
     ensures { OnOk result (Adds branch used.old
@@ -111,7 +93,7 @@ fn add_guarded(arms: &[Guarded], branch: u32, used: &mut Used) -> Result<(), All
     Ok(())
 }
 
-/// Adds the channels that the arms of a `case` use.
+/// Adds the channels on which the arms of a `case` act.
 #[cycle(used)]
 fn add_labelled(arms: &[Labelled], branch: u32, used: &mut Used) -> Result<(), AllocError>
     ensures { OnOk result (Adds branch used.old
@@ -123,7 +105,7 @@ fn add_labelled(arms: &[Labelled], branch: u32, used: &mut Used) -> Result<(), A
     Ok(())
 }
 
-/// Adds the channels that the arms of a `select` or an `arbitrate` use.
+/// Adds the channels on which the arms of a `select` or an `arbitrate` act.
 #[cycle(used)]
 fn add_arms(arms: &[Arm], branch: u32, used: &mut Used) -> Result<(), AllocError>
     ensures { OnOk result (Adds branch used.old (FitsEachArm (map arm_of arms.now)) used.new) }
@@ -135,7 +117,7 @@ fn add_arms(arms: &[Arm], branch: u32, used: &mut Used) -> Result<(), AllocError
     Ok(())
 }
 
-/// Adds the channels that are used behind an `else`.
+/// Adds the channels on which is acted behind an `else`.
 #[cycle(used)]
 fn add_last(last: &Option<Command>, branch: u32, used: &mut Used) -> Result<(), AllocError>
     ensures { OnOk result (Adds branch used.old (FitsLast (option_map residual_of last.now)) used.new) }

@@ -109,7 +109,7 @@ module _ (ends : Ends) where
 
   -- one is awake, and has a step or is refused
   pub between-ends : (from next to : ℕ) (b m : AtBench) (asleep s : List Bool) (r : Reply) → from ≤ next → next < to
-      → AllSleep asleep from next → Asked b (Command.Branch next) r m → SleepsBehind ends m.desk.machine.checked next r asleep s
+      → AllSleep asleep from next → Asked b (Command.Branch next) r m → SleepsBehind ends m.desk.machine next r asleep s
       → is_busy r ≡ true → AsksBetween ends from to b asleep (Some r) m s
   between-ends from next to b m asleep s r low less sleep asked behind busy count rest inside =
       let high : next ≤ to = omega arith in
@@ -123,7 +123,7 @@ module _ (ends : Ends) where
   -- one is awake and idle
   one-more : (count from next to rest : ℕ) (b m b' : AtBench) (asleep s asleep' : List Bool) (r reply : Reply) → from ≤ next → next < to
       → to ≤ count → AllSleep asleep from next → Asked b (Command.Branch next) r m
-      → SleepsBehind ends m.desk.machine.checked next r asleep s → is_busy r ≡ false
+      → SleepsBehind ends m.desk.machine next r asleep s → is_busy r ≡ false
       → Left count m s (rest + (to - (next + 1))) (next + 1) reply b' asleep'
       → Left count b asleep (rest + (to - from)) from reply b' asleep'
   one-more count from next to rest b m b' asleep s asleep' r reply low less inside sleep asked behind idle h =
@@ -138,7 +138,7 @@ module _ (ends : Ends) where
   -- one is awake and idle, and then those behind it
   pub between-goes-on : (from next to : ℕ) (b m b'' : AtBench) (asleep s s'' : List Bool) (r : Reply) (told : Option Reply)
       → from ≤ next → next < to → AllSleep asleep from next → Asked b (Command.Branch next) r m
-      → SleepsBehind ends m.desk.machine.checked next r asleep s → is_busy r ≡ false → AsksBetween ends (next + 1) to m s told b'' s''
+      → SleepsBehind ends m.desk.machine next r asleep s → is_busy r ≡ false → AsksBetween ends (next + 1) to m s told b'' s''
       → AsksBetween ends from to b asleep told b'' s''
   between-goes-on from next to b m b'' asleep s s'' r None low less sleep asked behind idle h =
       λ count rest reply b' asleep' inside then.

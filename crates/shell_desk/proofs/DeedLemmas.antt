@@ -11,7 +11,7 @@ use Rattle.locked_execution.specs.Performs.{Answers}
 use Rattle.locked_execution.specs.declared.command.Command.{Command}
 use Rattle.locked_execution.specs.declared.command.Reply.{Reply}
 use Rattle.shell_desk.specs.AtBench.{AtBench}
-use Rattle.shell_desk.specs.Does.{Asked, AsksIfAny, GoesBack, InTurn, IsNewest, OneTurn, Runs, RunsFrom, RunsPast, end_of, ended_at, ends_run, ends_way, first_of, held_of, is_busy, next_of, numbered_as}
+use Rattle.shell_desk.specs.Does.{Asked, AsksIfAny, GoesBack, InTurn, IsNewest, OneTurn, Runs, RunsFrom, RunsPast, end_of, ended_at, ends_run, ends_way, first_of, held_of, is_busy, next_of, numbered_as, TurnsSession}
 use Rattle.shell_desk.specs.Laws.{EachDeedIsCommands, Leaves, of_session}
 use Rattle.shell_desk.specs.declared.deed.Deed.{Deed}
 use Rattle.shell_desk.specs.declared.deed.Done.{Done}
@@ -276,10 +276,10 @@ asks-leave : (session : ℕ) (b b' : AtBench) (c : Option Command) (done : Done)
 asks-leave session b b' None done same h = still session b b' h.1
 asks-leave session b b' (Some c) done same h = asked-then session b b' b' c h.0 same h.1 (nothing-left session b')
 
--- another session: the desk is as it was
-turned-leaves : (session k : ℕ) (b b' : AtBench)
-    → b' ≡ record { desk = b.desk; session = k; numbered = b.numbered; branch = b.branch; stopped = None } → Leaves session b b'
-turned-leaves session k b b' e = ([], [], (refl, ap (λ (x : AtBench). x.desk) e))
+-- another session, or the one at hand: the desk is as it was
+turned-leaves : (session k : ℕ) (b b' : AtBench) → TurnsSession k b b' → Leaves session b b'
+turned-leaves session k b b' (inl (same, e)) = still session b b' e
+turned-leaves session k b b' (inr (other, e)) = ([], [], (refl, ap (λ (x : AtBench). x.desk) e))
 
 -- whatever is done
 pub each-deed : EachDeedIsCommands

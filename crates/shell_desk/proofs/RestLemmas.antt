@@ -30,7 +30,7 @@ use Rattle.locked_execution.specs.declared.command.Command.{Command}
 use Rattle.locked_execution.specs.declared.command.Reply.{Reply}
 use Rattle.shell_desk.specs.AtBench.{AtBench}
 use Rattle.shell_desk.specs.Does.{Asked, InTurn, OneTurn, first_of, is_busy, next_of}
-use Rattle.shell_desk.specs.internal.Sleeping.{AwakeInTurn, IsAsleep, Resting, Rests, SleepsBehind}
+use Rattle.shell_desk.specs.internal.Sleeping.{AwakeInTurn, IsAsleep, PassesNow, Resting, Rests, SleepsBehind}
 
 -- ---- lists by a test
 pick-none : {X : Type 0} (p : X → Bool) (x : X) (xs : List X) (b : Bool) → p x ≡ b → (p x ≡ true → ⊥) → filter p xs ≡ []
@@ -98,7 +98,7 @@ rests-asked b k h' sound (T, es, reaches, ready, (none, same)) U other x allowed
 
 -- one to whom a step brings none
 rests-stepped : StaysIdle → (ends : Ends) (b : AtBench) (h' : AtMachine) (e : Event) (k : ℕ) → Good b → AreEnds b.desk.machine.checked ends
-    → h'.checked ≡ b.desk.machine.checked → object h' ≡ with_event (execution b.desk) e → Passes h'.checked ends e k → Rests b k
+    → h'.checked ≡ b.desk.machine.checked → object h' ≡ with_event (execution b.desk) e → PassesNow ends h' e k → Rests b k
     → (T : State) → Reaches (object h') T → IdleIn h'.checked T k
 rests-stepped law ends b h' e k good are system more passes rests T reaches =
     let all : Reaches (with_event (execution b.desk) e) T = subst (λ (o : Object). Reaches o T) more reaches in
@@ -109,7 +109,7 @@ rests-stepped law ends b h' e k good are system more passes rests T reaches =
     let step : Step parts.middle e T = subst (λ (S : State). Step parts.middle e S) parts.second.2 parts.second.1 in
     subst (λ s. IdleIn s T k) (sym system)
     (law b.desk.machine.checked ends (events b.desk.machine.live) parts.middle T e k good.1 are parts.first step
-    (subst (λ s. Passes s ends e k) system passes) (rests parts.middle parts.first))
+    (subst (λ s. Passes s ends T e k) system (passes T reaches)) (rests parts.middle parts.first))
 
 -- ---- one command
 module _ (law : StaysIdle) (ends : Ends) where
@@ -124,7 +124,7 @@ module _ (law : StaysIdle) (ends : Ends) where
   -- a reply to a step of a branch, and who sleeps behind it
   rests-behind : (b m : AtBench) (k : ℕ) (answer : BranchReply) (asleep s : List Bool) → Good b
       → StepsBranch b.desk.machine k (breaks_of b.desk b.session) answer m.desk.machine → m.desk.machine.checked ≡ b.desk.machine.checked
-      → SleepsBehind ends m.desk.machine.checked k (branch_reply answer) asleep s → Resting ends b asleep → Resting ends m s
+      → SleepsBehind ends m.desk.machine k (branch_reply answer) asleep s → Resting ends b asleep → Resting ends m s
   rests-behind b m k (BranchReply.Stepped t e) asleep s good (T, es, reaches, ready, (free, steps)) system behind (are, rests) = (
     subst (λ c. AreEnds c ends) (sym system) are,
     λ i sleeps.
@@ -145,13 +145,13 @@ module _ (law : StaysIdle) (ends : Ends) where
 
   -- the same of what is asked
   pub rests-on : (b m : AtBench) (k : ℕ) (r : Reply) (asleep s : List Bool) → Good b → Asked b (Command.Branch k) r m
-      → SleepsBehind ends m.desk.machine.checked k r asleep s → Resting ends b asleep → Resting ends m s
+      → SleepsBehind ends m.desk.machine k r asleep s → Resting ends b asleep → Resting ends m s
   rests-on b m k r asleep s good (inl (answer, is, steps, system, breaks), _, _, _, _) behind resting =
       rests-behind b m k answer asleep s good steps system
-      (subst (λ (q : Reply). SleepsBehind ends m.desk.machine.checked k q asleep s) is behind) resting
+      (subst (λ (q : Reply). SleepsBehind ends m.desk.machine k q asleep s) is behind) resting
   rests-on b m k r asleep s good (inr (wanted, is, same), _, _, _, _) behind resting =
       unmoved b m asleep s (ap (λ (d : AtDesk). d.machine) same)
-      (subst (λ (q : Reply). SleepsBehind ends m.desk.machine.checked k q asleep s) is behind) resting
+      (subst (λ (q : Reply). SleepsBehind ends m.desk.machine k q asleep s) is behind) resting
 
   -- who is idle leaves the machine
   idle-same : (b m : AtBench) (k : ℕ) (r : Reply) → is_busy r ≡ false → Asked b (Command.Branch k) r m → m.desk.machine ≡ b.desk.machine

@@ -3,17 +3,28 @@ use Rattle.std.proofs.Common.{◌≡◌, ◌≢◌, ◌⊎◌, inl, inr, ℕ, ze
 use Rattle.std.specs.Prelude.{replicate, slice_get, slice_set}
 use Rattle.std.proofs.lemmas.Bool.{cases_lt}
 use Rattle.std.proofs.lemmas.List.{drop_more, drop_all}
+use Rattle.address.specs.Places.{Before}
 use Rattle.syntax.specs.Lists.{In}
 use Rattle.system.specs.declared.system.System.{System}
 use Rattle.system_places.specs.SystemBranches.{branch_at}
 use Rattle.runs.specs.Moves.{Place}
 use Rattle.runs.specs.Events.{places, places_of}
+use Rattle.runs.specs.Live.{events}
+use Rattle.runs.specs.Object.{Reaches}
+use Rattle.runs.specs.Sound.{Sound}
+use Rattle.runs.specs.Steps.{State}
+use Rattle.runs.specs.WellFormed.{WellFormed}
 use Rattle.runs.specs.declared.event.Event.{Event}
-use Rattle.idle_branches.specs.Idle.{Faces, Passes, TouchesNoShared}
+use Rattle.runs.proofs.public.Effects.{sound-formed}
+use Rattle.runs.proofs.public.Orders.{run-formed}
+use Rattle.runs.proofs.public.StateLaws.{reaches-one}
+use Rattle.local_actions.specs.Actions.{Offered}
+use Rattle.local_actions.specs.declared.action.LocalAction.{LocalAction}
+use Rattle.idle_branches.specs.Idle.{Faces, HasBehind, Passes, TouchesNoShared}
 use Rattle.idle_branches.specs.declared.ends.Ends.{Ends}
-use Rattle.idle_branches.specs.internal.Known.{ActsOn, list_at}
+use Rattle.machine.specs.AtMachine.{AtMachine, object}
 use Rattle.locked_execution.specs.declared.command.Reply.{Reply}
-use Rattle.shell_desk.specs.internal.Sleeping.{AllSleep, IsAsleep, NoneSleeps, PassesAt, SleepBehindEvent, SleepBehindPlaces, SleepBut, SleepButFaced, SleepButThese, SleepsBehind}
+use Rattle.shell_desk.specs.internal.Sleeping.{AllSleep, FacedAt, FacedBy, IsAsleep, NoneSleeps, PassesAt, PassesNow, SleepBehindEvent, SleepBehindPlaces, SleepBut, SleepButAt, SleepButFaced, SleepButFacedAt, SleepButThese, SleepsBehind, acting_on, faced_by}
 
 -- nothing is something
 none-some : {X : Type 0} (x : X) → None ≡ Some x → ⊥
@@ -86,83 +97,118 @@ each-ends all n before after past kept i h =
     let old = kept i h in
     (old.0, λ among. subst (λ (rest : List ℕ). In i rest) (drop_all n all past) (old.1 among))
 
--- ---- on one channel after another
-abbrev KeptOn : List (List ℕ) → (List ℕ) → (List ℕ) → List Bool → List Bool → Type 0
-KeptOn acting all rest before after =
-    (i : ℕ) → IsAsleep after i → IsAsleep before i × ((c : ℕ) → In c all → ActsOn acting c i → In c rest)
+-- ---- by one action after another
+abbrev pub KeptFaced : Ends → List LocalAction → List LocalAction → List Bool → List Bool → Type 0
+KeptFaced ends all rest before after =
+    (i : ℕ) → IsAsleep after i → IsAsleep before i × (FacedBy ends all i → FacedBy ends rest i)
 
-pub faced-begins : (acting : List (List ℕ)) (all : List ℕ) (asleep : List Bool) → KeptOn acting all (drop 0 all) asleep asleep
-faced-begins acting all asleep i h = (h, λ c among acts. among)
+pub faced-begins : (ends : Ends) (all : List LocalAction) (asleep : List Bool) → KeptFaced ends all (drop 0 all) asleep asleep
+faced-begins ends all asleep i h = (h, λ faced. faced)
 
-pub faced-more : (acting : List (List ℕ)) (all : List ℕ) (n x : ℕ) (woken : List ℕ) (before between after : List Bool) → n < length all
-    → x ≡ get_or all n 0 → woken ≡ list_at acting x → KeptOn acting all (drop n all) before between
-    → SleepButThese woken between after → KeptOn acting all (drop (n + 1) all) before after
-faced-more acting all n x woken before between after less is on kept but i h =
-    let one : IsAsleep between i × (In i woken → ⊥) = but i h in
+pub faced-more : (ends : Ends) (all : List LocalAction) (n : ℕ) (x : LocalAction) (before between after : List Bool) → n < length all
+    → x ≡ get_or all n x → KeptFaced ends all (drop n all) before between → SleepButThese (faced_by ends x) between after
+    → KeptFaced ends all (drop (n + 1) all) before after
+faced-more ends all n x before between after less is kept but i h =
+    let one : IsAsleep between i × (In i (faced_by ends x) → ⊥) = but i h in
     let old = kept i one.0 in (
       old.0,
-      λ c among acts. elim (subst (λ (rest : List ℕ). In c rest) (drop_more all n 0 less) (old.1 c among acts)) [
-        | inl e ↦ absurd (one.1 (subst (λ (is : List ℕ). In i is) (sym on) (subst (λ (d : ℕ). ActsOn acting d i) (e ∙ sym is) acts)))
-        | inr more ↦ more
-      ],
+      λ faced. others one.1 (old.1 faced),
     )
+  where
+    others : (In i (faced_by ends x) → ⊥) → FacedBy ends (drop n all) i → FacedBy ends (drop (n + 1) all) i
+    others not (y, among, on) = elim (subst (λ (rest : List LocalAction). In y rest) (drop_more all n x less) among) [
+      | inl e ↦ absurd (not (subst (λ (z : LocalAction). In i (faced_by ends z)) (e ∙ sym is) on))
+      | inr more ↦ (y, more, on)
+    ]
 
-pub faced-ends : (ends : Ends) (j n : ℕ) (all : List ℕ) (before after : List Bool) → all ≡ list_at ends.offers.items j → length all ≤ n
-    → KeptOn ends.used.acting.items all (drop n all) before after → SleepButFaced ends j before after
-faced-ends ends j n all before after is past kept i h =
+pub faced-ends : (ends : Ends) (all : List LocalAction) (n : ℕ) (before after : List Bool) → length all ≤ n
+    → KeptFaced ends all (drop n all) before after → SleepButFaced ends all before after
+faced-ends ends all n before after past kept i h =
     let old = kept i h in (
       old.0,
-      λ faced. subst (λ (rest : List ℕ). In faced.0 rest) (drop_all n all past)
-          (old.1 faced.0 (subst (λ (cs : List ℕ). In faced.0 cs) (sym is) faced.1) faced.2),
+      λ faced. none (subst (λ (rest : List LocalAction). FacedBy ends rest i) (drop_all n all past) (old.1 faced)),
     )
+  where
+    none : FacedBy ends [] i → ⊥
+    none (y, among, on) = absurd among
 
 -- ---- at a place
-pub wakes-at : (system : System) (ends : Ends) (a : Place) (j : ℕ) (before between after : List Bool) → branch_at system a ≡ Some j
-    → SleepBut j before between → SleepButFaced ends j between after → SleepBehindPlaces system ends (a ∷ []) before after
-wakes-at system ends a j before between after is one faced i h =
-    let later = faced i h in
-    let sooner = one i later.0 in (
+-- the branch in which it lies
+pub there-woken : (system : System) (a : Place) (j : ℕ) (before after : List Bool) → branch_at system a ≡ Some j
+    → SleepBut j before after → SleepButAt system a before after
+there-woken system a j before after is but i h =
+    let one = but i h in
+    (one.0, λ at. one.1 (sym (some-same j i (sym is ∙ at))))
+
+pub none-there : (system : System) (a : Place) (asleep : List Bool) → branch_at system a ≡ None → SleepButAt system a asleep asleep
+none-there system a asleep is i h = (h, λ at. none-some i (sym is ∙ at))
+
+-- those that are faced by what is offered behind it
+pub faced-woken : (ends : Ends) (h : AtMachine) (a : Place) (S : State) (offers : List LocalAction) (before after : List Bool)
+    → Sound (object h) → Reaches (object h) S → HasBehind S a offers → SleepButFaced ends offers before after
+    → SleepButFacedAt ends h a before after
+faced-woken ends h a S offers before after sound here has woken i sleeps =
+    let one = woken i sleeps in
+    (one.0, λ faced. not one.1 faced)
+  where
+    not : (FacedBy ends offers i → ⊥) → FacedAt ends h a i → ⊥
+    not none (T, x, reaches, offered, behind, on) =
+        let same : T ≡ S = reaches-one (object h) T S sound reaches here in
+        none (x, has x (subst (λ (U : State). Offered U x) same offered) behind, on)
+
+-- the state is one of runs
+pub state-formed : (h : AtMachine) (S : State) → Sound (object h) → Reaches (object h) S → WellFormed S.residual
+state-formed h S sound reaches =
+    run-formed (object h).opening S (events h.live) (sound-formed (object h) sound) reaches
+
+pub faced-all-woken : (ends : Ends) (h : AtMachine) (a : Place) (before after : List Bool) → NoneSleeps after
+    → SleepButFacedAt ends h a before after
+faced-all-woken ends h a before after none i sleeps = absurd (none i sleeps)
+
+-- both
+pub wakes-at : (ends : Ends) (h : AtMachine) (a : Place) (before between after : List Bool)
+    → SleepButAt h.checked a before between → SleepButFacedAt ends h a between after
+    → SleepBehindPlaces ends h (a ∷ []) before after
+wakes-at ends h a before between after one faced i sleeps =
+    let later = faced i sleeps in
+    let sooner = one i later.0 in
+    let passes : PassesAt ends h a i = record { elsewhere = sooner.1; faced_by_none = later.1 } in (
       sooner.0,
       λ b among. elim among [
-        | inl same ↦ (j, ap (branch_at system) same ∙ is, sooner.1, later.1)
+        | inl same ↦ subst (λ (c : Place). PassesAt ends h c i) (sym same) passes
         | inr bad ↦ absurd bad
       ],
     )
 
-pub all-woken : (system : System) (ends : Ends) (reached : List Place) (before after : List Bool) → NoneSleeps after
-    → SleepBehindPlaces system ends reached before after
-all-woken system ends reached before after none i h = absurd (none i h)
+pub event-all-woken : (ends : Ends) (h : AtMachine) (e : Event) (before after : List Bool) → NoneSleeps after
+    → SleepBehindEvent ends h e before after
+event-all-woken ends h e before after none i sleeps = absurd (none i sleeps)
 
-pub event-all-woken : (system : System) (ends : Ends) (e : Event) (before after : List Bool) → NoneSleeps after
-    → SleepBehindEvent system ends e before after
-event-all-woken system ends e before after none i h = absurd (none i h)
-
-pub no-place : (system : System) (ends : Ends) (asleep : List Bool) → SleepBehindPlaces system ends [] asleep asleep
-no-place system ends asleep i h = (h, λ a among. absurd among)
+pub no-place : (ends : Ends) (h : AtMachine) (asleep : List Bool) → SleepBehindPlaces ends h [] asleep asleep
+no-place ends h asleep i sleeps = (sleeps, λ a among. absurd among)
 
 -- both sides of a step
-pub wakes-event : (system : System) (ends : Ends) (e : Event) (before between after : List Bool)
-    → SleepBehindPlaces system ends (e.first ∷ []) before between
-    → SleepBehindPlaces system ends (places_of e.second) between after → TouchesNoShared system e
-    → SleepBehindEvent system ends e before after
-wakes-event system ends e before between after one other unshared i h =
-    let later = other i h in
+pub wakes-event : (ends : Ends) (h : AtMachine) (e : Event) (before between after : List Bool)
+    → SleepBehindPlaces ends h (e.first ∷ []) before between → SleepBehindPlaces ends h (places_of e.second) between after
+    → TouchesNoShared h.checked e → SleepBehindEvent ends h e before after
+wakes-event ends h e before between after one other unshared i sleeps =
+    let later = other i sleeps in
     let sooner = one i later.0 in
-    let at : (a : Place) → In a (places e) → PassesAt system ends a i =
-    λ a among. elim among [ inl same ↦ sooner.1 a (inl same) | inr more ↦ later.1 a more ] in (
-      sooner.0,
-      record {
-        in_branches = λ a among. ((at a among).0, (at a among).1);
-        apart = λ part.
-            let passed = at part.0 part.1 in
-            passed.2 (sym (some-same passed.0 i (sym passed.1 ∙ part.2)));
-        faces_none = λ j part faced.
-            let passed = at part.0 part.1 in
-            let same : passed.0 ≡ j = some-same passed.0 j (sym passed.1 ∙ part.2) in
-            passed.3 (subst (λ (k : ℕ). Faces ends k i) (sym same) faced);
-        unshared = unshared;
-      },
-    )
+    let at : (a : Place) → In a (places e) → PassesAt ends h a i =
+    λ a among. elim among [ inl same ↦ sooner.1 a (inl same) | inr more ↦ later.1 a more ] in
+    (sooner.0, passes at)
+  where
+    passes : ((a : Place) → In a (places e) → PassesAt ends h a i) → PassesNow ends h e i
+    passes at T reaches = record {
+      apart = λ part. (at part.0 part.1).elsewhere part.2;
+      faces_none = λ faced. faces at T reaches faced;
+      unshared = unshared;
+    }
+      where
+        faces : ((a : Place) → In a (places e) → PassesAt ends h a i) → (T : State) → Reaches (object h) T → Faces ends T e i → ⊥
+        faces at T reaches (x, c, (offered, (a, among, behind)), given, acts) =
+            (at a among).faced_by_none
+            (T, x, reaches, offered, behind, subst (λ (o : Option ℕ). In i (acting_on ends o)) (sym given) acts)
 
 -- one more sleeps
 pub sleeps-more : (asleep : List Bool) (from n : ℕ) → AllSleep asleep from n → IsAsleep asleep n → AllSleep asleep from (n + 1)
@@ -176,17 +222,17 @@ pub sleeps-none : (asleep : List Bool) (from : ℕ) → AllSleep asleep from fro
 sleeps-none asleep from i low high = absurd (omega arith)
 
 -- behind another reply than that of a step the same sleep
-pub kept-behind : (ends : Ends) (system : System) (k : ℕ) (reply : Reply) (asleep : List Bool)
-    → ((t : ℕ) (e : Event) → reply ≡ Reply.Stepped t e → ⊥) → SleepsBehind ends system k reply asleep asleep
-kept-behind ends system k (Reply.Stepped t e) asleep none = absurd (none t e refl)
-kept-behind ends system k (Reply.Undone t e) asleep none = λ i h. h
-kept-behind ends system k (Reply.Rolled n) asleep none = λ i h. h
-kept-behind ends system k (Reply.Blamed t) asleep none = λ i h. h
-kept-behind ends system k (Reply.Ready es) asleep none = λ i h. h
-kept-behind ends system k (Reply.Consequences ts) asleep none = λ i h. h
-kept-behind ends system k (Reply.Live l) asleep none = λ i h. h
-kept-behind ends system k (Reply.Value v) asleep none = λ i h. h
-kept-behind ends system k (Reply.Stopped line) asleep none = λ i h. h
-kept-behind ends system k Reply.Idle asleep none = λ i h. inl h
-kept-behind ends system k Reply.Done asleep none = λ i h. h
-kept-behind ends system k (Reply.Refused why) asleep none = λ i h. h
+pub kept-behind : (ends : Ends) (h : AtMachine) (k : ℕ) (reply : Reply) (asleep : List Bool)
+    → ((t : ℕ) (e : Event) → reply ≡ Reply.Stepped t e → ⊥) → SleepsBehind ends h k reply asleep asleep
+kept-behind ends h k (Reply.Stepped t e) asleep none = absurd (none t e refl)
+kept-behind ends h k (Reply.Undone t e) asleep none = λ i sleeps. sleeps
+kept-behind ends h k (Reply.Rolled n) asleep none = λ i sleeps. sleeps
+kept-behind ends h k (Reply.Blamed t) asleep none = λ i sleeps. sleeps
+kept-behind ends h k (Reply.Ready es) asleep none = λ i sleeps. sleeps
+kept-behind ends h k (Reply.Consequences ts) asleep none = λ i sleeps. sleeps
+kept-behind ends h k (Reply.Live l) asleep none = λ i sleeps. sleeps
+kept-behind ends h k (Reply.Value v) asleep none = λ i sleeps. sleeps
+kept-behind ends h k (Reply.Stopped line) asleep none = λ i sleeps. sleeps
+kept-behind ends h k Reply.Idle asleep none = λ i sleeps. inl sleeps
+kept-behind ends h k Reply.Done asleep none = λ i sleeps. sleeps
+kept-behind ends h k (Reply.Refused why) asleep none = λ i sleeps. sleeps

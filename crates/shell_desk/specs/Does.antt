@@ -1,5 +1,5 @@
 -- What each deed asks of the desk, and what it leaves.
-use Rattle.std.specs.Prelude.{◌≡◌, ◌⊎◌, ℕ, zero, suc, ◌+◌, ◌-◌, ◌<◌, List, [], length, map, Option, Some, None}
+use Rattle.std.specs.Prelude.{◌≡◌, ◌≢◌, ◌⊎◌, ℕ, zero, suc, ◌+◌, ◌-◌, ◌<◌, List, [], length, map, Option, Some, None}
 use Rattle.std.specs.Prelude.{◌≤◌, nat_lt, if◌then◌else◌, slice_get, option_map, Bool, true, false, Contains, MatchBool}
 use Rattle.syntax.specs.Lists.{Every}
 use Rattle.system.specs.Expression.{is_in}
@@ -157,12 +157,17 @@ abbrev pub AsksIfAny : AtBench → Option Command → Done → AtBench → Type 
 AsksIfAny b None done b' = (done ≡ Done.Unknown) × (b' ≡ b)
 AsksIfAny b (Some c) done b' = (reply : Reply) × Asked b c reply b' × (done ≡ Done.Told reply)
 
+-- the lines are those of this session: where it is at hand nothing changes, and of another no run has ended
+abbrev pub TurnsSession : ℕ → AtBench → AtBench → Type 0
+TurnsSession session b b' =
+    ((b.session ≡ session) × (b' ≡ b))
+    ⊎ ((b.session ≢ session)
+    × (b' ≡ record { desk = b.desk; session = session; numbered = b.numbered; branch = b.branch; stopped = None }))
+
 -- the deed is done so, and leaves b'
 abbrev pub Does : AtBench → Deed → Done → AtBench → Type 0
 Does b Deed.Rest done b' = (done ≡ Done.Rested) × (b' ≡ b)
-Does b (Deed.Turn session) done b' =
-    (done ≡ Done.Rested)
-    × (b' ≡ record { desk = b.desk; session = session; numbered = b.numbered; branch = b.branch; stopped = None })
+Does b (Deed.Turn session) done b' = (done ≡ Done.Rested) × TurnsSession session b b'
 Does b (Deed.Ask c) done b' = AsksIfAny b (Some c) done b'
 Does b (Deed.Take number) done b' = AsksIfAny b (numbered_as b.numbered number) done b'
 Does b (Deed.Next k) done b' = AsksIfAny b (Some (Command.Branch k)) done b'

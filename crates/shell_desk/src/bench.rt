@@ -2,7 +2,7 @@ ghost use Rattle.std.specs.Prelude.{◌≡◌, ◌<◌};
 ghost use Rattle.machine.specs.Headline.{Headline};
 ghost use Rattle.locked_execution.specs.AtDesk.{execution};
 ghost use Rattle.shell_desk.specs.AtBench.{new_bench};
-ghost use Rattle.shell_desk.specs.Does.{Does, NamesSession};
+ghost use Rattle.shell_desk.specs.Does.{Does, NamesSession, TurnsSession};
 
 use crate::{Deed, Done, Watch};
 use locked_execution::{Command, Desk, Machine};
@@ -86,8 +86,7 @@ impl Bench {
         match deed {
             Deed::Rest => Done::Rested,
             Deed::Turn(session) => {
-                self.session = *session;
-                self.stopped = None;
+                self.turn_session(*session);
                 Done::Rested
             }
             Deed::Ask(command) => Done::Told(self.ask(command, watch)),
@@ -96,6 +95,17 @@ impl Bench {
             Deed::NextAgain => self.step_again(watch),
             Deed::Run(limit) => Done::Ran(self.run_on(*limit, watch)),
             Deed::Back(count) => Done::Back(self.go_back(*count, watch)),
+        }
+    }
+
+    /// Makes this session the one whose lines come. Of another than that at hand it is not known where a run ended.
+    fn turn_session(&mut self, session: u32)
+        requires { session < 16 }
+        ensures { TurnsSession session self.old self.new }
+    {
+        if self.session != session {
+            self.session = session;
+            self.stopped = None;
         }
     }
 

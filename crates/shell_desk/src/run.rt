@@ -183,12 +183,11 @@ impl Bench {
         watch: &mut W,
     ) -> Reply
         ensures asked { Asked self.old (CommandAt.Branch branch) result self.new }
-        ensures sleep { SleepsBehind ends.now self.new.desk.machine.checked branch result
+        ensures sleep { SleepsBehind ends.now self.new.desk.machine branch result
             sleepers.old.asleep.items sleepers.new.asleep.items }
     {
         let reply = self.ask(&Command::Branch(branch), watch);
-        let system = self.desk.machine().checked().system();
-        sleepers.note(system, ends, branch, &reply);
+        sleepers.note(self.desk.machine(), ends, branch, &reply);
         reply
     }
 

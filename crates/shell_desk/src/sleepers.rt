@@ -2,11 +2,12 @@
 ghost use Rattle.std.specs.Prelude.{◌≡◌, ◌∷◌, [], ◌⊎◌, ◌<◌, ◌≤◌, ℕ, IfOk, MatchBool, MatchOption};
 ghost use Rattle.runs.specs.Events.{places_of};
 ghost use Rattle.idle_branches.specs.Idle.{AreEnds};
-ghost use Rattle.shell_desk.specs.internal.Sleeping.{AllSleep, IsAsleep, NoneSleeps, SleepBehindEvent, SleepBehindPlaces, SleepBut, SleepButFaced, SleepButThese, SleepsBehind};
+ghost use Rattle.shell_desk.specs.internal.Sleeping.{AllSleep, IsAsleep, NoneSleeps, SleepBehindEvent, SleepBehindPlaces, SleepBut, SleepButAt, SleepButFaced, SleepButFacedAt, SleepButThese, SleepsBehind, faced_by};
 
 use address::Address;
-use idle_branches::{Ends, touches_shared};
-use locked_execution::{Event, Reply};
+use idle_branches::{Ends, given_on, offers_behind, touches_shared};
+use local_actions::LocalAction;
+use locked_execution::{Event, Machine, Reply};
 use std::alloc::{AllocError, Global};
 use system::System;
 use system_places::branch_at;
@@ -53,62 +54,78 @@ impl Sleepers {
         None
     }
 
-    /// Keeps in mind who sleeps behind this reply to a branch: the branch, where it has no step; no more those to whom
-    /// a step may have brought one.
-    pub(crate) fn note(&mut self, system: &System, ends: &Ends, branch: u32, reply: &Reply)
-        ensures { SleepsBehind ends.now system.now branch reply.now self.old.asleep.items self.new.asleep.items }
+    /// Keeps in mind who sleeps behind this reply to a branch, which the machine gave last: the branch, where it has no
+    /// step; no more those to whom a step may have brought one.
+    pub(crate) fn note(&mut self, machine: &Machine, ends: &Ends, branch: u32, reply: &Reply)
+        ensures { SleepsBehind ends.now machine.now branch reply.now self.old.asleep.items self.new.asleep.items }
     {
         match reply {
             Reply::Idle => self.lull(branch),
-            Reply::Stepped(_, event) => self.wake_behind(system, ends, event),
+            Reply::Stepped(_, event) => self.wake_behind(machine, ends, event),
             _ => {}
         }
     }
 
-    /// Wakes those to whom the event may have brought a step: who took part in it, who acts on a channel at whose other
-    /// side one of these stands, and all where it is on a shared variable.
-    fn wake_behind(&mut self, system: &System, ends: &Ends, event: &Event)
-        ensures { SleepBehindEvent system.now ends.now event.now self.old.asleep.items self.new.asleep.items }
+    /// Wakes those to whom the event may have brought a step: who took part in it, who acts on a channel whose other
+    /// side is offered behind it, and all where it is on a shared variable.
+    fn wake_behind(&mut self, machine: &Machine, ends: &Ends, event: &Event)
+        ensures { SleepBehindEvent ends.now machine.now event.now self.old.asleep.items self.new.asleep.items }
     {
-        if touches_shared(system, event) {
+        if touches_shared(machine.checked().system(), event) {
             self.wake_all();
         } else {
-            self.wake_at(system, ends, &event.first);
-            self.wake_second(system, ends, &event.second);
+            self.wake_at(machine, ends, &event.first);
+            self.wake_second(machine, ends, &event.second);
         }
     }
 
     /// Wakes those to whom a step at the place may have brought one, if there is one.
-    fn wake_second(&mut self, system: &System, ends: &Ends, second: &Option<Address>)
-        ensures { SleepBehindPlaces system.now ends.now (places_of second.now)
+    fn wake_second(&mut self, machine: &Machine, ends: &Ends, second: &Option<Address>)
+        ensures { SleepBehindPlaces ends.now machine.now (places_of second.now)
             self.old.asleep.items self.new.asleep.items }
     {
         match second {
-            Some(place) => self.wake_at(system, ends, place),
+            Some(place) => self.wake_at(machine, ends, place),
             None => {}
         }
     }
 
-    /// Wakes those to whom a step at the place may have brought one: all where it lies in no branch.
-    fn wake_at(&mut self, system: &System, ends: &Ends, place: &Address)
-        ensures { SleepBehindPlaces system.now ends.now (place.now ∷ [])
-            self.old.asleep.items self.new.asleep.items }
+    /// Wakes those to whom a step at the place may have brought one.
+    fn wake_at(&mut self, machine: &Machine, ends: &Ends, place: &Address)
+        ensures { SleepBehindPlaces ends.now machine.now (place.now ∷ []) self.old.asleep.items self.new.asleep.items }
+    {
+        self.wake_there(machine.checked().system(), place);
+        self.wake_faced_at(machine, ends, place);
+    }
+
+    /// Wakes the branch in which the place lies.
+    fn wake_there(&mut self, system: &System, place: &Address)
+        ensures { SleepButAt system.now place.now self.old.asleep.items self.new.asleep.items }
     {
         match branch_at(system, place) {
-            Some(branch) => {
-                self.wake(branch);
-                self.wake_faced(ends, branch);
-            }
-            None => self.wake_all(),
+            Some(branch) => self.wake(branch),
+            None => {}
         }
     }
 
-    /// Wakes who acts on a channel at whose other side the branch stands.
-    fn wake_faced(&mut self, ends: &Ends, branch: u32)
-        ensures { SleepButFaced ends.now branch self.old.asleep.items self.new.asleep.items }
+    /// Wakes who acts on a channel whose other side is offered behind the place; without memory all.
+    fn wake_faced_at(&mut self, machine: &Machine, ends: &Ends, place: &Address)
+        ensures { SleepButFacedAt ends.now machine.now place.now self.old.asleep.items self.new.asleep.items }
     {
-        for channel in ends.offered_by(branch) {
-            self.wake_each(ends.acting_on(*channel));
+        machine.is_sound();
+        let (tree, store) = machine.state();
+        match offers_behind(*self.asleep.allocator(), tree, store, place.entries()) {
+            Ok(offers) => self.wake_faced(ends, offers.as_slice()),
+            Err(_) => self.wake_all(),
+        }
+    }
+
+    /// Wakes who acts on a channel at whose other side one of these is.
+    fn wake_faced(&mut self, ends: &Ends, offers: &[LocalAction])
+        ensures { SleepButFaced ends.now offers.now self.old.asleep.items self.new.asleep.items }
+    {
+        for offer in offers {
+            self.wake_each(faced_by(ends, offer));
         }
     }
 
@@ -148,6 +165,16 @@ impl Sleepers {
             return;
         }
         self.asleep[index] = true;
+    }
+}
+
+/// The branches that act on a channel at whose other side the action is.
+fn faced_by<'a>(ends: &'a Ends, offer: &LocalAction) -> &'a [u32]
+    ensures { result.now ≡ faced_by ends.now offer.now }
+{
+    match given_on(&offer.action) {
+        Some(channel) => ends.acting_on(channel),
+        None => &[],
     }
 }
 

@@ -26,32 +26,27 @@ ActsOn acting c i = In i (list_at acting c)
 abbrev pub Grows : List (List ℕ) → List (List ℕ) → Type 0
 Grows before after = (c i : ℕ) → ActsOn before c i → ActsOn after c i
 
--- what is known of one branch: its number, the channels at whose other side it stands, and who acts on which
+-- what is known of one branch: its number, and who acts on which channel
 pub record Known : Type 0 where
   pub branch : ℕ
-  pub offers : List ℕ
   pub acting : List (List ℕ)
 
 -- it acts on the channel
 abbrev pub Acts : Known → ℕ → Type 0
 Acts u c = ActsOn u.acting c u.branch
 
--- it stands at the other side of the channel
-abbrev pub Offers : Known → ℕ → Type 0
-Offers u c = In c u.offers
-
 abbrev mutual
-  -- all channels that the residual uses are known, by side
+  -- all channels on which the residual acts are known
   pub Fits : Known → Residual → Type 0
   Fits u done = Unit {0}
   Fits u halted = Unit {0}
   Fits u (inside i child next) = Fits u child × Fits u next
   Fits u (beside k child rest) = Fits u child × Fits u rest
   Fits u (assign x w e) = Unit {0}
-  Fits u (send c w e) = Offers u c
+  Fits u (send c w e) = Unit {0}
   Fits u (receive c x) = Acts u c
-  Fits u (sync c) = Offers u c × Acts u c
-  Fits u (held c) = Offers u c
+  Fits u (sync c) = Acts u c
+  Fits u (held c) = Unit {0}
   Fits u (loop k body) = Fits u body
   Fits u (while k e body) = Fits u body
   Fits u (test d arms) = FitsArms u arms
@@ -64,19 +59,19 @@ abbrev mutual
   FitsArms u no_arms = Unit {0}
   FitsArms u (arm r rest) = Fits u r × FitsArms u rest
 
--- the channel of the move is known, by its side
+-- the channel on which the move acts is known
 abbrev pub FitsMove : Known → Move → Type 0
-FitsMove u (sends c w e opening) = Offers u c
+FitsMove u (sends c w e opening) = Unit {0}
 FitsMove u (receives c x) = Acts u c
-FitsMove u (syncs c opening) = Offers u c × Acts u c
+FitsMove u (syncs c opening) = Acts u c
 FitsMove u (opens c k v) = Acts u c
-FitsMove u (releases c) = Offers u c
+FitsMove u (releases c) = Unit {0}
 FitsMove u (closes c) = Acts u c
 FitsMove u _ = Unit {0}
 
 -- what is known of branch k
-abbrev pub known_at : List (List ℕ) → List (List ℕ) → ℕ → Known
-known_at offers acting k = record { branch = k; offers = list_at offers k; acting = acting }
+abbrev pub known_at : List (List ℕ) → ℕ → Known
+known_at acting k = record { branch = k; acting = acting }
 
 -- what the branches of the body are to do
 abbrev pub parts_of : Command → Option (List Command) → List Residual

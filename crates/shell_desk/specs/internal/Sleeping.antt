@@ -1,16 +1,20 @@
 -- Who sleeps in a run, and what the branches that are awake do in turn.
 -- No reader has to believe it: what it leads to is `Runs` of `Does.antt`, which speaks of no sleep.
-use Rattle.std.specs.Prelude.{◌≡◌, ◌≢◌, ◌⊎◌, ℕ, zero, suc, ◌+◌, ◌-◌, ◌<◌, ◌≤◌, nat_lt, if◌then◌else◌, List, Bool, true, Option, Some, None, MatchBool, slice_get}
+use Rattle.std.specs.Prelude.{◌≡◌, ◌≢◌, ◌⊎◌, ℕ, zero, suc, ◌+◌, ◌-◌, ◌<◌, ◌≤◌, nat_lt, if◌then◌else◌, List, [], Bool, true, Option, Some, None, MatchBool, slice_get}
+use Rattle.address.specs.Places.{Before}
 use Rattle.syntax.specs.Lists.{In}
 use Rattle.system.specs.declared.system.System.{System}
 use Rattle.system_places.specs.SystemBranches.{branch_at}
-use Rattle.runs.specs.Events.{places_of}
 use Rattle.runs.specs.Moves.{Place}
 use Rattle.runs.specs.Object.{Reaches}
 use Rattle.runs.specs.Steps.{State}
 use Rattle.runs.specs.declared.event.Event.{Event}
-use Rattle.idle_branches.specs.Idle.{AreEnds, Faces, IdleIn, Passes}
+use Rattle.local_actions.specs.Actions.{Offered}
+use Rattle.local_actions.specs.declared.action.LocalAction.{LocalAction}
+use Rattle.idle_branches.specs.Idle.{AreEnds, IdleIn, Passes, given_on}
 use Rattle.idle_branches.specs.declared.ends.Ends.{Ends}
+use Rattle.idle_branches.specs.internal.Known.{list_at}
+use Rattle.machine.specs.AtMachine.{AtMachine, object}
 use Rattle.locked_execution.specs.AtDesk.{execution}
 use Rattle.locked_execution.specs.declared.command.Command.{Command}
 use Rattle.locked_execution.specs.declared.command.Reply.{Reply}
@@ -32,13 +36,17 @@ Rests b k = (T : State) → Reaches (execution b.desk) T → IdleIn b.desk.machi
 abbrev pub Resting : Ends → AtBench → List Bool → Type 0
 Resting ends b asleep = AreEnds b.desk.machine.checked ends × ((k : ℕ) → IsAsleep asleep k → Rests b k)
 
--- who sleeps behind the reply to branch k: only who slept before and to whom the step brings none, or k, where it has
+-- the event that was taken last at the machine brought branch i no step
+abbrev pub PassesNow : Ends → AtMachine → Event → ℕ → Type 0
+PassesNow ends h e i = (T : State) → Reaches (object h) T → Passes h.checked ends T e i
+
+-- who sleeps behind the reply to branch k: only who slept before and to whom the step brought none, or k, where it has
 -- none
-abbrev pub SleepsBehind : Ends → System → ℕ → Reply → List Bool → List Bool → Type 0
-SleepsBehind ends system k (Reply.Stepped t e) before after =
-    (i : ℕ) → IsAsleep after i → IsAsleep before i × Passes system ends e i
-SleepsBehind ends system k Reply.Idle before after = (i : ℕ) → IsAsleep after i → IsAsleep before i ⊎ (i ≡ k)
-SleepsBehind ends system k _ before after = (i : ℕ) → IsAsleep after i → IsAsleep before i
+abbrev pub SleepsBehind : Ends → AtMachine → ℕ → Reply → List Bool → List Bool → Type 0
+SleepsBehind ends h k (Reply.Stepped t e) before after =
+    (i : ℕ) → IsAsleep after i → IsAsleep before i × PassesNow ends h e i
+SleepsBehind ends h k Reply.Idle before after = (i : ℕ) → IsAsleep after i → IsAsleep before i ⊎ (i ≡ k)
+SleepsBehind ends h k _ before after = (i : ℕ) → IsAsleep after i → IsAsleep before i
 
 -- `left` branches from k on come in turn: one that sleeps is passed over, another is asked for a step, up to the first
 -- that is not idle, which answers `reply`; where there is none, that is the reply
@@ -47,7 +55,7 @@ AwakeInTurn ends count b asleep zero k reply b' asleep' = (reply ≡ Reply.Idle)
 AwakeInTurn ends count b asleep (suc left) k reply b' asleep' =
     (IsAsleep asleep k × AwakeInTurn ends count b asleep left (next_of count k) reply b' asleep')
     ⊎ ((r : Reply) × (m : AtBench) × (s : List Bool) × Asked b (Command.Branch k) r m
-    × SleepsBehind ends m.desk.machine.checked k r asleep s
+    × SleepsBehind ends m.desk.machine k r asleep s
     × MatchBool (is_busy r) ((reply ≡ r) × (b' ≡ m) × (asleep' ≡ s))
     (AwakeInTurn ends count m s left (next_of count k) reply b' asleep'))
 
@@ -78,20 +86,49 @@ SleepBut k before after = (i : ℕ) → IsAsleep after i → IsAsleep before i �
 abbrev pub SleepButThese : List ℕ → List Bool → List Bool → Type 0
 SleepButThese woken before after = (i : ℕ) → IsAsleep after i → IsAsleep before i × (In i woken → ⊥)
 
--- the same, but for those that branch j faces
-abbrev pub SleepButFaced : Ends → ℕ → List Bool → List Bool → Type 0
-SleepButFaced ends j before after = (i : ℕ) → IsAsleep after i → IsAsleep before i × (Faces ends j i → ⊥)
+-- the same, but for the branch in which the place lies
+abbrev pub SleepButAt : System → Place → List Bool → List Bool → Type 0
+SleepButAt system a before after =
+    (i : ℕ) → IsAsleep after i → IsAsleep before i × (branch_at system a ≡ Some i → ⊥)
 
--- a step at the place brings branch i none
-abbrev pub PassesAt : System → Ends → Place → ℕ → Type 0
-PassesAt system ends a i = (j : ℕ) × (branch_at system a ≡ Some j) × (i ≢ j) × (Faces ends j i → ⊥)
+-- the branches that act on a channel at whose other side the action is
+abbrev pub acting_on : Ends → Option ℕ → List ℕ
+acting_on ends None = []
+acting_on ends (Some c) = list_at ends.used.acting.items c
 
--- only who slept before sleeps, and to whom a step at these places brings none
-abbrev pub SleepBehindPlaces : System → Ends → List Place → List Bool → List Bool → Type 0
-SleepBehindPlaces system ends reached before after =
-    (i : ℕ) → IsAsleep after i → IsAsleep before i × ((a : Place) → In a reached → PassesAt system ends a i)
+abbrev pub faced_by : Ends → LocalAction → List ℕ
+faced_by ends x = acting_on ends (given_on x.action)
+
+-- one of these is at the other side of a channel on which branch i acts
+abbrev pub FacedBy : Ends → List LocalAction → ℕ → Type 0
+FacedBy ends offers i = (x : LocalAction) × In x offers × In i (faced_by ends x)
+
+-- the same, but for those that these face
+abbrev pub SleepButFaced : Ends → List LocalAction → List Bool → List Bool → Type 0
+SleepButFaced ends offers before after =
+    (i : ℕ) → IsAsleep after i → IsAsleep before i × (FacedBy ends offers i → ⊥)
+
+-- what is offered behind the place now faces branch i
+abbrev pub FacedAt : Ends → AtMachine → Place → ℕ → Type 0
+FacedAt ends h a i =
+    (T : State) × (x : LocalAction) × Reaches (object h) T × Offered T x × Before a x.place × In i (faced_by ends x)
+
+-- the same, but for those that are faced there
+abbrev pub SleepButFacedAt : Ends → AtMachine → Place → List Bool → List Bool → Type 0
+SleepButFacedAt ends h a before after =
+    (i : ℕ) → IsAsleep after i → IsAsleep before i × (FacedAt ends h a i → ⊥)
+
+-- a step at the place brought branch i none
+pub record PassesAt (ends : Ends) (h : AtMachine) (a : Place) (i : ℕ) : Type 0 where
+  pub elsewhere : branch_at h.checked a ≡ Some i → ⊥
+  pub faced_by_none : FacedAt ends h a i → ⊥
+
+-- only who slept before sleeps, and to whom a step at these places brought none
+abbrev pub SleepBehindPlaces : Ends → AtMachine → List Place → List Bool → List Bool → Type 0
+SleepBehindPlaces ends h reached before after =
+    (i : ℕ) → IsAsleep after i → IsAsleep before i × ((a : Place) → In a reached → PassesAt ends h a i)
 
 -- the same behind an event
-abbrev pub SleepBehindEvent : System → Ends → Event → List Bool → List Bool → Type 0
-SleepBehindEvent system ends e before after =
-    (i : ℕ) → IsAsleep after i → IsAsleep before i × Passes system ends e i
+abbrev pub SleepBehindEvent : Ends → AtMachine → Event → List Bool → List Bool → Type 0
+SleepBehindEvent ends h e before after =
+    (i : ℕ) → IsAsleep after i → IsAsleep before i × PassesNow ends h e i

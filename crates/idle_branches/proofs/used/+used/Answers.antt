@@ -1,7 +1,6 @@
 -- What is added for a command fits what it is to do.
-use Rattle.std.proofs.Common.{◌≡◌, ℕ, Option, ◌+◌, ◌<◌, ◌≤◌, ◌∙◌, ap, [], ◌∷◌, List, length, map, drop, OnOk, refl, sym, subst, arith, rules}
+use Rattle.std.proofs.Common.{◌≡◌, ℕ, Option, ◌<◌, ◌≤◌, ap, [], ◌∷◌, List, length, map, OnOk, sym, subst, arith, rules}
 use Rattle.std.specs.Option.{option_map}
-use Rattle.syntax.specs.Lists.{Every}
 use Rattle.system.specs.declared.command.Action.TheFolds.{the_lemmas}
 use Rattle.system.specs.declared.command.Arm.{Arm}
 use Rattle.system.specs.declared.command.Command.{Command}
@@ -13,13 +12,8 @@ use Rattle.system.specs.Translation.{expression_of, residual_of, in_sequence, in
 use Rattle.system.specs.internal.ArmParts.{guarded_of, labelled_of, arm_of}
 use Rattle.idle_branches.specs.internal.Known.{Acts, Fits}
 use Rattle.idle_branches.specs.internal.Gathering.{Adds, FitsAll, FitsArm, FitsEachArm, FitsLast}
-use Rattle.idle_branches.proofs.GatherLemmas.{all-done, all-on, here-of, two-done, two-on, adds-both, adds-cons, adds-map, adds-nothing, arms-fit, choose-fits, on-ok, parallel-fits, sequence-fits}
+use Rattle.idle_branches.proofs.GatherLemmas.{all-done, all-on, here-of, two-done, two-on, adds-both, adds-map, arms-fit, choose-fits, on-ok, parallel-fits, sequence-fits}
 use Rattle.idle_branches.proofs.used.+used.Goals as goal
-
-pub add_command-returns-in-Send : goal.add_command-returns-in-Send
-add_command-returns-in-Send t c =
-    let is : residual_of c.args.command.now ≡ residual.send c.in-Send.channel.number c.in-Send.field-1 (expression_of c.in-Send.field-2) = search (rules, the_lemmas) in
-    subst (λ (r : Residual). OnOk c.add_offer.result (Adds c.args.branch c.args.used.now (λ u. Fits u r) c.add_offer.new.self)) (sym is) c.add_offer.ensures
 
 pub add_command-returns-in-Receive : goal.add_command-returns-in-Receive
 add_command-returns-in-Receive t c =
@@ -29,7 +23,7 @@ add_command-returns-in-Receive t c =
 pub add_command-returns-in-Sync : goal.add_command-returns-in-Sync
 add_command-returns-in-Sync t c =
     let is : residual_of c.args.command.now ≡ residual.sync c.in-Sync.channel.number = search (rules, the_lemmas) in
-    subst (λ (r : Residual). OnOk c.add_sync.result (Adds c.args.branch c.args.used.now (λ u. Fits u r) c.add_sync.new.self)) (sym is) c.add_sync.ensures
+    subst (λ (r : Residual). OnOk c.add_act-in-Sync.result (Adds c.args.branch c.args.used.now (λ u. Fits u r) c.add_act-in-Sync.new.self)) (sym is) c.add_act-in-Sync.ensures
 
 pub add_command-returns-in-Loop : goal.add_command-returns-in-Loop
 add_command-returns-in-Loop t c =

@@ -1,16 +1,15 @@
-use Rattle.std.proofs.Common.{sym, subst}
+use Rattle.std.proofs.Common.{refl, sym, subst}
 use Rattle.system.specs.Translation.{branch_of}
 use Rattle.system.specs.declared.system.Branch.{Branch}
-use Rattle.idle_branches.specs.internal.Known.{Acts, Fits, Offers}
-use Rattle.idle_branches.proofs.GatherLemmas.{adds-map, feed-fits, on-ok, syncs-fit}
+use Rattle.idle_branches.specs.internal.Known.{Acts, Fits}
+use Rattle.idle_branches.proofs.GatherLemmas.{adds-map, adds-nothing, feed-fits, on-ok, syncs-fit}
 use Rattle.idle_branches.proofs.used.Used.add_port.Goals as goal
 
 pub returns-in-Feed : goal.returns-in-Feed
 returns-in-Feed c =
-    on-ok c.add_offer.result
-    (adds-map c.args.branch c.args.self.now c.add_offer.new.self (λ u. Offers u c.in-Feed.channel) (λ u. Fits u (branch_of c.args.port.now))
-    (λ u f. subst (λ (b : Branch). Fits u (branch_of b)) (sym c.in-Feed.is) (feed-fits u 0 c.in-Feed.channel _ _ f)))
-    c.add_offer.ensures
+    adds-map c.args.branch c.args.self.now c.args.self.now (λ u. Unit {0}) (λ u. Fits u (branch_of c.args.port.now))
+    (λ u f. subst (λ (b : Branch). Fits u (branch_of b)) (sym c.in-Feed.is) (feed-fits u 0 _ _ _))
+    (adds-nothing c.args.branch c.args.self.now c.args.self.now refl)
 
 pub returns-in-Drain : goal.returns-in-Drain
 returns-in-Drain c =
@@ -21,8 +20,8 @@ returns-in-Drain c =
 
 pub returns-in-Syncs : goal.returns-in-Syncs
 returns-in-Syncs c =
-    on-ok c.add_sync.result
-    (adds-map c.args.branch c.args.self.now c.add_sync.new.self (λ u. Offers u c.in-Syncs.channel × Acts u c.in-Syncs.channel)
+    on-ok c.add_act-in-Syncs.result
+    (adds-map c.args.branch c.args.self.now c.add_act-in-Syncs.new.self (λ u. Acts u c.in-Syncs.channel)
     (λ u. Fits u (branch_of c.args.port.now))
     (λ u f. subst (λ (b : Branch). Fits u (branch_of b)) (sym c.in-Syncs.is) (syncs-fit u 0 c.in-Syncs.channel _ f)))
-    c.add_sync.ensures
+    c.add_act-in-Syncs.ensures

@@ -7,11 +7,11 @@ use Rattle.shell_desk.proofs.sleepers.Sleepers.wake_second.Goals as goal
 
 pub returns-in-Some : goal.returns-in-Some
 returns-in-Some c =
-    subst (λ (o : Option Place). SleepBehindPlaces c.args.system.now c.args.ends.now (places_of o) c.args.self.now.asleep.items
+    subst (λ (o : Option Place). SleepBehindPlaces c.args.ends.now c.args.machine.now (places_of o) c.args.self.now.asleep.items
     c.wake_at.new.self.asleep.items) (sym c.in-Some.is) c.wake_at.ensures
 
 pub returns-in-None : goal.returns-in-None
 returns-in-None c =
-    subst (λ (o : Option Place). SleepBehindPlaces c.args.system.now c.args.ends.now (places_of o) c.args.self.now.asleep.items
+    subst (λ (o : Option Place). SleepBehindPlaces c.args.ends.now c.args.machine.now (places_of o) c.args.self.now.asleep.items
     c.args.self.now.asleep.items) (sym c.in-None.is)
-    (no-place c.args.system.now c.args.ends.now c.args.self.now.asleep.items)
+    (no-place c.args.ends.now c.args.machine.now c.args.self.now.asleep.items)
