@@ -337,7 +337,7 @@ may-be-step checked line fault r e t (inr h) =
     let same : true ≡ false = sym t ∙ (e ∙ ap is_want h.0) in absurd (false≢true (sym same))
 
 -- a line that became this was read
-is_read : Outcome → Bool
+abbrev is_read : Outcome → Bool
 is_read Outcome.Unread = false
 is_read _ = true
 
