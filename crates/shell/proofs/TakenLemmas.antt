@@ -325,6 +325,15 @@ ends-at files at_terminal source stimulus b b' read left wrote held contents gre
 ends-at files at_terminal source stimulus b b' read left wrote held contents greeting (Err fault) adds stops =
     (greeting, stopped-at files at_terminal source stimulus b b' read left wrote held contents greeting fault adds stops)
 
+-- what ends on the same texts
+pub ends-on : (files : Files) (at_terminal : Bool) (source stimulus kept given : List ℕ) (b b' : AtBench)
+    (read left wrote contents : Option (List ℕ)) (r : Result (Unit {0}) Fault) → kept ≡ source → given ≡ stimulus
+    → EndsAt files at_terminal kept given b read left wrote contents r b'
+    → EndsAt files at_terminal source stimulus b read left wrote contents r b'
+ends-on files at_terminal source stimulus kept given b b' read left wrote contents r same alike ends =
+    subst (λ (t : List ℕ). EndsAt files at_terminal t stimulus b read left wrote contents r b') same
+    (subst (λ (t : List ℕ). EndsAt files at_terminal kept t b read left wrote contents r b') alike ends)
+
 -- others follow
 pub next-true : (files : Files) (at_terminal : Bool) (source stimulus : List ℕ) (b b' : AtBench) (read left wrote contents : Option (List ℕ))
     (r : Result Bool Fault) (more : Bool) → r ≡ Ok more → more ≡ true

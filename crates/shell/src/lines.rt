@@ -47,7 +47,7 @@ pub fn run<R: Read, O: Write, H: Host>(
     }
 }
 
-/// Says what the circuit is, and answers the lines.
+/// Makes what stays the same in the session, says what the circuit is, and answers the lines.
 fn run_on<R: Read, O: Write, H: Host>(
     alloc: Global,
     session: &mut Session,
@@ -63,17 +63,36 @@ fn run_on<R: Read, O: Write, H: Host>(
     ensures read_failures { failures reader.new ≡ after_reading result (failures reader.old) }
     ensures write_failures { failures out.new ≡ after_writing result (failures out.old) }
 {
-    let setting = match setting_of(alloc, *texts) {
-        Ok(setting) => setting,
-        Err(fault) => return Err(fault),
-    };
-    match write_text(out, greeting(&session.scene(&setting))) {
-        Ok(()) => session.answer_lines(&setting, reader, out, host, is_terminal),
+    match setting_of(alloc, *texts) {
+        Ok(setting) => session.greet(&setting, reader, out, host, is_terminal),
         Err(fault) => Err(fault),
     }
 }
 
 impl Session {
+    /// Says what the circuit is, and answers the lines. What stays the same is lent: dropped here, at each return, it
+    /// would make the proof dear.
+    fn greet<R: Read, O: Write, H: Host>(
+        &mut self,
+        setting: &Setting<'_>,
+        reader: &mut Counted<BufReader<R>>,
+        out: &mut Counted<O>,
+        host: &H,
+        is_terminal: bool,
+    ) -> Result<(), Fault>
+        ensures ends { EndsAt (H.files host.now) is_terminal setting.now.texts.source.now
+            setting.now.texts.stimulus.now self.old.bench
+            (reader_remaining R.remaining (device reader.old)) (reader_remaining R.remaining (device reader.new))
+            (O.contents (device out.old)) (O.contents (device out.new)) result self.new.bench }
+        ensures read_failures { failures reader.new ≡ after_reading result (failures reader.old) }
+        ensures write_failures { failures out.new ≡ after_writing result (failures out.old) }
+    {
+        match write_text(out, greeting(&self.scene(setting))) {
+            Ok(()) => self.answer_lines(setting, reader, out, host, is_terminal),
+            Err(fault) => Err(fault),
+        }
+    }
+
     /// Answers the lines of the reader until one of them ends the session, or the reader is at its end.
     fn answer_lines<R: Read, O: Write, H: Host>(
         &mut self,
