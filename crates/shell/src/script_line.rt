@@ -2,7 +2,7 @@
 ghost use Rattle.std.specs.Prelude.{◌≡◌, ◌<◌, IfSome, MatchResult, Some, None};
 ghost use Rattle.debug_session.specs.Lines.{SaysSession};
 ghost use Rattle.debug_session.specs.declared.line.Line.TheVariants as lines;
-ghost use Rattle.shell_desk.specs.Does.{Does};
+ghost use Rattle.shell_desk.specs.Does.{Does, TurnsSession};
 ghost use Rattle.shell_desk.specs.declared.deed.Done.{Done as DoneAt};
 ghost use Rattle.shell.specs.Asking.{deed_of};
 ghost use Rattle.shell.specs.Lines.{SaidAsScript};
@@ -63,10 +63,18 @@ impl Session {
             SaidAsScript setting.now.texts.source.now self.old.bench (lines.Session session) text.items
             self.new.bench) }
     {
-        let _done = self.bench.perform(&Deed::Turn(session), &mut self.notes);
+        self.turn(session);
         self.notes.add_turn(session);
         let own = write_session(setting.alloc, session);
         answered(own, Text::new(setting.alloc))
+    }
+
+    /// Makes the lines that follow those of this session.
+    fn turn(&mut self, session: u32)
+        requires { session < 16 }
+        ensures { TurnsSession session self.old.bench self.new.bench }
+    {
+        let _done = self.bench.perform(&Deed::Turn(session), &mut self.notes);
     }
 
     /// Answers the view that the session has of the source.
