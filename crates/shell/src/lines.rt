@@ -87,10 +87,15 @@ impl Session {
         ensures read_failures { failures reader.new ≡ after_reading result (failures reader.old) }
         ensures write_failures { failures out.new ≡ after_writing result (failures out.old) }
     {
-        match write_text(out, greeting(&self.scene(setting))) {
+        match write_text(out, self.first_words(setting)) {
             Ok(()) => self.answer_lines(setting, reader, out, host, is_terminal),
             Err(fault) => Err(fault),
         }
+    }
+
+    /// What the circuit is, in words.
+    fn first_words(&self, setting: &Setting<'_>) -> Text {
+        greeting(&self.scene(setting))
     }
 
     /// Answers the lines of the reader until one of them ends the session, or the reader is at its end.
