@@ -41,9 +41,10 @@ stopped_behind _ before = before
 abbrev pub step_of : Event → Command
 step_of e = Command.Step (choice_of e)
 
--- what bare numbers mean behind a reply: a list of ready events numbers them, or, without memory, nothing
+-- what bare numbers mean behind a reply: the events of the last list of ready events, until the next one; a list without
+-- memory for its numbers is refused
 abbrev pub Numbers : Reply → List Command → List Command → Type 0
-Numbers (Reply.Ready events) before after = (after ≡ map step_of events) ⊎ (after ≡ [])
+Numbers (Reply.Ready events) before after = after ≡ map step_of events
 Numbers _ before after = after ≡ before
 
 -- one command of the session is asked and answered

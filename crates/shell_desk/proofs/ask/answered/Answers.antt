@@ -1,0 +1,11 @@
+use Rattle.shell_desk.proofs.NumberLemmas.{told-answers}
+use Rattle.shell_desk.proofs.ask.answered.Goals as goal
+
+pub returns : goal.returns
+returns g c = record {
+  answers =
+      told-answers c.args.desk.now c.perform-reply.new.self c.args.session c.args.command.now c.perform-reply.result
+      c.with_numbers.result.0 c.perform-reply.ensures.answers c.with_numbers.ensures.told;
+  numbers = c.with_numbers.ensures.numbers;
+  system = c.perform-reply.ensures.system;
+}
