@@ -2,5 +2,6 @@ pub mod Arguments
 pub mod Json
 pub mod Messages
 pub mod Notes
+pub mod Requests
 pub mod Written
 pub mod internal

@@ -1,7 +1,10 @@
-ghost use Rattle.std.specs.Prelude.{◌≡◌, unwrap_or};
+ghost use Rattle.std.specs.Prelude.{◌≡◌, IfOk, IfSome, codes, string_bytes, true, unwrap_or};
 ghost use Rattle.std.specs.Option.{option_map};
-ghost use Rattle.serde_json.specs.View.{view};
+ghost use Rattle.serde_json.specs.Data.{null};
+ghost use Rattle.serde_json.specs.Find.{get_member};
+ghost use Rattle.serde_json.specs.View.{members_view, view};
 ghost use Rattle.dap_messages.specs.Arguments.{flag_named, number_named, text_named};
+ghost use Rattle.dap_messages.specs.Requests.{HasHead, IsRequest, IsRequestOf, arguments_in, is_request_type};
 
 use crate::kind::{Kind, kind_of};
 use crate::members::{field, number_in, text_in};
@@ -97,7 +100,9 @@ impl Request {
 }
 
 /// The request that the bytes are: a JSON object of the type `request` with a number and a name.
-pub fn read_request(alloc: Global, bytes: &[u8]) -> Result<Request, Unread> {
+pub fn read_request(alloc: Global, bytes: &[u8]) -> Result<Request, Unread>
+    ensures { IfOk result (λ request. IsRequestOf bytes.now request) }
+{
     match Value::from_slice(alloc, bytes) {
         Ok(value) if nests_within(&value, MOST_DEPTH) => request_of(alloc, value),
         Ok(_) => Err(Unread::NoJson),
@@ -107,7 +112,9 @@ pub fn read_request(alloc: Global, bytes: &[u8]) -> Result<Request, Unread> {
 }
 
 /// The request that the value is.
-fn request_of(alloc: Global, value: Value) -> Result<Request, Unread> {
+fn request_of(alloc: Global, value: Value) -> Result<Request, Unread>
+    ensures { IfOk result (λ request. IsRequest (view value) request) }
+{
     let Some((seq, name)) = head_of(&value) else {
         return Err(Unread::NoRequest);
     };
@@ -122,23 +129,57 @@ fn request_of(alloc: Global, value: Value) -> Result<Request, Unread> {
 }
 
 /// The number and the name of a request.
-fn head_of(value: &Value) -> Option<(u64, &str)> {
-    if text_in(value, "type")? != "request" {
-        return None;
+fn head_of(value: &Value) -> Option<(u64, &str)>
+    ensures { IfSome result (λ head. HasHead (view value.now) head.0 head.1.now) }
+{
+    if is_request(value) {
+        numbered(value)
+    } else {
+        None
     }
-    Some((number_in(value, "seq")?, text_in(value, "command")?))
+}
+
+/// The number and the name of a message that is a request.
+fn numbered(value: &Value) -> Option<(u64, &str)>
+    requires { is_request_type (text_named (codes "type") (view value.now)) ≡ true }
+    ensures { IfSome result (λ head. HasHead (view value.now) head.0 head.1.now) }
+{
+    let seq = number_in(value, "seq")?;
+    let command = text_in(value, "command")?;
+    Some((seq, command))
+}
+
+/// Whether the message is a request.
+fn is_request(value: &Value) -> bool
+    ensures { result ≡ is_request_type (text_named (codes "type") (view value.now)) }
+{
+    is_request_type(text_in(value, "type"))
+}
+
+/// Whether this is the type of a request.
+fn is_request_type(word: Option<&str>) -> bool
+    ensures { result ≡ is_request_type (option_map (λ s. s.now) word.entry) }
+{
+    match word {
+        Some(word) => word.as_bytes() == b"request".as_slice(),
+        None => false,
+    }
 }
 
 /// The arguments of a request.
-fn arguments_of(value: Value) -> Value {
-    match value {
-        Value::Object(members) => taken(members),
-        _ => Value::Null,
+fn arguments_of(mut value: Value) -> Value
+    ensures { view result ≡ arguments_in (view value) }
+{
+    match value.as_object_mut() {
+        Some(members) => taken(members),
+        None => Value::Null,
     }
 }
 
 /// The member `arguments` of these.
-fn taken(mut members: Map<String, Value>) -> Value {
+fn taken(members: &mut Map<String, Value>) -> Value
+    ensures { view result ≡ unwrap_or (get_member (codes "arguments") (members_view members.old.entries)) null }
+{
     match members.remove("arguments") {
         Some(arguments) => arguments,
         None => Value::Null,
