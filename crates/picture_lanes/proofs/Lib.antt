@@ -1,2 +1,5 @@
 mod Blocks
+mod Ordered
 mod Paths
+mod Placed
+mod Stops

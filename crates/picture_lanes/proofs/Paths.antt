@@ -1,11 +1,15 @@
 -- Lanes by their paths: the first that has a path, and that no two have one.
-use Rattle.std.proofs.Common.{◌≡◌, ℕ, zero, suc, ◌+◌, List, [], ◌∷◌, ◌++◌, Bool, true, false, true≢false, cond, Option, None, Some, refl, sym, ◌∙◌, ap, subst, arith}
+use Rattle.std.proofs.Common.{◌≡◌, ℕ, zero, suc, ◌+◌, List, [], ◌∷◌, ◌++◌, Bool, true, false, true≢false, cond, Option, None, Some, refl, sym, ◌∙◌, ap}
 use Rattle.std.specs.Cmp.Lexicographic.{bytes_decides}
-use Rattle.picture_lanes.specs.Lanes.{EachOnce, HasPath, NoneHas, index_from, lane_index, same_path, stop_if_new, with_stop_lane}
+use Rattle.std.specs.List.{insert}
+use Rattle.std.specs.Prelude.{slice_get}
+use Rattle.picture_lanes.specs.Lanes.{index_from, lane_index, leading, same_path, stop_if_new, stop_lane, with_stop_lane}
+use Rattle.picture_lanes.specs.internal.Order.{is_along}
+use Rattle.picture_lanes.specs.internal.Placing.{EachOnce, NoneHas}
 use Rattle.picture_lanes.specs.declared.lane.Lane.{Lane}
 use Rattle.picture_lanes.specs.declared.walk.Stop.{Stop}
 
-is-one : (a b : List ℕ) → same_path a b ≡ true → a ≡ b
+pub is-one : (a b : List ℕ) → same_path a b ≡ true → a ≡ b
 is-one a b on = (bytes_decides a b).0 on
 
 on-one : (a b : List ℕ) → a ≡ b → same_path a b ≡ true
@@ -52,45 +56,26 @@ append-once (x ∷ lanes) lane each none =
 pub once_more : (lanes : List Lane) (lane : Lane) → lane_index lanes lane.path ≡ None → EachOnce lanes → EachOnce (lanes ++ lane ∷ [])
 once_more lanes lane none each = append-once lanes lane each (none-has 0 lanes lane.path none)
 
-none-at : (lanes : List Lane) (path : List ℕ) (k : ℕ) → NoneHas lanes path → HasPath lanes k path → ⊥
-none-at [] path k none has = no-some-of has.0 (sym has.1)
-  where
-    no-some-of : (lane : Lane) → Some lane ≡ None → ⊥
-    no-some-of lane e = cc
-none-at (x ∷ lanes) path zero none has = none.0 (ap (λ (l : Lane). l.path) (same x has.0 has.1) ∙ has.2)
-  where
-    same : (a b : Lane) → Some a ≡ Some b → a ≡ b
-    same a b e = cc
-none-at (x ∷ lanes) path (suc k) none has = none-at lanes path k none.1 has
-
--- the one that has the path is the first that is found
-found-from : (n : ℕ) (lanes : List Lane) (path : List ℕ) (k : ℕ) → EachOnce lanes → HasPath lanes k path → index_from n lanes path ≡ Some (n + k)
-found-from n [] path k each has = absurd (none-at [] path k tt has)
-found-from n (x ∷ lanes) path zero each has =
-    let is : x.path ≡ path = ap (λ (l : Lane). l.path) (same x has.0 has.1) ∙ has.2 in
-    let at : n ≡ n + 0 = omega arith in
-    ap (λ (b : Bool). cond b (Some n) (index_from (n + 1) lanes path)) (on-one x.path path is) ∙ ap (λ (i : ℕ). Some i) at
-  where
-    same : (a b : Lane) → Some a ≡ Some b → a ≡ b
-    same a b e = cc
-found-from n (x ∷ lanes) path (suc k) each has =
-    let differs : x.path ≡ path → ⊥ =
-    λ is. none-at lanes x.path k each.0 (subst (λ (p : List ℕ). HasPath lanes k p) (sym is) has) in
-    let at : n + 1 + k ≡ n + suc k = omega arith in
-    ap (λ (b : Bool). cond b (Some n) (index_from (n + 1) lanes path)) (off-none x.path path differs)
-    ∙ found-from (n + 1) lanes path k each.1 has
-    ∙ ap (λ (i : ℕ). Some i) at
-
-pub found_at : (lanes : List Lane) (path : List ℕ) (k : ℕ) → EachOnce lanes → HasPath lanes k path → lane_index lanes path ≡ Some k
-found_at lanes path k each has =
-    let at : 0 + k ≡ k = omega arith in found-from 0 lanes path k each has ∙ ap (λ (i : ℕ). Some i) at
+-- where none has it, none is found
+none-found : (n : ℕ) (lanes : List Lane) (path : List ℕ) → NoneHas lanes path → index_from n lanes path ≡ None
+none-found n [] path none = refl
+none-found n (x ∷ lanes) path none =
+    ap (λ (b : Bool). cond b (Some n) (index_from (n + 1) lanes path)) (off-none x.path path none.0) ∙ none-found (n + 1) lanes path none.1
 
 -- where one has the path, one is found
-some-found : (lanes : List Lane) (path : List ℕ) (k : ℕ) → HasPath lanes k path → (o : Option ℕ) → lane_index lanes path ≡ o → (i : ℕ) × (o ≡ Some i)
-some-found lanes path k has None none = absurd (none-at lanes path k (none-has 0 lanes path none) has)
-some-found lanes path k has (Some i) at = (i, refl)
+found : (n : ℕ) (lanes : List Lane) (path : List ℕ) (k : ℕ) → is_along (slice_get lanes k) path ≡ true → (i : ℕ) × (index_from n lanes path ≡ Some i)
+found n [] path k on = absurd (true≢false (sym on))
+found n (x ∷ lanes) path zero on = (n, ap (λ (b : Bool). cond b (Some n) (index_from (n + 1) lanes path)) on)
+found n (x ∷ lanes) path (suc k) on = by (same_path x.path path) refl (found (n + 1) lanes path k on)
+  where
+    by : (t : Bool) → same_path x.path path ≡ t → (i : ℕ) × (index_from (n + 1) lanes path ≡ Some i) → (i : ℕ) × (index_from n (x ∷ lanes) path ≡ Some i)
+    by true here rest = (n, ap (λ (b : Bool). cond b (Some n) (index_from (n + 1) lanes path)) here)
+    by false off rest = (rest.0, ap (λ (b : Bool). cond b (Some n) (index_from (n + 1) lanes path)) off ∙ rest.1)
 
 -- a command in a lane that is there adds none
-pub kept_where_there : (lanes : List Lane) (s : Stop) (k : ℕ) → HasPath lanes k s.path → with_stop_lane lanes s ≡ lanes
-kept_where_there lanes s k has =
-    ap (λ (o : Option ℕ). stop_if_new o lanes s) (some-found lanes s.path k has (lane_index lanes s.path) refl).1
+pub kept_where_there : (lanes : List Lane) (s : Stop) (k : ℕ) → is_along (slice_get lanes k) s.path ≡ true → with_stop_lane lanes s ≡ lanes
+kept_where_there lanes s k on = ap (λ (o : Option ℕ). stop_if_new o lanes s) (found 0 lanes s.path k on).1
+
+-- and one in a lane that is not there adds it
+pub put_where_none : (lanes : List Lane) (s : Stop) → NoneHas lanes s.path → with_stop_lane lanes s ≡ insert lanes (leading s.path lanes) (stop_lane s)
+put_where_none lanes s none = ap (λ (o : Option ℕ). stop_if_new o lanes s) (none-found 0 lanes s.path none)

@@ -1,6 +1,6 @@
 -- The lanes from left to right: those of the ports that give, of the branches of the body in order of their paths, and
 -- of the ports that take.
-use Rattle.std.specs.Prelude.{◌≡◌, ℕ, ◌+◌, List, [], ◌∷◌, ◌++◌, Bool, true, false, not, cond, Option, None, Some, nat_eq, slice_get}
+use Rattle.std.specs.Prelude.{ℕ, ◌+◌, List, [], ◌∷◌, ◌++◌, Bool, true, false, not, cond, Option, None, Some, nat_eq}
 use Rattle.std.specs.Cmp.Lexicographic.{pointwise, slice_cmp}
 use Rattle.std.specs.List.{insert}
 use Rattle.std.specs.Ordering.{is_lt, nat_cmp}
@@ -13,10 +13,6 @@ use Rattle.picture_lanes.specs.declared.walk.Stop.{Stop}
 
 -- ---- lanes by their paths
 
--- lane k has this path
-abbrev pub HasPath : List Lane → ℕ → List ℕ → Type 0
-HasPath lanes k path = (lane : Lane) × (slice_get lanes k ≡ Some lane) × (lane.path ≡ path)
-
 abbrev pub same_path : List ℕ → List ℕ → Bool
 same_path path other = pointwise nat_eq path other
 
@@ -27,16 +23,6 @@ index_from n (lane ∷ lanes) path = cond (same_path lane.path path) (Some n) (i
 
 abbrev pub lane_index : List Lane → List ℕ → Option ℕ
 lane_index lanes path = index_from 0 lanes path
-
--- none of them has the path
-abbrev pub NoneHas : List Lane → List ℕ → Type 0
-NoneHas [] path = Unit {0}
-NoneHas (lane ∷ lanes) path = (lane.path ≡ path → ⊥) × NoneHas lanes path
-
--- no two have one path
-abbrev pub EachOnce : List Lane → Type 0
-EachOnce [] = Unit {0}
-EachOnce (lane ∷ lanes) = NoneHas lanes lane.path × EachOnce lanes
 
 -- ---- the lanes of the body
 

@@ -5,6 +5,7 @@
 mod calls;
 mod ground;
 mod lane;
+mod path_places;
 mod ports;
 mod table;
 mod walk;

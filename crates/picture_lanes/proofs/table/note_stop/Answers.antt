@@ -1,13 +1,20 @@
-use Rattle.std.proofs.Common.{ℕ, List, refl, sym, subst}
-use Rattle.picture_lanes.specs.Lanes.{HasPath}
-use Rattle.picture_lanes.specs.declared.lane.Lane.{Lane}
-use Rattle.picture_lanes.proofs.Paths.{kept_where_there}
+use Rattle.std.specs.Option.{option_copied}
+use Rattle.picture_lanes.proofs.Stops.{stop_kept, stop_put}
 use Rattle.picture_lanes.proofs.table.note_stop.Goals as goal
 
-pub returns-then-has_path : goal.returns-then-has_path
-returns-then-has_path c =
-    sym
-    (kept_where_there c.args.lanes.now.items c.args.stop.now c.position-likely.result
-    (subst (λ (path : List ℕ). HasPath c.args.lanes.now.items c.position-likely.result path) c.as_slice-path.ensures
-    (subst (λ (lanes : List Lane). HasPath lanes c.position-likely.result c.as_slice-path.result.now) c.as_slice-2.ensures.value
-    (c.if-has_path.ensures refl))))
+pub returns-then-is_along-clause-lanes : goal.returns-then-is_along-clause-lanes
+returns-then-is_along-clause-lanes c =
+    stop_kept c.args.lanes.now.items c.as_slice-standing.result.now c.args.stop.now c.as_slice-path.result.now c.leading-index.result (option_copied c.lane_at.result)
+    c.as_slice-path.ensures c.as_slice-standing.ensures.value c.lane_at.ensures c.if-is_along.ensures
+
+pub returns-clause-lanes : goal.returns-clause-lanes
+returns-clause-lanes c =
+    (stop_put c.args.lanes.now.items c.as_slice-standing.result.now c.insert.new.self.items c.args.stop.now c.as_slice-path.result.now c.leading-index.result
+    (option_copied c.lane_at.result) c.in_ok-lane.lane c.requires c.as_slice-path.ensures c.as_slice-standing.ensures.value c.leading-index.ensures.count
+    c.lane_at.ensures c.if-is_along.ensures c.in_ok-lane.ensures c.in_ok-insert.ensures.items).0
+
+pub returns-clause-order : goal.returns-clause-order
+returns-clause-order c =
+    (stop_put c.args.lanes.now.items c.as_slice-standing.result.now c.insert.new.self.items c.args.stop.now c.as_slice-path.result.now c.leading-index.result
+    (option_copied c.lane_at.result) c.in_ok-lane.lane c.requires c.as_slice-path.ensures c.as_slice-standing.ensures.value c.leading-index.ensures.count
+    c.lane_at.ensures c.if-is_along.ensures c.in_ok-lane.ensures c.in_ok-insert.ensures.items).1
