@@ -7,10 +7,10 @@ pub fn add_reason(text: &mut Text, why: Refusal) {
     match why {
         Refusal::Memory => text.add(b"there was no memory for it, and nothing changed"),
         Refusal::NotReady => text.add(
-            b"no step can be taken there now; `ready` numbers those that can, and a number takes one",
+            b"no step can be taken there now\n  `ready` numbers those that can, and a number takes one",
         ),
         Refusal::HistoryFull => {
-            text.add(b"65536 steps are live, and there may be no more; `back` takes some back")
+            text.add(b"65536 steps are live, and there may be no more\n  `back` takes some back")
         }
         Refusal::NoSuchEvent => text.add(b"no live step has this number; `live` lists them"),
         Refusal::NeededBy(ticket) => {
@@ -18,7 +18,7 @@ pub fn add_reason(text: &mut Text, why: Refusal) {
         }
         Refusal::NeverWritten => text.add(b"no live step wrote it, so it is 0 as at the beginning"),
         Refusal::Spent => text.add(
-            b"no number is left for another step; `save` keeps the run, and `load` begins again from 1",
+            b"no number is left for another step\n  `save` keeps the run, and `load` begins again from 1",
         ),
         Refusal::BreaksFull => {
             text.add(b"as many lines have a breakpoint as may have one; `clear LINE` frees one")

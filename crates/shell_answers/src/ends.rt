@@ -6,9 +6,8 @@ use local_actions::{ActionKind, LocalAction};
 use locked_execution::{Command, Reply};
 use plain_words::{Text, add_reason, add_value};
 use shell_desk::{Deed, End};
-use system::{Branch, System};
 use value::Value;
-use waiting::{Partner, Progress, Waiting, who_waits};
+use waiting::{Progress, Waiting, who_waits};
 
 /// Why a run ended that took so many steps.
 pub fn run_text(scene: &Scene<'_>, end: End, taken: u64) -> Text {
@@ -60,61 +59,15 @@ fn add_still(text: &mut Text, scene: &Scene<'_>, taken: u64) {
     }
 }
 
-/// Adds why nothing can go on, where that is plain: a ring of those that wait, or a stimulus that is used up.
+/// Adds why nothing can go on, where that is plain: a ring of those that wait, or that more in the stimulus is all that
+/// is missing.
 fn add_why_still(text: &mut Text, scene: &Scene<'_>, waiting: &Waiting) {
     if !waiting.ring.is_empty() {
-        text.add(b": a deadlock, where each waits for the next\n");
-        return;
-    }
-    if let Some(channel) = used_up(scene, waiting) {
-        text.add(b": the stimulus of ");
-        text.add_channel(scene.system(), Some(channel));
-        text.add(b" is used up");
-    }
-    text.add(b"\n");
-}
-
-/// The channel of the first action of the circuit that waits for more than the stimulus has, if there is one.
-fn used_up(scene: &Scene<'_>, waiting: &Waiting) -> Option<u32> {
-    for (index, offered) in waiting.actions.as_slice().iter().enumerate() {
-        let is_of_circuit = scene.machine().line(&offered.place).is_some();
-        if let (Some(Partner::Gone), Some(channel)) = (
-            waiting.partners.get(index),
-            channel_taken(&offered.action),
-        ) {
-            if is_of_circuit && is_fed(scene.system(), channel) {
-                return Some(channel);
-            }
-        }
-    }
-    None
-}
-
-/// The channel on which the action takes something, if it does.
-fn channel_taken(action: &ActionKind) -> Option<u32> {
-    match action {
-        ActionKind::Receives(channel, _)
-        | ActionKind::Opens(channel, _)
-        | ActionKind::Syncs(channel) => Some(*channel),
-        _ => None,
-    }
-}
-
-/// Whether the stimulus has values or handshakes for the channel.
-fn is_fed(system: &System, channel: u32) -> bool {
-    for branch in system.environment.as_slice() {
-        if feeds(branch, channel) {
-            return true;
-        }
-    }
-    false
-}
-
-/// Whether the branch of the environment has some for the channel.
-fn feeds(branch: &Branch, channel: u32) -> bool {
-    match branch {
-        Branch::Feed(port, _, _) | Branch::Syncs(port, _) => *port == channel,
-        Branch::Drain(_) => false,
+        text.add(b": a deadlock\n  each waits for the next, in a ring\n");
+    } else if waiting.lacks_input(scene.machine()) {
+        text.add(b": the stimulus is used up\n");
+    } else {
+        text.add(b"\n");
     }
 }
 

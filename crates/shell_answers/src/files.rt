@@ -44,7 +44,7 @@ pub fn file_fault_text(alloc: Global, name: &str, fault: FileFault, word: Word) 
 
 /// Adds that the file is there, and which word writes over it.
 fn add_exists(text: &mut Text, name: &str, word: Word) {
-    text.add(b" is there already, and stays as it is; `");
+    text.add(b" is there already, and stays as it is\n  `");
     text.add(word.spelling());
     text.add(b"! ");
     add_given(text, name.as_bytes());
@@ -58,14 +58,14 @@ fn fault_words(fault: FileFault) -> &'static [u8] {
         FileFault::Missing => b": there is no such file or folder\n",
         FileFault::Exists => b" is there already, and stays as it is\n",
         FileFault::PartExists =>
-            b".part is in the way: a file is written there first, and then renamed; remove it\n",
+            b".part is in the way; remove it\n  a file is written there first, and then renamed\n",
         FileFault::LinkPartExists =>
-            b" is a link, and beside the file to which it leads lies one with `.part` behind the name; remove that\n",
+            b" is a link\n  beside the file to which it leads lies one with `.part` behind its name\n  remove that one\n",
         FileFault::NoFile => b" is no file: it is a folder or a device\n",
         FileFault::LeadsNowhere =>
-            b" is a link that leads to no file; it stays as it is, and nothing was written\n",
+            b" is a link that leads to no file\n  it stays as it is, and nothing was written\n",
         FileFault::AtHand =>
-            b" is the description or the stimulus of this session, and is not written over\n",
+            b" is the description or the stimulus of this session\n  it is not written over\n",
         FileFault::Forbidden => b": you may not read or write it there\n",
         FileFault::Full => b": the disk is full, and nothing was written\n",
         FileFault::Other => b": the system refused it, and nothing changed\n",

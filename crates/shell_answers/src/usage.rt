@@ -93,7 +93,7 @@ pub(crate) const USAGES: [Usage; 33] = [
     Usage {
         word: "why",
         form: "why X [all], or why T [all]",
-        does: "tells what led to the value of X, to the last step on channel X, or to step T",
+        does: "tells what led to X's value, to the last step on channel X, or to step T",
         example: "why x",
     },
     Usage {
@@ -111,7 +111,7 @@ pub(crate) const USAGES: [Usage; 33] = [
     Usage {
         word: "live",
         form: "live [N]",
-        does: "lists the steps that were taken and not taken back; or the newest N in words",
+        does: "lists the steps taken and not taken back, or the newest N in words",
         example: "live 2",
     },
     Usage {
@@ -183,7 +183,7 @@ pub(crate) const USAGES: [Usage; 33] = [
     Usage {
         word: "script",
         form: "script NAME",
-        does: "writes the lines so far to a new file, for `balsadbg debug`; `script!` over one",
+        does: "writes the lines so far to a new file, for `debug`; `script!` over one",
         example: "script adder.script",
     },
     Usage {
@@ -236,7 +236,7 @@ pub(crate) fn add_usage_words(text: &mut Text, word: &[u8], rest: &[u8]) {
     match usage.operand() {
         Some(operand) => {
             add_misfit(text, &usage, operand, rest);
-            text.add(b": write `");
+            text.add(b"\n  write `");
             text.add(usage.form.as_bytes());
             text.add(b"`, as `");
             text.add(usage.example.as_bytes());

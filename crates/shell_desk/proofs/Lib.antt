@@ -1,6 +1,7 @@
 mod AgainLemmas
 mod AwakeLemmas
 mod DeedLemmas
+mod NumberLemmas
 mod RestLemmas
 mod SleepLemmas
 mod TidyLemmas

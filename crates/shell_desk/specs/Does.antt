@@ -41,16 +41,16 @@ stopped_behind _ before = before
 abbrev pub step_of : Event → Command
 step_of e = Command.Step (choice_of e)
 
--- what bare numbers mean behind a reply: a list of ready events numbers them, or, without memory, nothing
-abbrev pub Numbers : Reply → List Command → List Command → Type 0
-Numbers (Reply.Ready events) before after = (after ≡ map step_of events) ⊎ (after ≡ [])
-Numbers _ before after = after ≡ before
+-- what bare numbers mean behind a reply: the events of the last list of ready events, until the next one
+abbrev pub numbers_behind : Reply → List Command → List Command
+numbers_behind (Reply.Ready events) before = map step_of events
+numbers_behind _ before = before
 
 -- one command of the session is asked and answered
 abbrev pub Asked : AtBench → Command → Reply → AtBench → Type 0
 Asked b c reply b' =
     Answers b.desk b.session c reply b'.desk × (b'.session ≡ b.session)
-    × Numbers reply b.numbered b'.numbered
+    × (b'.numbered ≡ numbers_behind reply b.numbered)
     × (b'.branch ≡ branch_behind b.desk.machine.checked reply b.branch)
     × (b'.stopped ≡ stopped_behind reply b.stopped)
 

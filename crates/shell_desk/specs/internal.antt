@@ -1,3 +1,4 @@
 pub mod Again
+pub mod Numbering
 pub mod Sleeping
 pub mod Spelled

@@ -1,9 +1,11 @@
 // One command, and what it changes beside the desk.
-ghost use Rattle.std.specs.Prelude.{◌≡◌, IfOk, MatchOption, OnOk, Some, None, map, slice_get};
-ghost use Rattle.shell_desk.specs.Does.{Asked, AsksIfAny, Numbers, branch_behind, numbered_as, step_of, stopped_behind};
+ghost use Rattle.std.specs.Prelude.{◌≡◌, ◌<◌, IfOk, MatchOption, OnErr, Some, None, true, map, slice_get};
+ghost use Rattle.locked_execution.specs.Performs.{Answers};
+ghost use Rattle.shell_desk.specs.Does.{Asked, AsksIfAny, branch_behind, numbered_as, step_of, stopped_behind};
+ghost use Rattle.shell_desk.specs.internal.Numbering.{IsTold, given_or, is_list, made_of, numbers_of};
 
 use crate::{Bench, Done, Watch};
-use locked_execution::{Choice, Command, Event, Reply};
+use locked_execution::{Choice, Command, Desk, Event, Refusal, Reply};
 use std::alloc::{AllocError, Global};
 use system::System;
 use system_places::branch_at;
@@ -15,12 +17,23 @@ impl Bench {
         ensures asked { Asked self.old command.now result self.new }
         ensures system { self.new.desk.machine.checked ≡ self.old.desk.machine.checked }
     {
-        let reply = self.desk.perform(self.session, command);
-        watch.see(&self.desk, self.session, command, &reply);
-        number(&mut self.numbered, &reply);
-        self.branch = branch_behind(self.desk.machine().checked().system(), &reply, self.branch);
-        self.stopped = stopped_behind(&reply, self.stopped);
+        let alloc = *self.numbered.allocator();
+        let (reply, numbers) = answered(alloc, &mut self.desk, self.session, command, watch);
+        self.note(&reply, numbers);
         reply
+    }
+
+    /// Keeps in mind what a reply says, and what bare numbers mean from now on, where that is another than before.
+    fn note(&mut self, reply: &Reply, numbers: Option<Vec<Command>>)
+        ensures desk { self.new.desk ≡ self.old.desk }
+        ensures session { self.new.session ≡ self.old.session }
+        ensures numbered { self.new.numbered ≡ given_or (made_of numbers) self.old.numbered }
+        ensures branch { self.new.branch ≡ branch_behind self.old.desk.machine.checked reply.now self.old.branch }
+        ensures stopped { self.new.stopped ≡ stopped_behind reply.now self.old.stopped }
+    {
+        renumber(&mut self.numbered, numbers);
+        self.branch = branch_behind(self.desk.machine().checked().system(), reply, self.branch);
+        self.stopped = stopped_behind(reply, self.stopped);
     }
 
     /// The command that takes the step with this number, if there is one. It is an error if there is no memory.
@@ -46,11 +59,9 @@ impl Bench {
         let Some(command) = command_at(self.numbered.as_slice(), step - 1) else {
             return Done::Unknown;
         };
-        let reply = self.desk.perform(self.session, command);
-        watch.see(&self.desk, self.session, command, &reply);
-        number(&mut self.numbered, &reply);
-        self.branch = branch_behind(self.desk.machine().checked().system(), &reply, self.branch);
-        self.stopped = stopped_behind(&reply, self.stopped);
+        let alloc = *self.numbered.allocator();
+        let (reply, numbers) = answered(alloc, &mut self.desk, self.session, command, watch);
+        self.note(&reply, numbers);
         Done::Told(reply)
     }
 }
@@ -96,28 +107,75 @@ fn command_at(commands: &[Command], index: u64) -> Option<&Command>
     commands.get(index as usize)
 }
 
-/// Numbers the events of a reply that lists those that are ready; without memory none. Another reply leaves the
-/// numbers.
-fn number(numbered: &mut Vec<Command>, reply: &Reply)
-    ensures { Numbers reply.now numbered.old.items numbered.new.items }
+/// The answer to the command of the session at the desk, which `watch` sees, and the commands that bare numbers mean
+/// from then on, where it lists the events that are ready. Where there is no memory for these, that is the answer.
+fn answered<W: Watch>(
+    alloc: Global,
+    desk: &mut Desk,
+    session: u32,
+    command: &Command,
+    watch: &mut W,
+) -> (Reply, Option<Vec<Command>>)
+    requires { session < 16 }
+    ensures answers { Answers desk.old session command.now result.0 desk.new }
+    ensures numbers { made_of result.1 ≡ numbers_of result.0 }
+    ensures system { desk.new.machine.checked ≡ desk.old.machine.checked }
 {
-    if let Reply::Ready(events) = reply {
-        if number_all(numbered, events.as_slice()).is_err() {
-            numbered.clear();
-        }
+    let reply = desk.perform(session, command);
+    let (told, numbers) = with_numbers(alloc, reply);
+    watch.see(desk, session, command, &told);
+    (told, numbers)
+}
+
+/// The reply, and the commands of the events that it lists as ready, if it is such a list. Where there is no memory for
+/// these, that is told in place of the reply.
+fn with_numbers(alloc: Global, reply: Reply) -> (Reply, Option<Vec<Command>>)
+    ensures told { IsTold reply result.0 }
+    ensures numbers { made_of result.1 ≡ numbers_of result.0 }
+{
+    match numbers_in(alloc, &reply) {
+        Ok(numbers) => (reply, numbers),
+        Err(_) => (Reply::Refused(Refusal::Memory), None),
     }
 }
 
-/// Numbers these events in their order.
-fn number_all(numbered: &mut Vec<Command>, events: &[Event]) -> Result<(), AllocError>
-    ensures { OnOk result (numbered.new.items ≡ map step_of events.now) }
+/// The commands of the events that the reply lists as ready, if it is such a list. It is an error if there is no memory.
+fn numbers_in(alloc: Global, reply: &Reply) -> Result<Option<Vec<Command>>, AllocError>
+    ensures numbers { IfOk result (λ made. made_of made ≡ numbers_of reply.now) }
+    ensures list { OnErr result (is_list reply.now ≡ true) }
 {
-    numbered.clear();
-    for event in events {
-        let choice = event.choice(*numbered.allocator())?;
-        numbered.push(Command::Step(choice))?;
+    match reply {
+        Reply::Ready(events) => some_steps(alloc, events.as_slice()),
+        _ => Ok(None),
     }
-    Ok(())
+}
+
+/// The commands that take these events, in their order.
+fn some_steps(alloc: Global, events: &[Event]) -> Result<Option<Vec<Command>>, AllocError>
+    ensures { IfOk result (λ made. made_of made ≡ Some (map step_of events.now)) }
+{
+    Ok(Some(steps_of(alloc, events)?))
+}
+
+/// The same.
+fn steps_of(alloc: Global, events: &[Event]) -> Result<Vec<Command>, AllocError>
+    ensures { IfOk result (λ steps. steps.items ≡ map step_of events.now) }
+{
+    let mut steps = Vec::new(alloc);
+    for event in events {
+        let choice = event.choice(alloc)?;
+        steps.push(Command::Step(choice))?;
+    }
+    Ok(steps)
+}
+
+/// Puts these in place of the commands that bare numbers mean, if they are given.
+fn renumber(numbered: &mut Vec<Command>, numbers: Option<Vec<Command>>)
+    ensures { numbered.new.items ≡ given_or (made_of numbers) numbered.old.items }
+{
+    if let Some(numbers) = numbers {
+        *numbered = numbers;
+    }
 }
 
 /// The branch that was stepped last behind a reply.

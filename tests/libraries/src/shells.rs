@@ -75,12 +75,12 @@ const LINES: [(&[u8], &[u8], &[u8]); 29] = [
     (
         b"break x\n",
         b"",
-        b"  that does not fit behind `break`: write `break LINE`, as `break 7`\n  it sets a breakpoint on a line\n",
+        b"  that does not fit behind `break`\n  write `break LINE`, as `break 7`\n  it sets a breakpoint on a line\n",
     ),
     (
         b"save old\n",
         b"",
-        b"  not saved: old is there already, and stays as it is; `save! old` writes over it\n",
+        b"  not saved: old is there already, and stays as it is\n  `save! old` writes over it\n",
     ),
     (b"save! old\n", b"", b"  wrote old, 41 bytes\n"),
     (

@@ -1,5 +1,7 @@
 use Rattle.std.proofs.Common.{rules}
+use Rattle.shell_desk.specs.internal.Numbering.{made_of}
 use Rattle.shell_desk.proofs.DeedLemmas.{take-asked, take-none}
+use Rattle.shell_desk.proofs.NumberLemmas.{asked-noted}
 use Rattle.shell_desk.proofs.bench.Bench.take.Goals as goal
 
 pub returns-in_default : goal.returns-in_default
@@ -7,4 +9,7 @@ returns-in_default g c = take-none c.args.self.now c.args.step c.if-step-eq0.fal
 
 pub returns : goal.returns
 returns g c =
-    take-asked c.args.self.now _ c.args.step c.in-Some.command.now c.perform-reply.result c.if-step-eq0.false (search rules) (search rules)
+    take-asked c.args.self.now c.note.new.self c.args.step c.in-Some.command.now c.answered.result.0 c.if-step-eq0.false (search rules)
+    (asked-noted c.args.self.now c.note.new.self c.answered.new.desk c.in-Some.command.now c.answered.result.0
+    (made_of c.answered.result.1) c.answered.ensures.answers c.answered.ensures.system c.answered.ensures.numbers
+    c.note.ensures.desk c.note.ensures.session c.note.ensures.numbered c.note.ensures.branch c.note.ensures.stopped)
