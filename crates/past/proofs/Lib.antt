@@ -1,4 +1,5 @@
-mod Climbing
+mod BlockLaws
+mod LaneLaws
 mod Nearest
 mod Reading
 mod Sweeping

@@ -2,7 +2,7 @@
 use Rattle.std.proofs.Common.{◌≡◌, ◌≢◌, ◌⊎◌, ◌↔◌, inl, inr, ℕ, zero, suc, ◌+◌, ◌<◌, ◌≤◌, Bool, true, false, refl, sym, ◌∙◌, ap, subst, arith}
 use Rattle.std.proofs.lemmas.Bool.{cases_eq, cases_lt}
 use Rattle.syntax.specs.Lists.{In}
-use Rattle.runs.specs.Live.{Live, Rising, LiveAt, IsLive, DependsOn, same}
+use Rattle.runs.specs.Live.{Live, Rising, LiveAt, DependsOn, same}
 use Rattle.runs.specs.declared.event.Event.{Event}
 use Rattle.runs.proofs.public.Decisions.{Or, search-list, depends?}
 use Rattle.runs.proofs.public.DependsOnLaw.{depends-up}

@@ -11,10 +11,10 @@ use Rattle.runs.specs.declared.event.Event.{Event}
 use Rattle.runs.proofs.public.Lists.{in-parts, in-right, every-in, every-of}
 use Rattle.dependence.proofs.public.Following.{follows-on}
 use Rattle.dependence.proofs.public.Linking.{one-index}
-use Rattle.dependence.proofs.public.ListPlaces.{in-at, index-in, at-one, at-within, drop-next, in-order-left, in-order-right, in-order-across, set-other}
+use Rattle.dependence.proofs.public.ListPlaces.{in-at, at-within, drop-next, in-order-left, in-order-right, in-order-across, set-other}
 use Rattle.dependence.proofs.public.Standing.{index-rises, lesser-stands}
 use Rattle.past.specs.Laws.{ToldAsRead, values_behind, values_told}
-use Rattle.past.specs.Past.{IsInPast, ListsPast, Tells, carries, is_told, tickets_of}
+use Rattle.past.specs.Past.{IsInPast, Tells, carries, tickets_of}
 use Rattle.past.specs.PastText.{Values, noted, noted_at, written}
 use Rattle.past.specs.declared.past.PastEvent.{PastEvent}
 use Rattle.past.proofs.Nearest.{strictly}

@@ -1,30 +1,26 @@
 -- The told events of a whole past: the places of their direct causes, and the list of them.
-use Rattle.std.proofs.Common.{◌≡◌, ◌≢◌, ◌⊎◌, ◌↔◌, inl, inr, ℕ, zero, suc, ◌+◌, ◌<◌, ◌≤◌, List, [], ◌∷◌, ◌++◌, Bool, true, false, ◌||◌, ◌==◌, cond, length, Some, get_or, take, refl, sym, ◌∙◌, ap, subst, arith, append_assoc, append-nil, length-append}
+use Rattle.std.proofs.Common.{◌≡◌, ◌⊎◌, inl, inr, ℕ, zero, suc, ◌+◌, ◌<◌, ◌≤◌, List, [], ◌∷◌, ◌++◌, Bool, true, false, ◌||◌, ◌==◌, cond, length, Some, take, drop, refl, sym, ◌∙◌, ap, subst, arith, append_assoc, append-nil, length-append}
 use Rattle.std.specs.Prelude.{slice_get, slice_index}
-use Rattle.std.specs.List.Sorted.{IsPermutation}
 use Rattle.std.proofs.lemmas.Bool.{cases_eq, cases_lt}
-use Rattle.std.proofs.lemmas.List.Sorted.{Contains-permutation}
-use Rattle.std.proofs.lemmas.Option.{slice_get_within, slice_get-get_or}
+use Rattle.std.proofs.lemmas.Option.{slice_get_within}
 use Rattle.syntax.specs.Lists.{In, Every}
 use Rattle.runs.specs.InOrder.{InOrder}
-use Rattle.runs.specs.Live.{Live, Rising, LiveAt, IsLive, DependsOn}
+use Rattle.runs.specs.Live.{Live, Rising, LiveAt, DependsOn}
 use Rattle.runs.specs.declared.event.Event.{Event}
-use Rattle.runs.proofs.public.DependsOnLaw.{depends-up}
-use Rattle.runs.proofs.public.Lists.{in-left, in-right, in-parts, every-in, every-of}
+use Rattle.runs.proofs.public.Lists.{every-in, every-of}
 use Rattle.runs.proofs.public.Options.{none-some, some-injective}
 use Rattle.runs.proofs.public.Tickets.{rising-one}
-use Rattle.dependence.specs.Followers.{Follower, ListsLeads}
+use Rattle.dependence.specs.Followers.{Follower, ListsLeads, Reached, here, along}
 use Rattle.dependence.proofs.public.Following.{follows-on}
-use Rattle.dependence.proofs.public.FollowerLaws.{direct-follows}
-use Rattle.dependence.proofs.public.ListPlaces.{in-at, index-in, at-one, at-within, got-here}
+use Rattle.dependence.proofs.public.FollowerLaws.{direct-follows, reached-follows, reached-through-followers}
+use Rattle.dependence.proofs.public.ListPlaces.{in-at, index-in, at-one, at-within, got-here, take-all, drop-all}
 use Rattle.past.specs.Past.{DirectCause, IsInPast, ListsCauses, ListsPast, ListsTickets, Tells, carries, tickets_of}
 use Rattle.past.specs.declared.past.Past.{Past}
 use Rattle.past.specs.declared.past.PastEvent.{PastEvent}
-use Rattle.past.specs.internal.Near.{AllNear, AllTold, AreLeads, AreNear, ArePlaces, Falling, HandedOn, HandsOn, IsNear, LeadDown, tickets_at, told, told_tickets, Told, ToldAt, untold}
+use Rattle.past.specs.internal.Blocks.{AllOpen, Down, stays, leads_on, IsOpen}
+use Rattle.past.specs.internal.Near.{AllLeads, AllNear, AreLeads, ArePlaces, Falling, IsNear, LeadDown, tickets_at, told, told_tickets, Told, ToldAt, untold}
 use Rattle.past.specs.internal.Swept.{FollowsAt, IsWhole}
-use Rattle.past.specs.internal.Topmost.{AreTop, AreTopHanded, Under, first, then_down}
-use Rattle.past.proofs.Climbing.{in-take-next}
-use Rattle.past.proofs.Nearest.{Candidate, strictly, cause-above, candidate-cause, candidate-other, candidate-told, top-cause, cause-top, all-told, one-untold}
+use Rattle.past.proofs.Nearest.{all-told}
 
 -- ---- places in a list that ascends
 pub order-at : (ts : List ℕ) (i j a b : ℕ) → InOrder ◌<◌ ts → slice_get ts i ≡ Some a → slice_get ts j ≡ Some b → i < j → a < b
@@ -114,11 +110,6 @@ pub tickets-length : (whole : List PastEvent) → length (tickets_of whole) ≡ 
 tickets-length [] = refl
 tickets-length (y ∷ whole) = ap suc (tickets-length whole)
 
--- a place further down, and further down from there
-under-join : (near : List (List ℕ)) (c q p : ℕ) → Under near c q → Under near q p → Under near c p
-under-join near c q p h (first places at i) = then_down places h at i
-under-join near c q p h (then_down {q = m} places before at i) = then_down places (under-join near c q m h before) at i
-
 module _ (low next : ℕ) (l : Live) (t : ℕ) (last : Event) (r : Rising low l next) (at_last : LiveAt l t last) (whole : List PastEvent) (w : IsWhole l t whole) where
   -- the event at a place
   pub event-at : (p u : ℕ) → slice_get (tickets_of whole) p ≡ Some u → (x : PastEvent) × (slice_get whole p ≡ Some x) × (x.ticket ≡ u)
@@ -175,218 +166,110 @@ module _ (low next : ℕ) (l : Live) (t : ℕ) (last : Event) (r : Rising low l 
 
   pub placed-at : (tickets some places : List ℕ) (p : ℕ) (x : PastEvent) → tickets ≡ tickets_of whole → slice_get whole p ≡ Some x → some ≡ x.causes →
       ArePlaces tickets some places → AreLeads l (tickets_of whole) x.ticket places
-  placed-at tickets some places p x same at is are =
+  placed-at tickets some places p x one_is at is are =
       leads-placed l (tickets_of whole) x.causes places x.ticket w.tickets.in_order
-      (subst (λ (ts : List ℕ). ArePlaces ts x.causes places) same (subst (λ (us : List ℕ). ArePlaces tickets us places) is are)) (lead-in p x at)
+      (subst (λ (ts : List ℕ). ArePlaces ts x.causes places) one_is (subst (λ (us : List ℕ). ArePlaces tickets us places) is are)) (lead-in p x at)
 
-  -- the lists of places lead down
-  module _ (near : List (List ℕ)) (size : length near ≤ length whole) (are : AreNear l t (tickets_of whole) near) where
-    near-at : (q : ℕ) (places : List ℕ) → slice_get near q ≡ Some places → (s : ℕ) × (slice_get (tickets_of whole) q ≡ Some s) × IsNear l t (tickets_of whole) s places
-    near-at q places at =
-        let count = tickets-length whole in
-        let inside : q < length near = slice_get_within near q places at in
-        let found = at-within (tickets_of whole) q (omega arith) in
-        (found.0, found.1, are q found.0 places found.1 at)
+  told-at : (p u : ℕ) → slice_get (tickets_of whole) p ≡ Some u → IsInPast false l t u → ToldAt t whole p true
+  told-at p u at h = let x = event-at p u at in (x.0, x.1, is-told p x.0 x.1 (subst (λ (v : ℕ). IsInPast false l t v) (sym x.2) h))
 
-    pub near-down : LeadDown near
-    near-down q p places at i =
-        let here = near-at q places at in
-        let cause = (here.2.exactly p).0 i in
-        places-rise (tickets_of whole) p q cause.0 here.0 w.tickets.in_order cause.1 here.1
-        (strictly cause.0 here.0 (depends-up l cause.0 here.0 cause.2.cause) (λ is. cause.2.other (sym is)))
+  told-past : (p : ℕ) (h : ToldAt t whole p true) → (slice_get (tickets_of whole) p ≡ Some h.0.ticket) × IsInPast false l t h.0.ticket
+  told-past p h = (ticket-at whole p h.0 h.1, told-is p h.0 h.1 h.2)
 
-    under-down : (c p : ℕ) → Under near c p → p < c
-    under-down c p (first places at i) = near-down c p places at i
-    under-down c p (then_down {q = q} places before at i) =
-        let less : p < q = near-down q p places at i in
-        let more : q < c = under-down c q before in
-        omega arith
+  -- ---- the lists of what the events follow
+  module _ (leads : List (List ℕ)) (all : AllLeads l (tickets_of whole) leads) where
+    pub leads-down : LeadDown leads
+    leads-down q p places at i =
+        let inside : q < length leads = slice_get_within leads q places at in
+        let size = all.size in
+        let here = at-within (tickets_of whole) q (omega arith) in
+        let f = ((all.lists q here.0 places here.1 at).exactly p).0 i in
+        places-rise (tickets_of whole) p q f.0 here.0 w.tickets.in_order f.1 here.1 f.2.dependent.less
 
-    -- a place that is led to is that of a cause
-    under-on : (c p a : ℕ) → Under near c p → slice_get (tickets_of whole) c ≡ Some a → (u : ℕ) × (slice_get (tickets_of whole) p ≡ Some u) × DependsOn l u a
-    under-on c p a (first places at i) at_c = let cause = ((are c a places at_c at).exactly p).0 i in (cause.0, cause.1, cause.2.cause)
-    under-on c p a (then_down {q = q} places before at i) at_c =
-        let above = under-on c q a before at_c in
-        let cause = ((are q above.0 places above.1 at).exactly p).0 i in
-        (cause.0, cause.1, follows-on l cause.0 above.0 a cause.2.cause above.2)
+    -- where they lead down, the one depends on the other
+    down-on : (p q u s : ℕ) → Down leads p q → slice_get (tickets_of whole) p ≡ Some u → slice_get (tickets_of whole) q ≡ Some s → DependsOn l u s
+    down-on p q u s stays at_p at_q = subst (λ (v : ℕ). DependsOn l u v) (at-one (tickets_of whole) p u s at_p at_q) (reached-follows l u u here)
+    down-on p q u s (leads_on {f = f} places before at i) at_p at_q =
+        let lead = ((all.lists q s places at_q at).exactly f).0 i in
+        follows-on l u lead.0 s (down-on p f u lead.0 before at_p lead.1) (direct-follows l lead.0 s lead.2.dependent)
 
-    -- the place of a told cause is led to
-    on-within : (n c p a u : ℕ) → a ≤ u + n → c < length near → slice_get (tickets_of whole) c ≡ Some a → slice_get (tickets_of whole) p ≡ Some u →
-        IsInPast false l t u → u ≢ a → DependsOn l u a → Under near c p
-    on-within zero c p a u close inside at_c at_p told differs on =
-        let up : u ≤ a = depends-up l u a on in
-        let is : u ≡ a = omega arith in
-        absurd (differs is)
-    on-within (suc n) c p a u close inside at_c at_p told differs on =
-        let past = past-at c a at_c in
-        let above = cause-above low next false l t last r at_last u a past.0 past.1 told differs on in
-        let k : ℕ = above.ticket in
-        let place = place-of false k above.direct.told in
-        let list = at-within near c inside in
-        let in_list : In place.0 list.0 = ((are c a list.0 at_c list.1).exactly place.0).1 (k, place.1, above.direct) in
-        let down : place.0 < c = near-down c place.0 list.0 list.1 in_list in
-        elim (cases_eq u k) [
-          | inl is ↦
-              let same_place : p ≡ place.0 = one-place (tickets_of whole) p place.0 u w.tickets.in_order at_p (place.1 ∙ ap (λ (v : ℕ). Some v) (sym is)) in
-              first list.0 list.1 (subst (λ (q : ℕ). In q list.0) (sym same_place) in_list)
-          | inr more ↦
-              let up : k < a = strictly k a (depends-up l k a above.direct.cause) (λ is. above.direct.other (sym is)) in
-              let near_by : k ≤ u + n = omega arith in
-              let lower : place.0 < length near = omega arith in
-              under-join near c place.0 p (first list.0 list.1 in_list)
-              (on-within n place.0 p k u near_by lower place.1 at_p told more above.on)
-        ]
+    reached-down : (u s p q : ℕ) → Reached l u s → slice_get (tickets_of whole) p ≡ Some u → slice_get (tickets_of whole) q ≡ Some s → Down leads p q
+    reached-down u s p q here at_p at_q = subst (λ (k : ℕ). Down leads p k) (one-place (tickets_of whole) p q u w.tickets.in_order at_p at_q) stays
+    reached-down u s p q (along {u = v} before f) at_p at_q =
+        let d = f.dependent in
+        let place = place-of true v (d.event, d.live, follows-on l v s t (direct-follows l v s d) (past-at q s at_q).2, refl) in
+        let inside : q < length (tickets_of whole) = slice_get_within (tickets_of whole) q s at_q in
+        let size = all.size in
+        let list = at-within leads q (omega arith) in
+        leads_on list.0 (reached-down u v p place.0 before at_p place.1) list.1 (((all.lists q s list.0 at_q list.1).exactly place.0).1 (v, place.1, f))
 
-    -- ---- of an event at the next place
-    module _ (s : ℕ) (leads : List ℕ) (at_s : slice_get (tickets_of whole) (length near) ≡ Some s) (placed : AreLeads l (tickets_of whole) s leads) where
-      s-on : DependsOn l s t
-      s-on = (past-at (length near) s at_s).2
+    on-down : (p q u s : ℕ) → DependsOn l u s → slice_get (tickets_of whole) p ≡ Some u → slice_get (tickets_of whole) q ≡ Some s → Down leads p q
+    on-down p q u s on at_p at_q = reached-down u s p q ((reached-through-followers low next l u s r).0 on) at_p at_q
 
-      lead-past : (f : ℕ) → Follower l f s → (p : ℕ) × (slice_get (tickets_of whole) p ≡ Some f)
-      lead-past f follower =
-          let d = follower.dependent in
-          place-of true f (d.event, d.live, follows-on l f s t (direct-follows l f s d) s-on, refl)
+    -- a told event to which they lead down, with no other between, is a direct cause
+    open-cause : (p q s : ℕ) → slice_get (tickets_of whole) q ≡ Some s → IsOpen t whole leads p q →
+        (u : ℕ) × (slice_get (tickets_of whole) p ≡ Some u) × DirectCause false l t s u
+    open-cause p q s at_q h =
+        let u : ℕ = h.0.0.0.ticket in
+        let one = told-past p h.0.0 in (
+          u,
+          one.0,
+          record {
+            told = one.1;
+            other = λ is. h.0.1 (one-place (tickets_of whole) p q u w.tickets.in_order one.0 (at_q ∙ ap (λ (v : ℕ). Some v) (sym is)));
+            cause = down-on p q u s h.0.2 one.0 at_q;
+            next = λ v told_v from to. elim (cases_eq v u) [
+              | inl is ↦ inl is
+              | inr first ↦ elim (cases_eq v s) [
+                | inl is ↦ inr is
+                | inr end ↦
+                    let place = place-of false v told_v in
+                    absurd (h.1 (
+                      h.0.0,
+                      (
+                        place.0,
+                        told-at place.0 v place.1 told_v,
+                        (λ is. first (at-one (tickets_of whole) p v u (subst (λ (k : ℕ). slice_get (tickets_of whole) k ≡ Some v) is place.1) one.0)),
+                        (λ is. end (at-one (tickets_of whole) q v s (subst (λ (k : ℕ). slice_get (tickets_of whole) k ≡ Some v) is place.1) at_q)),
+                        on-down p place.0 u v from one.0 place.1,
+                        on-down place.0 q v s to place.1 at_q,
+                      ),
+                    ))
+              ]
+            ];
+          },
+        )
 
-      pub lead-lower : (q : ℕ) → In q leads → q < length near
-      lead-lower q i =
-          let f = (placed.exactly q).0 i in
-          places-rise (tickets_of whole) q (length near) f.0 s w.tickets.in_order f.1 at_s f.2.dependent.less
+    cause-open : (p q s u : ℕ) → slice_get (tickets_of whole) p ≡ Some u → slice_get (tickets_of whole) q ≡ Some s → DirectCause false l t s u → IsOpen t whole leads p q
+    cause-open p q s u at_p at_q d = (
+      (
+        told-at p u at_p d.told,
+        (λ is. d.other (at-one (tickets_of whole) q u s (subst (λ (k : ℕ). slice_get (tickets_of whole) k ≡ Some u) is at_p) at_q)),
+        on-down p q u s d.cause at_p at_q,
+      ),
+      (λ h.
+          let v : ℕ = h.1.0 in
+          let x : ℕ = h.1.1.0.ticket in
+          let one = told-past v h.1.1 in
+          elim (d.next x one.1 (down-on p v u x h.1.4 at_p one.0) (down-on v q x s h.1.5 one.0 at_q)) [
+            | inl is ↦ h.1.2 (one-place (tickets_of whole) v p u w.tickets.in_order (one.0 ∙ ap (λ (k : ℕ). Some k) is) at_p)
+            | inr is ↦ h.1.3 (one-place (tickets_of whole) v q s w.tickets.in_order (one.0 ∙ ap (λ (k : ℕ). Some k) is) at_q)
+          ]),
+    )
 
-      handed-candidate : (p : ℕ) → HandedOn t whole near leads p → (u : ℕ) × (slice_get (tickets_of whole) p ≡ Some u) × Candidate false l t s u
-      handed-candidate p h =
-          let q : ℕ = h.0 in
-          let f = (placed.exactly q).0 h.1 in
-          let is-at : (x : PastEvent) → slice_get whole q ≡ Some x → x.ticket ≡ f.0 =
-          λ x at. at-one (tickets_of whole) q x.ticket f.0 (ticket-at whole q x at) f.1 in
-          elim h.2 [
-            | inl own ↦
-                let x = own.0 in (
-                  f.0,
-                  subst (λ (k : ℕ). slice_get (tickets_of whole) k ≡ Some f.0) (sym own.1) f.1,
-                  (f.0, f.2, inl (subst (λ (v : ℕ). IsInPast false l t v) (is-at x.0 x.1) (told-is q x.0 x.1 x.2), refl)),
-                )
-            | inr further ↦
-                let x = further.0 in
-                let list = further.1 in
-                let cause = ((are q f.0 list.0 f.1 list.1).exactly p).0 list.2 in
-                let out : IsInPast false l t f.0 → ⊥ =
-                λ told. untold-is q x.0 x.1 x.2 (subst (λ (v : ℕ). IsInPast false l t v) (sym (is-at x.0 x.1)) told) in
-                (cause.0, cause.1, (f.0, f.2, inr (out, cause.2)))
-          ]
-
-      candidate-handed : (p u : ℕ) → slice_get (tickets_of whole) p ≡ Some u → Candidate false l t s u → HandedOn t whole near leads p
-      candidate-handed p u at_p h =
-          let f : ℕ = h.0 in
-          let place = lead-past f h.1 in
-          let q : ℕ = place.0 in
-          let inside : In q leads = (placed.exactly q).1 (f, place.1, h.1) in
-          let x = event-at q f place.1 in
-          let lower : q < length near = places-rise (tickets_of whole) q (length near) f s w.tickets.in_order place.1 at_s h.1.dependent.less in
-          elim h.2 [
-            | inl own ↦ (
-              q,
-              inside,
-              inl (
-                (x.0, x.1, is-told q x.0 x.1 (subst (λ (v : ℕ). IsInPast false l t v) (sym x.2) own.0)),
-                one-place (tickets_of whole) p q f w.tickets.in_order (at_p ∙ ap (λ (v : ℕ). Some v) own.1) place.1,
-              ),
-            )
-            | inr further ↦
-                let list = at-within near q lower in (
-                  q,
-                  inside,
-                  inr (
-                    (x.0, x.1, not-told q x.0 x.1 (λ told. further.0 (subst (λ (v : ℕ). IsInPast false l t v) x.2 told))),
-                    (list.0, list.1, ((are q f list.0 place.1 list.1).exactly p).1 (u, at_p, further.1)),
-                  ),
-                )
-          ]
-
-      candidate-lower : (p u : ℕ) → slice_get (tickets_of whole) p ≡ Some u → Candidate false l t s u → p < length near
-      candidate-lower p u at_p h =
-          places-rise (tickets_of whole) p (length near) u s w.tickets.in_order at_p at_s
-          (strictly u s (depends-up l u s (candidate-cause low next false l t last r at_last s u h))
-          (λ is. candidate-other low next false l t last r at_last s u h (sym is)))
-
-      -- the topmost of what is handed on are its direct causes
-      pub top-near : (kept : List ℕ) → AreTopHanded t whole near leads kept → IsNear l t (tickets_of whole) s kept
-      top-near kept tops = record {
-        exactly = λ p. (
-          (λ i.
-              let top = (tops.exactly p).0 i in
-              let at = handed-candidate p top.0 in (
-                at.0,
-                at.1,
-                top-cause low next false l t last r at_last s at.0 (
-                  at.2,
-                  λ c h on. elim (cases_eq at.0 c) [
-                    | inl is ↦ sym is
-                    | inr differs ↦
-                        let place = place-of false c (candidate-told low next false l t last r at_last s c h) in
-                        let under =
-                        on-within c place.0 p c at.0 (omega arith) (candidate-lower place.0 c place.1 h) place.1 at.1
-                        (candidate-told low next false l t last r at_last s at.0 at.2) differs on in
-                        absurd (top.1 place.0 (candidate-handed place.0 c place.1 h) under)
-                  ],
-                ),
-              )),
-          (λ h.
-              let top = cause-top low next false l t last r at_last s h.0 h.2 in
-              (tops.exactly p).1 (
-                candidate-handed p h.0 h.1 top.0,
-                λ c handed under.
-                    let above = handed-candidate c handed in
-                    let below = under-on c p above.0 under above.1 in
-                    let same_ticket : below.0 ≡ h.0 = at-one (tickets_of whole) p below.0 h.0 below.1 h.1 in
-                    let one : above.0 ≡ h.0 = top.1 above.0 above.2 (subst (λ (v : ℕ). DependsOn l v above.0) same_ticket below.2) in
-                    let same_place : c ≡ p =
-                    one-place (tickets_of whole) c p h.0 w.tickets.in_order (above.1 ∙ ap (λ (v : ℕ). Some v) one) h.1 in
-                    let less : p < c = under-down c p under in
-                    omega arith,
-              )),
-        );
-        falling = tops.falling;
-      }
-
-      -- where all that it follows are told, they are
-      pub told-near : AllTold t whole leads → IsNear l t (tickets_of whole) s leads
-      told-near all =
-          let told_lead : (f : ℕ) → Follower l f s → IsInPast false l t f = λ f follower.
-          let place = lead-past f follower in
-          let x = all place.0 ((placed.exactly place.0).1 (f, place.1, follower)) in
-          subst (λ (v : ℕ). IsInPast false l t v)
-          (at-one (tickets_of whole) place.0 x.0.ticket f (ticket-at whole place.0 x.0 x.1) place.1) (told-is place.0 x.0 x.1 x.2) in
+    pub near-all : (near : List (List ℕ)) → length near ≡ length whole → AllOpen t whole leads 0 near → AllNear l t whole near
+    near-all near size lists = record {
+      size = size;
+      lists = λ q s places told_q at_q at.
+          let found = lists q places told_q at in
           record {
             exactly = λ p. (
-              (λ i. let f = (placed.exactly p).0 i in (f.0, f.1, (all-told low next false l t last r at_last s f.0 told_lead).1 f.2)),
-              (λ h. (placed.exactly p).1 (h.0, h.1, (all-told low next false l t last r at_last s h.0 told_lead).0 h.2)),
+              (λ i. open-cause p q s at_q ((found.exactly p).0 i).1),
+              (λ h. (found.exactly p).1 (omega arith, cause-open p q s h.0 h.1 at_q h.2)),
             );
-            falling = placed.falling;
-          }
-
-      -- where it follows one that is not told, those of that are
-      pub untold-near : (q : ℕ) (places : List ℕ) → leads ≡ q ∷ [] → ToldAt t whole q false → slice_get near q ≡ Some places → IsNear l t (tickets_of whole) s places
-      untold-near q places is x at =
-          let inside : In q leads = subst (λ (k : List ℕ). In q k) (sym is) (inl refl) in
-          let f = (placed.exactly q).0 inside in
-          let same_ticket : x.0.ticket ≡ f.0 = at-one (tickets_of whole) q x.0.ticket f.0 (ticket-at whole q x.0 x.1) f.1 in
-          let out : IsInPast false l t f.0 → ⊥ =
-          λ told. untold-is q x.0 x.1 x.2 (subst (λ (v : ℕ). IsInPast false l t v) (sym same_ticket) told) in
-          let only : (g : ℕ) → Follower l g s → g ≡ f.0 = λ g follower.
-          let place = lead-past g follower in
-          let there : In place.0 (q ∷ []) = subst (λ (k : List ℕ). In place.0 k) is ((placed.exactly place.0).1 (g, place.1, follower)) in
-          elim there [
-            | inl one ↦ at-one (tickets_of whole) q g f.0 (subst (λ (k : ℕ). slice_get (tickets_of whole) k ≡ Some g) one place.1) f.1
-            | inr none ↦ absurd none
-          ] in
-          let below = are q f.0 places f.1 at in
-          record {
-            exactly = λ p. (
-              (λ i. let h = (below.exactly p).0 i in (h.0, h.1, (one-untold low next false l t last r at_last f.0 s h.0 f.2 only out).1 h.2)),
-              (λ h. (below.exactly p).1 (h.0, h.1, (one-untold low next false l t last r at_last f.0 s h.0 f.2 only out).0 h.2)),
-            );
-            falling = below.falling;
-          }
+            falling = found.falling;
+          };
+    }
 
 -- ---- the list of those that are told
 told-part : (b c : Bool) (v u : ℕ) (rest : List ℕ) → b ≡ c → In u (cond b (v ∷ rest) rest) → ((b ≡ true) × (u ≡ v)) ⊎ In u rest
@@ -455,7 +338,7 @@ every-more P (x ∷ events) one e p = (e.0, every-more P events one e.1 p)
 -- the next is told, or it is not
 pub told-passed : (l : Live) (t : ℕ) (whole left rest : List PastEvent) (x one : PastEvent) (events : List PastEvent) (n : ℕ) → Told l t whole left events n →
     left ≡ x ∷ rest → told t x ≡ true → one.ticket ≡ x.ticket → Tells l one → ListsCauses false l t one.ticket one.causes → Told l t whole rest (events ++ one ∷ []) n
-told-passed l t whole left rest x one events n p is on same tells causes =
+told-passed l t whole left rest x one events n p is on one_is tells causes =
     let shown : told_tickets t left ≡ x.ticket ∷ told_tickets t rest =
     ap (λ (k : List PastEvent). told_tickets t k) is ∙ ap (λ (b : Bool). cond b (x.ticket ∷ told_tickets t rest) (told_tickets t rest)) on in
     let hidden : untold t left ≡ untold t rest =
@@ -463,7 +346,7 @@ told-passed l t whole left rest x one events n p is on same tells causes =
     record {
       tickets = ap (λ (ts : List ℕ). ts ++ told_tickets t rest) (tickets-more events one)
           ∙ append_assoc (tickets_of events) (one.ticket ∷ []) (told_tickets t rest)
-          ∙ ap (λ (u : ℕ). tickets_of events ++ u ∷ told_tickets t rest) same
+          ∙ ap (λ (u : ℕ). tickets_of events ++ u ∷ told_tickets t rest) one_is
           ∙ ap (λ (ts : List ℕ). tickets_of events ++ ts) (sym shown)
           ∙ p.tickets;
       tells = every-more (λ (q : PastEvent). Tells l q) events one p.tells tells;
@@ -598,17 +481,19 @@ module _ (low next : ℕ) (l : Live) (t : ℕ) (last : Event) (r : Rising low l 
   }
 
 -- one list more
-pub near-more : (l : Live) (t : ℕ) (ts : List ℕ) (near : List (List ℕ)) (places : List ℕ) (s : ℕ) → AreNear l t ts near → slice_get ts (length near) ≡ Some s →
-    IsNear l t ts s places → AreNear l t ts (near ++ places ∷ [])
-near-more l t ts near places s are at_s is p u list at_p at_list = elim (cases_lt p (length near)) [
-  | inl below ↦ are p u list at_p (sym (get-left near (places ∷ []) p below) ∙ at_list)
+pub leads-more : (l : Live) (ts : List ℕ) (leads : List (List ℕ)) (places : List ℕ) (s : ℕ) →
+    ((q u : ℕ) (list : List ℕ) → slice_get ts q ≡ Some u → slice_get leads q ≡ Some list → AreLeads l ts u list) → slice_get ts (length leads) ≡ Some s →
+    AreLeads l ts s places →
+    (q u : ℕ) (list : List ℕ) → slice_get ts q ≡ Some u → slice_get (leads ++ places ∷ []) q ≡ Some list → AreLeads l ts u list
+leads-more l ts leads places s are at_s is q u list at_q at_list = elim (cases_lt q (length leads)) [
+  | inl below ↦ are q u list at_q (sym (get-left leads (places ∷ []) q below) ∙ at_list)
   | inr above ↦
-      let size = length-append near (places ∷ []) in
-      let inside : p < length (near ++ places ∷ []) = slice_get_within (near ++ places ∷ []) p list at_list in
-      let one : p ≡ length near = omega arith in
-      let same_list : places ≡ list = some-injective places list (sym (get-last near places) ∙ subst (λ (k : ℕ). slice_get (near ++ places ∷ []) k ≡ Some list) one at_list) in
-      let same_ticket : s ≡ u = at-one ts (length near) s u at_s (subst (λ (k : ℕ). slice_get ts k ≡ Some u) one at_p) in
-      subst (λ (v : ℕ). IsNear l t ts v list) same_ticket (subst (λ (k : List ℕ). IsNear l t ts s k) same_list is)
+      let size = length-append leads (places ∷ []) in
+      let inside : q < length (leads ++ places ∷ []) = slice_get_within (leads ++ places ∷ []) q list at_list in
+      let one : q ≡ length leads = omega arith in
+      let same_list : places ≡ list = some-injective places list (sym (get-last leads places) ∙ subst (λ (k : ℕ). slice_get (leads ++ places ∷ []) k ≡ Some list) one at_list) in
+      let same_ticket : s ≡ u = at-one ts (length leads) s u at_s (subst (λ (k : ℕ). slice_get ts k ≡ Some u) one at_q) in
+      subst (λ (v : ℕ). AreLeads l ts v list) same_ticket (subst (λ (k : List ℕ). AreLeads l ts s k) same_list is)
 ]
   where
     get-last : (xs : List (List ℕ)) (x : List ℕ) → slice_get (xs ++ x ∷ []) (length xs) ≡ Some x
@@ -620,86 +505,15 @@ near-more l t ts near places s are at_s is p u list at_p at_list = elim (cases_l
     get-left (y ∷ xs) ys zero h = refl
     get-left (y ∷ xs) ys (suc k) h = let less : k < length xs = omega arith in get-left xs ys k less
 
--- what one more event hands on
-pub handed-next : (t : ℕ) (whole : List PastEvent) (near : List (List ℕ)) (leads old new : List ℕ) (i q : ℕ) (x : PastEvent) (places : List ℕ) → i < length leads →
-    get_or leads i 0 ≡ q → slice_get whole q ≡ Some x → slice_get near q ≡ Some places → new ≡ old ++ cond (told t x) (q ∷ []) places →
-    ((p : ℕ) → In p old ↔ HandedOn t whole near (take i leads) p) → (p : ℕ) → In p new ↔ HandedOn t whole near (take (i + 1) leads) p
-handed-next t whole near leads old new i q x places less here at_x at_list is before p = subst (λ (k : List ℕ). In p k ↔ HandedOn t whole near (take (i + 1) leads) p) (sym is) (
-  (λ j. elim (in-parts p old (cond (told t x) (q ∷ []) places) j) [
-    | inl a ↦ let h = (before p).0 a in (h.0, (in-take-next leads i h.0 less).1 (inl h.1), h.2)
-    | inr a ↦ (q, (in-take-next leads i q less).1 (inr (sym here)), hands (told t x) refl a)
-  ]),
-  (λ h. elim ((in-take-next leads i h.0 less).0 h.1) [
-    | inl a ↦ in-left p old (cond (told t x) (q ∷ []) places) ((before p).1 (h.0, a, h.2))
-    | inr a ↦ in-right p old (cond (told t x) (q ∷ []) places) (own (told t x) refl (subst (λ (k : ℕ). HandsOn t whole near k p) (a ∙ here) h.2))
-  ]),
-)
-  where
-    hands : (b : Bool) → told t x ≡ b → In p (cond b (q ∷ []) places) → HandsOn t whole near q p
-    hands true on (inl one) = inl ((x, at_x, on), one)
-    hands true on (inr none) = absurd none
-    hands false off j = inr ((x, at_x, off), (places, at_list, j))
+-- one empty list more
+pub empty-more : (lists : List (List ℕ)) (new : List ℕ) → new ≡ [] → ((q : ℕ) (places : List ℕ) → slice_get lists q ≡ Some places → places ≡ []) →
+    (q : ℕ) (places : List ℕ) → slice_get (lists ++ new ∷ []) q ≡ Some places → places ≡ []
+empty-more [] new none all zero places at = some-injective places new (sym at) ∙ none
+empty-more [] new none all (suc q) places at = none-some places at
+empty-more (x ∷ lists) new none all zero places at = all zero places at
+empty-more (x ∷ lists) new none all (suc q) places at = empty-more lists new none (λ k ps is. all (suc k) ps is) q places at
 
-    own : (b : Bool) → told t x ≡ b → HandsOn t whole near q p → In p (cond b (q ∷ []) places)
-    own true on (inl one) = inl one.1
-    own true on (inr further) =
-        let same_event : further.0.0 ≡ x = at-one whole q further.0.0 x further.0.1 at_x in
-        let both : true ≡ false = sym on ∙ ap (λ (y : PastEvent). told t y) (sym same_event) ∙ further.0.2 in
-        cc
-    own false off (inl one) =
-        let same_event : one.0.0 ≡ x = at-one whole q one.0.0 x one.0.1 at_x in
-        let both : true ≡ false = sym one.0.2 ∙ ap (λ (y : PastEvent). told t y) same_event ∙ off in
-        cc
-    own false off (inr further) =
-        subst (λ (k : List ℕ). In p k) (at-one near q further.1.0 places further.1.1 at_list) further.1.2
-
--- ---- what is handed on, in order
-pub permuted : (xs ys : List ℕ) → IsPermutation xs ys → (n : ℕ) → In n xs → In n ys
-permuted xs ys p n i =
-    let at = index-in xs n i in
-    let there = Contains-permutation xs ys n p (at.0, slice_get_within xs at.0 n at.1, got-here xs at.0 n n at.1) in
-    in-at ys there.0 n (slice_get-get_or ys there.0 n there.1 ∙ ap (λ (k : ℕ). Some k) there.2)
-
-pub handed-within : (t : ℕ) (whole : List PastEvent) (near : List (List ℕ)) (leads : List ℕ) → LeadDown near → ((q : ℕ) → In q leads → q < length near) →
-    (p : ℕ) → HandedOn t whole near leads p → p < length near
-handed-within t whole near leads down within p h =
-    let q : ℕ = h.0 in
-    let less : q < length near = within q h.1 in
-    elim h.2 [
-      | inl own ↦ omega (arith, own.1)
-      | inr further ↦ let lower : p < q = down q p further.1.0 further.1.1 further.1.2 in omega arith
-    ]
-
-pub top-handed : (t : ℕ) (whole : List PastEvent) (near : List (List ℕ)) (leads candidates sorted given kept : List ℕ) →
-    ((p : ℕ) → In p candidates ↔ HandedOn t whole near leads p) → ((p : ℕ) → In p candidates ↔ In p sorted) → given ≡ sorted →
-    AreTop near given kept → AreTopHanded t whole near leads kept
-top-handed t whole near leads candidates sorted given kept handed same is tops =
-    let to : (c : ℕ) → In c given → HandedOn t whole near leads c =
-    λ c i. (handed c).0 ((same c).1 (subst (λ (k : List ℕ). In c k) is i)) in
-    let from : (c : ℕ) → HandedOn t whole near leads c → In c given =
-    λ c h. subst (λ (k : List ℕ). In c k) (sym is) ((same c).0 ((handed c).1 h)) in
-    record {
-      exactly = λ p. (
-        (λ i. let top = (tops.exactly p).0 i in (to p top.0, λ c h under. top.1 c (from c h) under)),
-        (λ top. (tops.exactly p).1 (from p top.0, λ c i under. top.1 c (to c i) under)),
-      );
-      falling = tops.falling;
-    }
-
--- one more of them is told
-pub all-told-next : (t : ℕ) (whole : List PastEvent) (places : List ℕ) (i : ℕ) (x : PastEvent) → i < length places →
-    slice_get whole (get_or places i 0) ≡ Some x → told t x ≡ true → AllTold t whole (take i places) → AllTold t whole (take (i + 1) places)
-all-told-next t whole places i x less at on before p h = elim ((in-take-next places i p less).0 h) [
-  | inl was ↦ before p was
-  | inr own ↦ (x, subst (λ (k : ℕ). slice_get whole k ≡ Some x) (sym own) at, on)
-]
-
--- a list of one
-pub one-of-one : (p q : ℕ) → In p (q ∷ []) → p ≡ q
-one-of-one p q (inl is) = is
-one-of-one p q (inr none) = absurd none
-
-pub single : (xs : List ℕ) → length xs ≡ 1 → xs ≡ get_or xs 0 0 ∷ []
-single [] h = absurd (omega arith)
-single (x ∷ []) h = refl
-single (x ∷ y ∷ xs) h = absurd (omega arith)
+-- what is written to the whole of a vector is what it has
+pub written-back : (new old : List (List ℕ)) (n : ℕ) → length new ≤ n → length old ≤ length new → take n (new ++ drop (length new) old) ≡ new
+written-back new old n within covers =
+    ap (λ (k : List (List ℕ)). take n (new ++ k)) (drop-all old (length new) covers) ∙ ap (λ (k : List (List ℕ)). take n k) (append-nil new) ∙ take-all new n within

@@ -1,3 +1,4 @@
+pub mod Blocks
+pub mod Lanes
 pub mod Near
 pub mod Swept
-pub mod Topmost

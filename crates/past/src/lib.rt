@@ -2,12 +2,13 @@
 //! direct causes.
 #![tactic(auto)]
 
+mod blocks;
+mod lanes;
 mod laws;
 mod past;
 mod sweep;
 mod text;
 mod told;
-mod topmost;
 
 pub use laws::values_are_told_as_read;
 pub use past::{Past, PastEvent, past_of_event, past_of_variable};

@@ -34,7 +34,8 @@ pub struct Past {
 /// Exactly the live events on which the one of this ticket depends, itself among them, in order of tickets, each with
 /// its direct causes; where not `all` are asked for, of them those that carried a value, and the one of this ticket.
 /// `None` where no live event has the ticket. It takes one sweep down over the live events, which looks only at the
-/// past. It is an error if there is no memory.
+/// past; where not `all` are asked for, then one up over the past for 64 of them at a time, which ends where none of
+/// these may be a direct cause any more. It is an error if there is no memory.
 pub fn past_of_event(
     alloc: Global,
     live: &Live,

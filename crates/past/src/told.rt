@@ -1,21 +1,16 @@
 // Of a whole past the events that are told where not all are: those that carried a value, and the one that is asked
 // for. Each has its direct causes among them.
-//
-// The direct causes of an event are found from those of the events that it follows, from the first event on: an event
-// that it follows and that is told may be one, of any other its direct causes may be. Of these, the topmost are.
-ghost use Rattle.std.specs.Prelude.{◌≡◌, ◌<◌, ◌≤◌, ◌++◌, ◌∷◌, [], ◌↔◌, ℕ, cond, false, true, length, Some, slice_get, IfOk, OnOk};
-ghost use Rattle.std.specs.List.Sorted.{IsNonDecreasing};
+ghost use Rattle.std.specs.Prelude.{◌≡◌, ◌<◌, [], ℕ, List, length, false, Some, slice_get, IfOk, OnOk};
 ghost use Rattle.syntax.specs.Lists.{In};
 ghost use Rattle.runs.specs.InOrder.{InOrder};
 ghost use Rattle.runs.specs.Live.{IsLive};
 ghost use Rattle.dependence.specs.internal.Tables.{IsRising};
 ghost use Rattle.past.specs.Past.{ListsPast, tickets_of};
-ghost use Rattle.past.specs.internal.Near.{AllNear, AllTold, AreNear, ArePlaces, HandedOn, IsNearAt, LeadDown, tickets_at, told, ToldAt};
+ghost use Rattle.past.specs.internal.Near.{AllLeads, AllNear, ArePlaces, tickets_at};
 ghost use Rattle.past.specs.internal.Swept.{IsWhole};
-ghost use Rattle.past.specs.internal.Topmost.{AreTopHanded};
 
+use crate::blocks::{find_near, is_told};
 use crate::past::{Past, PastEvent};
-use crate::topmost::topmost;
 use dependence::Live;
 use std::alloc::{AllocError, Global};
 use syntax::Items;
@@ -33,8 +28,11 @@ pub(crate) fn told_past(
 {
     live.is_sound();
     let tickets = tickets_of(alloc, whole)?;
-    let mut near = Items::new(alloc);
-    add_near(alloc, live, whole, tickets.as_slice(), asked, &mut near)?;
+    let mut leads = Items::new(alloc);
+    add_leads(alloc, live, whole, tickets.as_slice(), asked, &mut leads)?;
+    let mut near = Vec::new(alloc);
+    add_empty(alloc, whole.len(), &mut near)?;
+    find_near(alloc, whole, leads.as_slice(), asked, near.as_mut_slice())?;
     list_told(
         alloc,
         live,
@@ -52,55 +50,39 @@ fn tickets_of(alloc: Global, events: &[PastEvent]) -> Result<Vec<u64>, AllocErro
     events.iter().map(|event| event.ticket).collect(alloc)
 }
 
-/// Adds for each event the places of its direct causes, where there are none yet.
-fn add_near(
+/// Adds for each event the places of those that it follows, where there are none yet.
+fn add_leads(
     alloc: Global,
     live: &Live,
     whole: &[PastEvent],
     tickets: &[u64],
     asked: u64,
-    near: &mut Items<Items<usize>>,
+    leads: &mut Items<Items<usize>>,
 ) -> Result<(), AllocError>
     requires rising { IsRising live.now.live }
     requires live { IsLive live.now.live asked }
     requires whole { IsWhole live.now.live asked whole.now }
     requires tickets { tickets.now ≡ tickets_of whole.now }
-    requires empty { near.old ≡ [] }
-    ensures { OnOk result (AllNear live.now.live asked (tickets_of whole.now) near.new) }
+    requires empty { leads.old ≡ [] }
+    ensures { OnOk result (AllLeads live.now.live (tickets_of whole.now) leads.new) }
 {
-    'places: while near.len() < whole.len() {
-        let causes = near_of(alloc, live, whole, tickets, near.as_slice(), asked)?;
-        near.push(causes)?;
+    'places: while leads.len() < whole.len() {
+        let places = places_of(alloc, tickets, whole[leads.len()].causes.as_slice())?;
+        leads.push(Items::from_vec(places))?;
     }
     Ok(())
 }
 
-/// The places of the direct causes of the event behind those of which they are known, the last first.
-fn near_of(
-    alloc: Global,
-    live: &Live,
-    whole: &[PastEvent],
-    tickets: &[u64],
-    near: &[Items<usize>],
-    asked: u64,
-) -> Result<Items<usize>, AllocError>
-    requires rising { IsRising live.now.live }
-    requires live { IsLive live.now.live asked }
-    requires whole { IsWhole live.now.live asked whole.now }
-    requires tickets { tickets.now ≡ tickets_of whole.now }
-    requires within { length near.now < length whole.now }
-    requires near { AreNear live.now.live asked (tickets_of whole.now) near.now }
-    ensures { IfOk result (IsNearAt live.now.live asked (tickets_of whole.now) (length near.now)) }
+/// So many empty lists, where there are none yet.
+fn add_empty(alloc: Global, count: usize, lists: &mut Vec<Items<usize>>) -> Result<(), AllocError>
+    requires { lists.old.items ≡ [] }
+    ensures size { OnOk result (length lists.new.items ≡ count) }
+    ensures empty { (q : ℕ) (places : List ℕ) → slice_get lists.new.items q ≡ Some places → places ≡ [] }
 {
-    let leads = places_of(alloc, tickets, whole[near.len()].causes.as_slice())?;
-    let places = leads.as_slice();
-    if are_told(whole, places, asked) {
-        return copy_of(alloc, places);
+    'lists: while lists.len() < count {
+        lists.push(Items::new(alloc))?;
     }
-    if places.len() == 1 {
-        return copy_of(alloc, near[places[0]].as_slice());
-    }
-    topmost_handed_on(alloc, whole, near, places, asked)
+    Ok(())
 }
 
 /// The places of these tickets, which fall.
@@ -128,106 +110,6 @@ fn place_of(tickets: &[u64], ticket: u64) -> usize
     }
 }
 
-/// Whether the events at these places are all told.
-fn are_told(whole: &[PastEvent], places: &[usize], asked: u64) -> bool
-    requires { (p : ℕ) → In p places.now → p < length whole.now }
-    ensures all { result ≡ true → AllTold asked whole.now places.now }
-    ensures other { result ≡ false → (p : ℕ) × In p places.now × ToldAt asked whole.now p false }
-{
-    for place in places {
-        if !is_told(&whole[*place], asked) {
-            return false;
-        }
-    }
-    true
-}
-
-/// Whether the event is told.
-fn is_told(event: &PastEvent, asked: u64) -> bool
-    ensures { result ≡ told asked event.now }
-{
-    event.carries || event.ticket == asked
-}
-
-/// The same places.
-fn copy_of(alloc: Global, places: &[usize]) -> Result<Items<usize>, AllocError>
-    ensures { IfOk result (λ made. made ≡ places.now) }
-{
-    Ok(Items::from_vec(Vec::from_slice(alloc, places)?))
-}
-
-/// Of what the events at these places hand on, the topmost.
-fn topmost_handed_on(
-    alloc: Global,
-    whole: &[PastEvent],
-    near: &[Items<usize>],
-    leads: &[usize],
-    asked: u64,
-) -> Result<Items<usize>, AllocError>
-    requires size { length near.now ≤ length whole.now }
-    requires leads { (p : ℕ) → In p leads.now → p < length near.now }
-    requires down { LeadDown near.now }
-    ensures { IfOk result (AreTopHanded asked whole.now near.now leads.now) }
-{
-    let mut candidates = Vec::new(alloc);
-    add_handed_on(whole, near, leads, asked, &mut candidates)?;
-    let sorted = ascending(candidates);
-    topmost(alloc, near, sorted.as_slice())
-}
-
-/// The same places in ascending order.
-fn ascending(mut places: Vec<usize>) -> Vec<usize>
-    ensures same { (p : ℕ) → In p places.items ↔ In p result.items }
-    ensures ascending { IsNonDecreasing result.items }
-{
-    places.sort_unstable();
-    places
-}
-
-/// Adds what the events at these places hand on.
-fn add_handed_on(
-    whole: &[PastEvent],
-    near: &[Items<usize>],
-    leads: &[usize],
-    asked: u64,
-    candidates: &mut Vec<usize>,
-) -> Result<(), AllocError>
-    requires size { length near.now ≤ length whole.now }
-    requires leads { (p : ℕ) → In p leads.now → p < length near.now }
-    requires empty { candidates.old.items ≡ [] }
-    ensures { OnOk result ((p : ℕ) → In p candidates.new.items ↔ HandedOn asked whole.now near.now leads.now p) }
-{
-    for lead in leads {
-        add_of(
-            &whole[*lead],
-            near[*lead].as_slice(),
-            *lead,
-            asked,
-            candidates,
-        )?;
-    }
-    Ok(())
-}
-
-/// Adds what the event at a place, with these direct causes, hands on.
-fn add_of(
-    event: &PastEvent,
-    causes: &[usize],
-    place: usize,
-    asked: u64,
-    candidates: &mut Vec<usize>,
-) -> Result<(), AllocError>
-    ensures { OnOk result (candidates.new.items
-        ≡ candidates.old.items ++ cond (told asked event.now) (place ∷ []) causes.now) }
-{
-    if is_told(event, asked) {
-        candidates.push(place)?;
-    } else {
-        candidates.extend_from_slice(causes)?;
-    }
-    Ok(())
-}
-
 /// The told events, each with its direct causes, and how many are not told.
 fn list_told(
     alloc: Global,
@@ -241,7 +123,7 @@ fn list_told(
     requires live { IsLive live.now.live asked }
     requires whole { IsWhole live.now.live asked whole.now }
     requires tickets { tickets.now ≡ tickets_of whole.now }
-    requires near { AllNear live.now.live asked (tickets_of whole.now) near.now }
+    requires near { AllNear live.now.live asked whole.now near.now }
     ensures { IfOk result (λ past. ListsPast false live.now.live asked past) }
 {
     let mut events = Items::new(alloc);

@@ -1,6 +1,6 @@
--- Direct causes by their places in the whole past, each found from those of what the event follows.
+-- Direct causes by their places in the whole past.
 -- No reader has to believe it: the proof of `told_past` ties it to `ListsPast`.
-use Rattle.std.specs.Prelude.{◌≡◌, ◌⊎◌, ◌↔◌, ◌<◌, ℕ, ◌+◌, List, [], ◌∷◌, length, cond, Bool, true, false, ◌||◌, ◌==◌, ◌++◌, map, Some, slice_get, slice_index}
+use Rattle.std.specs.Prelude.{◌≡◌, ◌↔◌, ◌<◌, ℕ, ◌+◌, List, [], ◌∷◌, length, cond, Bool, true, false, ◌||◌, ◌==◌, ◌++◌, map, Some, slice_get, slice_index}
 use Rattle.syntax.specs.Lists.{Every, In}
 use Rattle.runs.specs.InOrder.{InOrder}
 use Rattle.runs.specs.Live.{Live}
@@ -25,25 +25,26 @@ pub record AreLeads (l : Live) (tickets : List ℕ) (s : ℕ) (places : List ℕ
   pub exactly : (p : ℕ) → In p places ↔ ((u : ℕ) × (slice_get tickets p ≡ Some u) × Follower l u s)
   pub falling : Falling places
 
+-- the event at the place q is told, or it is not
+abbrev pub ToldAt : ℕ → List PastEvent → ℕ → Bool → Type 0
+ToldAt t whole q b = (x : PastEvent) × (slice_get whole q ≡ Some x) × (told t x ≡ b)
+
+-- each of the places has the list of those of the events that it follows
+pub record AllLeads (l : Live) (tickets : List ℕ) (leads : List (List ℕ)) : Type 0 where
+  pub size : length leads ≡ length tickets
+  pub lists : (q s : ℕ) (places : List ℕ) → slice_get tickets q ≡ Some s → slice_get leads q ≡ Some places
+      → AreLeads l tickets s places
+
 -- exactly the places of its direct causes in the past of t, falling
 pub record IsNear (l : Live) (t : ℕ) (tickets : List ℕ) (s : ℕ) (places : List ℕ) : Type 0 where
   pub exactly : (p : ℕ) → In p places ↔ ((u : ℕ) × (slice_get tickets p ≡ Some u) × DirectCause false l t s u)
   pub falling : Falling places
 
--- the same of the event at a place
-abbrev pub IsNearAt : Live → ℕ → List ℕ → ℕ → List ℕ → Type 0
-IsNearAt l t tickets p places = (s : ℕ) × (slice_get tickets p ≡ Some s) × IsNear l t tickets s places
-
--- the lists beside the tickets are those of their direct causes
-abbrev pub AreNear : Live → ℕ → List ℕ → List (List ℕ) → Type 0
-AreNear l t tickets near =
-    (p s : ℕ) (places : List ℕ) → slice_get tickets p ≡ Some s → slice_get near p ≡ Some places
-    → IsNear l t tickets s places
-
--- each of the places has such a list
-pub record AllNear (l : Live) (t : ℕ) (tickets : List ℕ) (near : List (List ℕ)) : Type 0 where
-  pub size : length near ≡ length tickets
-  pub lists : AreNear l t tickets near
+-- each of the places where an event is told has such a list
+pub record AllNear (l : Live) (t : ℕ) (whole : List PastEvent) (near : List (List ℕ)) : Type 0 where
+  pub size : length near ≡ length whole
+  pub lists : (p s : ℕ) (places : List ℕ) → ToldAt t whole p true → slice_get (tickets_of whole) p ≡ Some s
+      → slice_get near p ≡ Some places → IsNear l t (tickets_of whole) s places
 
 -- these are the places of the tickets, in the same order
 abbrev pub ArePlaces : List ℕ → List ℕ → List ℕ → Type 0
@@ -51,28 +52,6 @@ ArePlaces tickets [] [] = Unit {0}
 ArePlaces tickets [] (p ∷ places) = ⊥
 ArePlaces tickets (u ∷ some) [] = ⊥
 ArePlaces tickets (u ∷ some) (p ∷ places) = (slice_get tickets p ≡ Some u) × ArePlaces tickets some places
-
--- the event at the place q is told
-abbrev pub ToldAt : ℕ → List PastEvent → ℕ → Bool → Type 0
-ToldAt t whole q b = (x : PastEvent) × (slice_get whole q ≡ Some x) × (told t x ≡ b)
-
--- p is in the list of the place q
-abbrev pub ListedAt : List (List ℕ) → ℕ → ℕ → Type 0
-ListedAt near q p = (places : List ℕ) × (slice_get near q ≡ Some places) × In p places
-
--- what the event at the place q hands on to one that follows it: itself where it is told, else its direct causes
-abbrev pub HandsOn : ℕ → List PastEvent → List (List ℕ) → ℕ → ℕ → Type 0
-HandsOn t whole near q p =
-    (ToldAt t whole q true × (p ≡ q))
-    ⊎ (ToldAt t whole q false × ListedAt near q p)
-
--- what one of these hands on
-abbrev pub HandedOn : ℕ → List PastEvent → List (List ℕ) → List ℕ → ℕ → Type 0
-HandedOn t whole near leads p = (q : ℕ) × In q leads × HandsOn t whole near q p
-
--- the events at these places are told
-abbrev pub AllTold : ℕ → List PastEvent → List ℕ → Type 0
-AllTold t whole places = (p : ℕ) → In p places → ToldAt t whole p true
 
 -- the tickets of those that are told, and how many are not
 abbrev pub told_tickets : ℕ → List PastEvent → List ℕ

@@ -1,12 +1,12 @@
-use Rattle.std.proofs.Common.{◌≡◌, ◌∙◌, ◌<◌, ◌≤◌, ◌+◌, ◌++◌, ◌∷◌, [], ℕ, suc, List, Bool, Some, drop, length, refl, sym, ap, subst, arith}
-use Rattle.std.proofs.lemmas.Option.{slice_get-get_or, slice_get_within}
+use Rattle.std.proofs.Common.{◌≡◌, ◌∙◌, ◌<◌, ◌+◌, ◌++◌, ◌∷◌, [], ℕ, suc, List, true, Some, drop, length, refl, sym, ap, subst, arith}
+use Rattle.std.proofs.lemmas.Option.{slice_get-get_or}
 use Rattle.syntax.specs.Lists.{In}
 use Rattle.runs.specs.Live.{Live}
 use Rattle.dependence.proofs.public.ListPlaces.{drop-all, drop-next, in-at}
 use Rattle.runs.proofs.public.Lists.{every-in}
-use Rattle.past.specs.Past.{ListsCauses, Tells, tickets_of}
+use Rattle.past.specs.Past.{Tells, tickets_of}
 use Rattle.past.specs.declared.past.PastEvent.{PastEvent}
-use Rattle.past.specs.internal.Near.{Told, tickets_at}
+use Rattle.past.specs.internal.Near.{Told, ToldAt, tickets_at}
 use Rattle.past.proofs.Telling.{near-causes, near-within, ticket-at, tickets-length, told-all, told-passed, untold-passed}
 use Rattle.past.proofs.told.list_told.Goals.{then-is_told+in_ok-with_causes+in_ok-push, else-is_told}
 use Rattle.past.proofs.told.list_told.Goals as goal
@@ -24,7 +24,8 @@ with_causes-requires c = λ p i.
     let test = c.loop-place-test.true in
     let inside : place < length c.args.near.now = omega arith in
     let at_list = slice_get-get_or c.args.near.now place list inside ∙ ap (λ (ks : List ℕ). Some ks) (sym c.index-near-place.is) in
-    let near = c.requires.near.lists place x.ticket list (ticket-at whole place x at) at_list in
+    let told : ToldAt c.args.asked whole place true = (x, at, sym c.is_told.ensures ∙ c.if-is_told.true) in
+    let near = c.requires.near.lists place x.ticket list told (ticket-at whole place x at) at_list in
     subst (λ (ts : List ℕ). p < length ts) (sym c.requires.tickets)
     (near-within 0 c.requires.rising.0 l c.args.asked c.requires.live.0 c.requires.rising.1 c.requires.live.1 whole c.requires.whole
     x.ticket list near p (subst (λ (ks : List ℕ). In p ks) c.as_slice.ensures i))
@@ -55,7 +56,8 @@ loop-place-preserved c =
       | then-is_told+in_ok-with_causes+in_ok-push w ↦
           let list : List ℕ = w.index-near-place.result in
           let at_list = slice_get-get_or c.args.near.now place list inside ∙ ap (λ (ks : List ℕ). Some ks) (sym w.index-near-place.is) in
-          let near = c.requires.near.lists place x.ticket list (ticket-at whole place x at) at_list in
+          let told_here : ToldAt c.args.asked whole place true = (x, at, sym c.is_told.ensures ∙ w.if-is_told.true) in
+          let near = c.requires.near.lists place x.ticket list told_here (ticket-at whole place x at) at_list in
           let lists = near-causes 0 c.requires.rising.0 l c.args.asked c.requires.live.0 c.requires.rising.1 c.requires.live.1 whole c.requires.whole
           x.ticket list near in
           let made : PastEvent = record { ticket = x.ticket; index = x.index; carries = x.carries; causes = tickets_at (tickets_of whole) list } in
