@@ -89,7 +89,7 @@ def shown_place(moves: list[Move], is_ready: bool) -> list:
 
 
 def stands(machine: Machine) -> list[list]:
-    """The places that wait, in order, and behind them those of the events that can be taken."""
+    """The places that wait, in order, and behind them those of the events that can be taken, each once, on the channel of each."""
     ready, state = machine.ready(), machine.state
     taken = {place for event in ready for place in event.places}
     offered: dict[Address, list[Move]] = {}
@@ -97,7 +97,11 @@ def stands(machine: Machine) -> list[list]:
         for move in moves_of(tree, branch((), number), state.store):
             offered.setdefault(move.place, []).append(move)
     waiting = [shown_place(offered[place], False) for place in sorted(offered) if place not in taken]
-    return waiting + [shown_place([move], True) for event in ready for move in event.moves]
+    met: dict[Address, list[Move]] = {}
+    for event in ready:
+        for move in event.moves:
+            met.setdefault(move.place, []).append(move)
+    return waiting + [shown_place(moves, True) for moves in met.values()]
 
 
 def facts(case: Case) -> dict:

@@ -1,10 +1,9 @@
 -- Places, one behind another, and rings of them.
-use Rattle.std.proofs.Common.{◌≡◌, ◌⊎◌, inl, inr, ℕ, zero, suc, ◌+◌, ◌-◌, ◌<◌, ◌≤◌, List, [], ◌∷◌, ◌++◌, length, get_or, take, map, append_assoc, Bool, true, false, cond, Option, Some, None, refl, sym, ◌∙◌, ap, subst, arith, length-append}
+use Rattle.std.proofs.Common.{◌≡◌, ◌⊎◌, inl, inr, ℕ, zero, suc, ◌+◌, ◌-◌, ◌<◌, ◌≤◌, List, [], ◌∷◌, ◌++◌, drop, length, get_or, take, map, append_assoc, Bool, true, false, cond, Option, Some, None, refl, sym, ◌∙◌, ap, subst, arith, length-append}
 use Rattle.std.specs.Prelude.{option_map, slice_get}
 use Rattle.std.specs.List.{flat_map}
 use Rattle.std.specs.Option.{option_to_list}
-use Rattle.std.proofs.lemmas.Grind.{flat_map-append}
-use Rattle.std.proofs.lemmas.List.{append-nil, length-take-le, map-append}
+use Rattle.std.proofs.lemmas.List.{append-nil, drop_all, drop_more, length-take-le, map-append}
 use Rattle.std.proofs.lemmas.Option.{slice_get-map}
 use Rattle.syntax.specs.Lists.{Every}
 use Rattle.runs.specs.Moves.{Place}
@@ -20,12 +19,12 @@ use Rattle.rings.specs.Rings.{places_at}
 use Rattle.rings.specs.declared.partner.Partner.{Partner}
 use Rattle.waiting.specs.Rings.{NamesRing}
 use Rattle.run_depths.specs.Since.{IsSince}
-use Rattle.picture_data.specs.Spots.{Deep, ShowsRing, Spot, StandsSince, Want, event_spots, first_role, made_spot, on_channel, place_at, places_of_sides, ready_spot, ready_spots, role_of, second_role, second_spots, spot_at, spot_of, waiting_with, want_of, with_side, with_sides}
+use Rattle.picture_data.specs.Spots.{Deep, ShowsRing, Spot, StandsSince, Want, channel_at, event_spots, first_role, is_met, made_spot, place_at, places_of_sides, ready_spot, ready_spots, role_of, second_role, second_spots, spot_at, spot_if_new, spot_of, spots_behind, waiting_with, want_of, with_side, with_sides}
 use Rattle.picture_data.specs.Wanted.{Seen}
 use Rattle.picture_data.specs.declared.places.Place.{Place as Shown}
 use Rattle.picture_data.specs.declared.places.Role.{Role}
 use Rattle.picture_data.specs.declared.places.Wanted.{Wanted}
-use Rattle.picture_data.specs.internal.SpotsSoFar.{AddsSpots, SpotsOf, TakenFor, side_place}
+use Rattle.picture_data.specs.internal.SpotsSoFar.{AddsSoFar, AddsSpots, SpotsOf, TakenFor, side_place}
 use Rattle.picture_data.proofs.EachStands.{one-more}
 
 -- ---- one more action
@@ -280,39 +279,73 @@ adds-then deep old between new ss ts one two = record {
   since_told = every-join (StandsSince deep) one.more two.more one.since_told two.since_told;
 }
 
--- what is made of a place of an event that can be taken
-pub ready-made : (m : Seen) (e : Event) (a : Place) (r : Role) (p : Shown) (ws : List Wanted) →
-    spot_of p ≡ made_spot m a r (map want_of ws) true → map want_of ws ≡ on_channel e.channel → spot_of p ≡ ready_spot m e a r
-ready-made m e a r p ws made is = made ∙ ap (λ (w : List Want). made_spot m a r w true) is
+pub wants-more : (old new : List Wanted) (w : Wanted) (x : Want) → want_of w ≡ x → new ≡ old ++ w ∷ [] → map want_of new ≡ map want_of old ++ x ∷ []
+wants-more old new w x same is =
+    ap (map want_of) is ∙ map-append want_of old (w ∷ []) ∙ ap (λ (y : Want). map want_of old ++ y ∷ []) same
 
-pub event-one : (m : Seen) (deep : Deep) (e : Event) (r : Role) (old new : List Shown) → e.second ≡ None → r ≡ first_role e.kind e.value →
-    AddsSpots deep old new (ready_spot m e e.first r ∷ []) → AddsSpots deep old new (event_spots m e)
-event-one m deep e r old new none role one =
-    subst (λ (o : Option Place). AddsSpots deep old new (ready_spot m e e.first (first_role e.kind e.value) ∷ second_spots m e o)) (sym none)
-    (subst (λ (q : Role). AddsSpots deep old new (ready_spot m e e.first q ∷ [])) role one)
+-- where an event before has the place, none is added
+pub adds_met : (m : Seen) (deep : Deep) (before es given : List Event) (a : Place) (r : Role) (t : Bool) (old new : List Shown) →
+    t ≡ is_met a given → given ≡ before → t ≡ true → new ≡ old → AddsSpots deep old new (spot_if_new m before es a r)
+adds_met m deep before es given a r t old new told is on same =
+    let met : is_met a before ≡ true = sym (told ∙ ap (λ (k : List Event). is_met a k) is) ∙ on in
+    subst (λ (ps : List Shown). AddsSpots deep old ps (spot_if_new m before es a r)) (sym same)
+    (subst (λ (b : Bool). AddsSpots deep old old (cond b [] (ready_spot m es a r ∷ []))) (sym met) (adds-none deep old))
 
-pub event-two : (m : Seen) (deep : Deep) (e : Event) (b : Place) (r q : Role) (old between new : List Shown) → e.second ≡ Some b →
-    r ≡ first_role e.kind e.value → q ≡ second_role e.kind → AddsSpots deep old between (ready_spot m e e.first r ∷ []) →
-    AddsSpots deep between new (ready_spot m e b q ∷ []) → AddsSpots deep old new (event_spots m e)
-event-two m deep e b r q old between new some role other one two =
-    subst (λ (o : Option Place). AddsSpots deep old new (ready_spot m e e.first (first_role e.kind e.value) ∷ second_spots m e o)) (sym some)
-    (adds-then deep old between new (ready_spot m e e.first (first_role e.kind e.value) ∷ []) (ready_spot m e b (second_role e.kind) ∷ [])
-    (subst (λ (w : Role). AddsSpots deep old between (ready_spot m e e.first w ∷ [])) role one)
-    (subst (λ (w : Role). AddsSpots deep between new (ready_spot m e b w ∷ [])) other two))
+-- and else one, on the channels of all that have it
+pub adds_new : (m : Seen) (deep : Deep) (before es given rest : List Event) (a : Place) (r : Role) (t : Bool) (old new : List Shown) (p : Shown) (ws : List Wanted) →
+    t ≡ is_met a given → given ≡ before → t ≡ false → map want_of ws ≡ flat_map (channel_at a) rest → rest ≡ es →
+    spot_of p ≡ made_spot m a r (map want_of ws) true → StandsSince deep p → new ≡ old ++ p ∷ [] → AddsSpots deep old new (spot_if_new m before es a r)
+adds_new m deep before es given rest a r t old new p ws told is off wanted all made lies more =
+    let met : is_met a before ≡ false = sym (told ∙ ap (λ (k : List Event). is_met a k) is) ∙ off in
+    let on : map want_of ws ≡ flat_map (channel_at a) es = wanted ∙ ap (λ (k : List Event). flat_map (channel_at a) k) all in
+    subst (λ (b : Bool). AddsSpots deep old new (cond b [] (ready_spot m es a r ∷ []))) (sym met)
+    (adds-one deep old new p (ready_spot m es a r) more (made ∙ ap (λ (w : List Want). made_spot m a r w true) on) lies)
+
+pub event-one : (m : Seen) (deep : Deep) (before es : List Event) (e : Event) (r : Role) (old new : List Shown) → e.second ≡ None → r ≡ first_role e.kind e.value →
+    AddsSpots deep old new (spot_if_new m before es e.first r) → AddsSpots deep old new (event_spots m before es e)
+event-one m deep before es e r old new none role one =
+    subst (λ (o : Option Place). AddsSpots deep old new (spot_if_new m before es e.first (first_role e.kind e.value) ++ second_spots m before es e o)) (sym none)
+    (subst (λ (k : List Spot). AddsSpots deep old new k) (sym (append-nil (spot_if_new m before es e.first (first_role e.kind e.value))))
+    (subst (λ (q : Role). AddsSpots deep old new (spot_if_new m before es e.first q)) role one))
+
+pub event-two : (m : Seen) (deep : Deep) (before es : List Event) (e : Event) (b : Place) (r q : Role) (old between new : List Shown) → e.second ≡ Some b →
+    r ≡ first_role e.kind e.value → q ≡ second_role e.kind → AddsSpots deep old between (spot_if_new m before es e.first r) →
+    AddsSpots deep between new (spot_if_new m before es b q) → AddsSpots deep old new (event_spots m before es e)
+event-two m deep before es e b r q old between new some role other one two =
+    subst (λ (o : Option Place). AddsSpots deep old new (spot_if_new m before es e.first (first_role e.kind e.value) ++ second_spots m before es e o)) (sym some)
+    (adds-then deep old between new (spot_if_new m before es e.first (first_role e.kind e.value)) (spot_if_new m before es b (second_role e.kind))
+    (subst (λ (w : Role). AddsSpots deep old between (spot_if_new m before es e.first w)) role one)
+    (subst (λ (w : Role). AddsSpots deep between new (spot_if_new m before es b w)) other two))
+
+pub ready-none : (m : Seen) (deep : Deep) (es : List Event) (old : List Shown) → AddsSoFar m deep es 0 old old
+ready-none m deep es old = record { done = []; adds = adds-none deep old; rest = refl }
 
 pub ready-next : (m : Seen) (deep : Deep) (es : List Event) (i : ℕ) (e : Event) (old between new : List Shown) → i < length es → e ≡ get_or es i e →
-    AddsSpots deep old between (ready_spots m (take i es)) → AddsSpots deep between new (event_spots m e) →
-    AddsSpots deep old new (ready_spots m (take (i + 1) es))
+    AddsSoFar m deep es i old between → AddsSpots deep between new (event_spots m (take i es) (drop i es) e) → AddsSoFar m deep es (i + 1) old new
 ready-next m deep es i e old between new less here so_far one =
+    let left : List Event = drop (i + 1) es in
     let next : take (i + 1) es ≡ take i es ++ e ∷ [] = one-more es i e less here in
-    let parts : ready_spots m (take i es ++ e ∷ []) ≡ ready_spots m (take i es) ++ event_spots m e =
-    flat_map-append (event_spots m) (take i es) (e ∷ []) ∙ ap (λ (k : List Spot). ready_spots m (take i es) ++ k) (append-nil (event_spots m e)) in
-    subst (λ (k : List Event). AddsSpots deep old new (ready_spots m k)) (sym next)
-    (subst (λ (k : List Spot). AddsSpots deep old new k) (sym parts) (adds-then deep old between new (ready_spots m (take i es)) (event_spots m e) so_far one))
+    let parts : drop i es ≡ e ∷ left = drop_more es i e less ∙ ap (λ (x : Event). x ∷ left) (sym here) in
+    let step : event_spots m (take i es) (drop i es) e ++ spots_behind m (take (i + 1) es) left ≡ spots_behind m (take i es) (drop i es) =
+    ap (λ (k : List Event). event_spots m (take i es) (drop i es) e ++ spots_behind m k left) next
+    ∙ ap (λ (k : List Event). event_spots m (take i es) k e ++ spots_behind m (take i es ++ e ∷ []) left) parts
+    ∙ sym (ap (λ (k : List Event). spots_behind m (take i es) k) parts) in
+    record {
+      done = so_far.done ++ event_spots m (take i es) (drop i es) e;
+      adds = adds-then deep old between new so_far.done (event_spots m (take i es) (drop i es) e) so_far.adds one;
+      rest =
+          append_assoc so_far.done (event_spots m (take i es) (drop i es) e) (spots_behind m (take (i + 1) es) left)
+          ∙ ap (λ (k : List Spot). so_far.done ++ k) step
+          ∙ so_far.rest;
+    }
 
 pub ready-all : (m : Seen) (deep : Deep) (es : List Event) (i : ℕ) (old new : List Shown) → length es ≤ i →
-    AddsSpots deep old new (ready_spots m (take i es)) → AddsSpots deep old new (ready_spots m es)
-ready-all m deep es i old new past h = subst (λ (k : List Event). AddsSpots deep old new (ready_spots m k)) (take-all es i past) h
+    AddsSoFar m deep es i old new → AddsSpots deep old new (ready_spots m es)
+ready-all m deep es i old new past h =
+    let none : drop i es ≡ [] = drop_all i es past in
+    let all : h.done ≡ ready_spots m es =
+    sym (append-nil h.done) ∙ sym (ap (λ (k : List Event). h.done ++ spots_behind m (take i es) k) none) ∙ h.rest in
+    subst (λ (k : List Spot). AddsSpots deep old new k) all h.adds
 
 -- ---- all of them
 

@@ -1,5 +1,5 @@
 -- What is shown of the places that wait, and of those of the events that can be taken.
-use Rattle.std.specs.Prelude.{◌≡◌, ℕ, ◌+◌, List, [], ◌∷◌, ◌++◌, Bool, true, false, cond, Option, None, Some}
+use Rattle.std.specs.Prelude.{◌≡◌, ℕ, ◌+◌, ◌||◌, List, [], ◌∷◌, ◌++◌, Bool, true, false, cond, Option, None, Some}
 use Rattle.std.specs.Prelude.{◌-◌, length, map, option_map, slice_get}
 use Rattle.std.specs.List.{flat_map}
 use Rattle.std.specs.Option.{option_to_list}
@@ -164,23 +164,58 @@ second_role kind.Assign = role.Goes
 second_role kind.Test = role.Goes
 second_role kind.Turn = role.Goes
 
--- on its channel, if it has one
+-- on a channel it waits for none
+abbrev pub want_on : ℕ → Want
+want_on c = record { channel = c; lanes = []; can_come = true }
+
 abbrev pub on_channel : Option ℕ → List Want
 on_channel None = []
-on_channel (Some c) = record { channel = c; lanes = []; can_come = true } ∷ []
+on_channel (Some c) = want_on c ∷ []
 
-abbrev pub ready_spot : Seen → Event → Place → Role → Spot
-ready_spot m e a what = made_spot m a what (on_channel e.channel) true
+abbrev pub is_second : Place → Option Place → Bool
+is_second a None = false
+is_second a (Some b) = same_place b a
 
-abbrev pub second_spots : Seen → Event → Option Place → List Spot
-second_spots m e None = []
-second_spots m e (Some b) = ready_spot m e b (second_role e.kind) ∷ []
+-- whether one of the two places of the event is this
+abbrev pub has_place : Place → Event → Bool
+has_place a e = same_place e.first a || is_second a e.second
 
-abbrev pub event_spots : Seen → Event → List Spot
-event_spots m e = ready_spot m e e.first (first_role e.kind e.value) ∷ second_spots m e e.second
+-- whether one of the events has the place
+abbrev pub is_met : Place → List Event → Bool
+is_met a [] = false
+is_met a (e ∷ es) = has_place a e || is_met a es
 
+-- the channel of the event, if it has the place
+abbrev pub channel_if : Place → Event → Option ℕ
+channel_if a e = cond (has_place a e) e.channel None
+
+abbrev pub channel_at : Place → Event → List Want
+channel_at a e = on_channel (channel_if a e)
+
+-- a place at which these events can be taken, on the channel of each
+abbrev pub ready_spot : Seen → List Event → Place → Role → Spot
+ready_spot m es a what = made_spot m a what (flat_map (channel_at a) es) true
+
+-- the place of an event, unless one of the events before has it, too; the event and those behind it are es
+abbrev pub spot_if_new : Seen → List Event → List Event → Place → Role → List Spot
+spot_if_new m before es a what = cond (is_met a before) [] (ready_spot m es a what ∷ [])
+
+abbrev pub second_spots : Seen → List Event → List Event → Event → Option Place → List Spot
+second_spots m before es e None = []
+second_spots m before es e (Some b) = spot_if_new m before es b (second_role e.kind)
+
+abbrev pub event_spots : Seen → List Event → List Event → Event → List Spot
+event_spots m before es e =
+    spot_if_new m before es e.first (first_role e.kind e.value) ++ second_spots m before es e e.second
+
+-- those of events behind others
+abbrev pub spots_behind : Seen → List Event → List Event → List Spot
+spots_behind m before [] = []
+spots_behind m before (e ∷ es) = event_spots m before (e ∷ es) e ++ spots_behind m (before ++ e ∷ []) es
+
+-- each place once, where it is met first
 abbrev pub ready_spots : Seen → List Event → List Spot
-ready_spots m es = flat_map (event_spots m) es
+ready_spots m es = spots_behind m [] es
 
 -- ---- all of them
 

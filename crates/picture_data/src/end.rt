@@ -28,7 +28,7 @@ pub struct End {
     pub ready: Items<Event>,
     /// where each of these stands
     pub ready_actions: Vec<Actions>,
-    /// the places that wait, in order, and behind them those of the events that can be taken
+    /// the places that wait, in order, and behind them those of the events that can be taken, each once
     pub places: Vec<Place>,
     /// the indexes of places of which each waits for the next, and the last for the first: one such ring, and empty
     /// where there is none
@@ -67,7 +67,7 @@ pub(crate) fn end_of(
     let place_of_action = shown.place_of_action.as_slice();
     let ring = ring_of(alloc, ring_sides, place_of_action)?;
     let mut places = shown.places;
-    add_ready_places(alloc, machine, &now, events, &mut places)?;
+    add_ready_places(alloc, machine, &now, &mut places)?;
     Ok(End {
         progress: waiting.progress,
         ready,

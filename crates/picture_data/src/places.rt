@@ -1,11 +1,13 @@
 // The places that wait, and those of the events that can be taken.
-ghost use Rattle.std.specs.Prelude.{◌≡◌, ◌-◌, ◌∷◌, [], ℕ, length, map, IfOk, OnOk, Some, slice_get};
+ghost use Rattle.std.specs.Prelude.{◌≡◌, ◌≤◌, ◌-◌, ◌++◌, ℕ, length, map, take, drop, IfOk, OnOk, Some, slice_get};
+ghost use Rattle.std.specs.List.{flat_map};
 ghost use Rattle.std.specs.Option.{option_copied};
 ghost use Rattle.syntax.specs.Lists.{Every};
 ghost use Rattle.runs.specs.Moves as moves;
+ghost use Rattle.runs.specs.Tests.{same_place};
 ghost use Rattle.picture_data.specs.Spots as spots;
-ghost use Rattle.picture_data.specs.Spots.{StandsSince, channel_of, event_spots, made_spot, on_channel, place_at};
-ghost use Rattle.picture_data.specs.Spots.{ready_spot, ready_spots, role_of, spot_at, spot_of, want_of, with_side, waiting_with};
+ghost use Rattle.picture_data.specs.Spots.{StandsSince, channel_of, event_spots, made_spot, place_at};
+ghost use Rattle.picture_data.specs.Spots.{ready_spots, role_of, spot_at, spot_if_new, spot_of, want_of, with_side, waiting_with};
 ghost use Rattle.picture_data.specs.internal.SpotsSoFar.{AddsSpots, KnowsDepths, SpotsOf, TakenFor, around_in, deep_in, seen_in};
 
 use crate::actions::{lane_at, line_of};
@@ -274,41 +276,43 @@ fn action_channel(action: &ActionKind) -> Option<u32>
     }
 }
 
-/// Adds the places of the events that can be taken.
+/// Adds the places of the events that can be taken, each once.
 pub(crate) fn add_ready_places(
     alloc: Global,
     machine: &Machine,
     now: &Now<'_>,
-    ready: &[Event],
     places: &mut Vec<Place>,
 ) -> Result<(), AllocError>
     requires { KnowsDepths now.now }
     ensures { OnOk result (AddsSpots (deep_in now.now) places.old.items places.new.items
-        (ready_spots (seen_in machine.now now.now) ready.now)) }
+        (ready_spots (seen_in machine.now now.now) now.now.ready.now)) }
 {
-    for event in ready {
-        add_event_places(alloc, machine, now, event, places)?;
+    for (index, event) in now.ready.iter().enumerate() {
+        add_event_places(alloc, machine, now, index, event, places)?;
     }
     Ok(())
 }
 
-/// Adds the places of an event that can be taken.
+/// Adds the places of the event that can be taken at this index, but for those that an event before has, too.
 fn add_event_places(
     alloc: Global,
     machine: &Machine,
     now: &Now<'_>,
+    index: usize,
     event: &Event,
     places: &mut Vec<Place>,
 ) -> Result<(), AllocError>
-    requires { KnowsDepths now.now }
+    requires depths { KnowsDepths now.now }
+    requires within { index ≤ length now.now.ready.now }
     ensures { OnOk result (AddsSpots (deep_in now.now) places.old.items places.new.items
-        (event_spots (seen_in machine.now now.now) event.now)) }
+        (event_spots (seen_in machine.now now.now) (take index now.now.ready.now) (drop index now.now.ready.now)
+        event.now)) }
 {
     add_ready_place(
         alloc,
         machine,
         now,
-        event,
+        index,
         &event.first,
         first_role(event),
         places,
@@ -318,7 +322,7 @@ fn add_event_places(
             alloc,
             machine,
             now,
-            event,
+            index,
             second,
             second_role(event.kind),
             places,
@@ -327,39 +331,119 @@ fn add_event_places(
     }
 }
 
-/// Adds a place of an event that can be taken.
+/// Adds a place of the event that can be taken at this index, unless an event before has it, too.
 fn add_ready_place(
     alloc: Global,
     machine: &Machine,
     now: &Now<'_>,
-    event: &Event,
+    index: usize,
     place: &Address,
     role: Role,
     places: &mut Vec<Place>,
 ) -> Result<(), AllocError>
-    requires { KnowsDepths now.now }
+    requires depths { KnowsDepths now.now }
+    requires within { index ≤ length now.now.ready.now }
     ensures { OnOk result (AddsSpots (deep_in now.now) places.old.items places.new.items
-        (ready_spot (seen_in machine.now now.now) event.now place.now role ∷ [])) }
+        (spot_if_new (seen_in machine.now now.now) (take index now.now.ready.now) (drop index now.now.ready.now)
+        place.now role)) }
 {
-    let wanted = ready_wanted(alloc, event.channel)?;
+    let parts = now.ready.split_at(index);
+    if is_met(place, parts.0) {
+        return Ok(());
+    }
+    let wanted = channels_at(alloc, place, parts.1)?;
     let made = place_of(alloc, machine, now, place, role, wanted, true)?;
     places.push(made)?;
     Ok(())
 }
 
-/// On what a place of an event that can be taken is, which has this channel, if it has one.
-fn ready_wanted(alloc: Global, channel: Option<u32>) -> Result<Vec<Wanted>, AllocError>
-    ensures { IfOk result (λ wanted. map want_of wanted.items ≡ on_channel channel) }
+/// Whether one of the events has the place.
+fn is_met(place: &Address, events: &[Event]) -> bool
+    ensures { result ≡ spots.is_met place.now events.now }
+{
+    for event in events {
+        if has_place(event, place) {
+            return true;
+        }
+    }
+    false
+}
+
+/// Whether one of the two places of the event is this.
+fn has_place(event: &Event, place: &Address) -> bool
+    ensures { result ≡ spots.has_place place.now event.now }
+{
+    is_place(&event.first, place) || is_second(&event.second, place)
+}
+
+/// Whether the second place of an event is this.
+fn is_second(second: &Option<Address>, place: &Address) -> bool
+    ensures { result ≡ spots.is_second place.now second.now }
+{
+    match second {
+        Some(second) => is_place(second, place),
+        None => false,
+    }
+}
+
+/// Whether both places are one.
+fn is_place(one: &Address, other: &Address) -> bool
+    ensures { result ≡ same_place one.now other.now }
+{
+    one.equals(other)
+}
+
+/// The channels of those of the events that have the place.
+fn channels_at(alloc: Global, place: &Address, events: &[Event]) -> Result<Vec<Wanted>, AllocError>
+    ensures { IfOk result (λ wanted.
+        map want_of wanted.items ≡ flat_map (spots.channel_at place.now) events.now) }
 {
     let mut wanted = Vec::new(alloc);
-    if let Some(channel) = channel {
-        wanted.push(Wanted {
-            channel,
-            lanes: Vec::new(alloc),
-            can_come: true,
-        })?;
+    for event in events {
+        add_channel(alloc, channel_if(event, place), &mut wanted)?;
     }
     Ok(wanted)
+}
+
+/// The channel of the event, if it has one and the place.
+fn channel_if(event: &Event, place: &Address) -> Option<u32>
+    ensures { result ≡ spots.channel_if place.now event.now }
+{
+    if has_place(event, place) {
+        event.channel
+    } else {
+        None
+    }
+}
+
+/// Adds the channel, if there is one.
+fn add_channel(
+    alloc: Global,
+    channel: Option<u32>,
+    wanted: &mut Vec<Wanted>,
+) -> Result<(), AllocError>
+    ensures { OnOk result (map want_of wanted.new.items
+        ≡ map want_of wanted.old.items ++ spots.on_channel channel) }
+{
+    match channel {
+        Some(channel) => {
+            let made = wanted_on(alloc, channel);
+            wanted.push(made)?;
+            Ok(())
+        }
+        None => Ok(()),
+    }
+}
+
+/// A channel on which an event can be taken.
+fn wanted_on(alloc: Global, channel: u32) -> Wanted
+    ensures { want_of result ≡ spots.want_on channel }
+{
+    Wanted {
+        channel,
+        lanes: Vec::new(alloc),
+        can_come: true,
+    }
 }
 
 /// What the first place of the event does.

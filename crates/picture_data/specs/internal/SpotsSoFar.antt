@@ -1,14 +1,15 @@
 -- Places while they are listed. No reader has to believe it: the contract of `end_of` speaks of all.
-use Rattle.std.specs.Prelude.{◌≡◌, ◌⊎◌, ℕ, List, [], ◌∷◌, ◌++◌, Option, Some, map}
+use Rattle.std.specs.Prelude.{◌≡◌, ◌⊎◌, ℕ, List, [], ◌∷◌, ◌++◌, Option, Some, drop, map, take}
 use Rattle.syntax.specs.Lists.{Every}
 use Rattle.runs.specs.Moves.{Place}
+use Rattle.runs.specs.declared.event.Event.{Event}
 use Rattle.machine.specs.AtMachine.{AtMachine}
 use Rattle.local_actions.specs.declared.action.LocalAction.{LocalAction}
 use Rattle.rings.specs.declared.partner.Partner.{Partner}
 use Rattle.run_depths.specs.internal.Greatest.{AreGreatest}
 use Rattle.picture_data.specs.Lines.{line_of}
 use Rattle.picture_data.specs.Shown.{HasDepths}
-use Rattle.picture_data.specs.Spots.{Deep, Spot, StandsSince, place_at, places_of_sides, role_of, spot_at, spot_of, with_sides}
+use Rattle.picture_data.specs.Spots.{Deep, Spot, StandsSince, place_at, places_of_sides, ready_spots, role_of, spot_at, spot_of, spots_behind, with_sides}
 use Rattle.picture_data.specs.Wanted.{Around, Seen}
 use Rattle.picture_data.specs.declared.partners.Now.{Now}
 use Rattle.picture_data.specs.declared.places.Place.{Place as Shown}
@@ -53,3 +54,9 @@ pub record AddsSpots (deep : Deep) (old new : List Shown) (spots : List Spot) : 
   pub joined : new ≡ old ++ more
   pub shown : map spot_of more ≡ spots
   pub since_told : Every (StandsSince deep) more
+
+-- the same of the first i of events that can be taken
+pub record AddsSoFar (m : Seen) (deep : Deep) (es : List Event) (i : ℕ) (old new : List Shown) : Type 0 where
+  pub done : List Spot
+  pub adds : AddsSpots deep old new done
+  pub rest : done ++ spots_behind m (take i es) (drop i es) ≡ ready_spots m es
