@@ -1,6 +1,6 @@
--- Tables of who waits for whom, and of who stands at one place.
-use Rattle.std.proofs.Common.{◌≡◌, ◌⊎◌, inl, inr, ℕ, ◌+◌, ◌<◌, ◌≤◌, List, [], ◌∷◌, ◌++◌, take, drop, length, true, Option, Some, None, option_map, slice_get, refl, sym, ◌∙◌, ap, ap₂, subst, arith, length-append, take-append-drop, false, ◌&&◌, true≢false, Bool}
-use Rattle.std.proofs.lemmas.Bool.{and_from, and_parts, cases_eq, cases_lt}
+-- Tables of who stands at which place, and who waits behind which.
+use Rattle.std.proofs.Common.{◌≡◌, ◌⊎◌, inl, inr, ℕ, ◌+◌, ◌<◌, ◌≤◌, List, [], ◌∷◌, ◌++◌, take, drop, length, Option, Some, None, option_map, slice_get, refl, sym, ◌∙◌, ap, subst, arith, length-append, take-append-drop}
+use Rattle.std.proofs.lemmas.Bool.{cases_eq, cases_lt}
 use Rattle.std.proofs.lemmas.List.{take_all, take_at}
 use Rattle.std.proofs.lemmas.Option.{slice_get_within}
 use Rattle.std.specs.Prelude.{◌↔◌}
@@ -8,19 +8,14 @@ use Rattle.last_events.specs.LastEvents.{LastUse, Uses}
 use Rattle.last_events.specs.declared.uses.UseTable.{UseTable}
 use Rattle.runs.proofs.public.Options.{none-some, some-injective}
 use Rattle.runs.specs.Moves.{Place}
-use Rattle.runs.specs.Tests.{same_place}
-use Rattle.local_actions.proofs.public.PlacedActions.{place-itself, place-true, under-told, under-true}
 use Rattle.local_actions.specs.Actions.{Under}
 use Rattle.local_actions.specs.declared.action.LocalAction.{LocalAction}
 use Rattle.rings.specs.declared.partner.Partner.{Partner}
 use Rattle.rings.specs.declared.partner.Partner.TheVariants as partner
 use Rattle.rings.specs.declared.place_uses.PlaceUses.{PlaceUses}
-use Rattle.rings.specs.declared.ring.Seen.{Seen}
-use Rattle.rings.specs.internal.Loosened.{is_marked}
-use Rattle.rings.specs.internal.Search.{NextOpen, behind_at, comes_behind, is_open, may_wait, place_at, same_at, same_places, waits}
-use Rattle.rings.specs.internal.Standing.{AtOrAbove, HasActions, HasBeside, HasEdges, HasNexts, HasWaiters, LastAt, Sound, StandsAt}
+use Rattle.rings.specs.internal.Search.{place_at}
+use Rattle.rings.specs.internal.Standing.{HasAbove, HasActions, HasUnder, HasWaiters, RowOver, Sound, StandsAt, StandsUnder, row_at}
 use Rattle.rings.proofs.PlaceRows.{PutMore}
-use Rattle.rings.proofs.Places.{waits_may}
 
 -- ---- at each place the numbers of those of a list that are there
 -- those before index n
@@ -137,73 +132,45 @@ added-both old mid new number P Q R same h g j i = (
   ],
 )
 
--- those at a place from a number on
-abbrev pub FromAt : PlaceUses → Place → ℕ → ℕ → ℕ → Type 0
-FromAt standing a limit below i = (below ≤ i) × (i < limit) × StandsAt standing a i
+-- ---- at a place and at those above it
+-- a place that has a row, and one that has none
+pub row-put : (table : PlaceUses) (a : Place) (row number index : ℕ) (old new : UseTable) → row_at table a ≡ Some row → index ≡ number
+    → ((x t : ℕ) → Uses new x t ↔ (Uses old x t ⊎ ((x ≡ index) × (t ≡ row)))) → Added old new number (λ (g : ℕ). row_at table a ≡ Some g)
+row-put table a row number index old new at is put j g = (
+  λ u. elim ((put j g).0 u) [ inl v ↦ inl v | inr v ↦ inr (v.0 ∙ is, at ∙ ap (λ (k : ℕ). Some k) (sym v.1)) ],
+  λ h. (put j g).1 (elim h [ inl v ↦ inl v | inr v ↦ inr (v.0 ∙ sym is, some-injective g row (sym v.1 ∙ at)) ]),
+)
 
-pub from-none : (standing : PlaceUses) (a : Place) (limit : ℕ) (i : ℕ) → FromAt standing a limit limit i → ⊥
-from-none standing a limit i h = let up : limit ≤ i = h.0 in let less : i < limit = h.1 in omega (arith, up, less)
+pub row-none : (table : PlaceUses) (a : Place) (number : ℕ) (old : UseTable) → row_at table a ≡ None → Added old old number (λ (g : ℕ). row_at table a ≡ Some g)
+row-none table a number old none = added-none old number (λ (g : ℕ). row_at table a ≡ Some g) (λ g h. none-some g (sym none ∙ h))
 
-pub from-more : (standing : PlaceUses) (a : Place) (limit below found row number : ℕ) (old mid new : UseTable) → LastAt standing a below found → below ≤ limit → row ≡ number
-    → Added old mid number (FromAt standing a limit below) → ((j i : ℕ) → Uses new j i ↔ (Uses mid j i ⊎ ((j ≡ row) × (i ≡ found)))) → Added old new number (FromAt standing a limit found)
-from-more standing a limit below found row number old mid new last upto is h put =
-    added-both old mid new number (FromAt standing a limit below) (λ (i : ℕ). i ≡ found) (FromAt standing a limit found) (λ i. (forth i, back i)) h
-    (λ j i. (
-      λ u. elim ((put j i).0 u) [ inl v ↦ inl v | inr v ↦ inr (v.0 ∙ is, v.1) ],
-      λ g. (put j i).1 (elim g [ inl v ↦ inl v | inr v ↦ inr (v.0 ∙ sym is, v.1) ]),
-    ))
+abbrev pub AtPrefix : PlaceUses → Place → ℕ → ℕ → Type 0
+AtPrefix table a n g = (l : ℕ) × (l < n) × (row_at table (take l a) ≡ Some g)
+
+pub prefix-none : (table : PlaceUses) (a : Place) (g : ℕ) → AtPrefix table a 0 g → ⊥
+prefix-none table a g h = let less : h.0 < 0 = h.1 in omega (arith, less)
+
+pub prefix-more : (table : PlaceUses) (a b : Place) (n number : ℕ) (old mid new : UseTable) → b ≡ take n a → Added old mid number (AtPrefix table a n)
+    → Added mid new number (λ (g : ℕ). row_at table b ≡ Some g) → Added old new number (AtPrefix table a (n + 1))
+prefix-more table a b n number old mid new is =
+    added-both old mid new number (AtPrefix table a n) (λ (g : ℕ). row_at table b ≡ Some g) (AtPrefix table a (n + 1))
+    (λ g. (forth g, back g))
   where
-    under : found < below
-    under = last.less
+    forth : (g : ℕ) → (AtPrefix table a n g ⊎ (row_at table b ≡ Some g)) → AtPrefix table a (n + 1) g
+    forth g (inl h) = let less : h.0 < n = h.1 in (h.0, omega (arith, less), h.2)
+    forth g (inr h) = (n, omega arith, subst (λ (c : Place). row_at table c ≡ Some g) is h)
 
-    forth : (i : ℕ) → (FromAt standing a limit below i ⊎ (i ≡ found)) → FromAt standing a limit found i
-    forth i (inl h) = let up : below ≤ i = h.0 in (omega (arith, under, up), h.1, h.2)
-    forth i (inr e) = (omega (arith, e), omega (arith, e, under, upto), subst (λ (k : ℕ). StandsAt standing a k) (sym e) last.stands)
-
-    back : (i : ℕ) → FromAt standing a limit found i → FromAt standing a limit below i ⊎ (i ≡ found)
-    back i h = elim (cases_lt i below) [
-      | inl less ↦ let up : found ≤ i = h.0 in let down : i ≤ found = last.last i h.2 less in inr (omega (arith, up, down))
-      | inr more ↦ inl (more, h.1, h.2)
+    back : (g : ℕ) → AtPrefix table a (n + 1) g → AtPrefix table a n g ⊎ (row_at table b ≡ Some g)
+    back g h = let less : h.0 < n + 1 = h.1 in elim (cases_eq h.0 n) [
+      | inl same ↦ inr (subst (λ (c : Place). row_at table c ≡ Some g) (ap (λ (k : ℕ). take k a) same ∙ sym is) h.2)
+      | inr apart ↦ inl (h.0, omega (arith, less, apart), h.2)
     ]
 
-pub from-all : (standing : PlaceUses) (a : Place) (limit below number : ℕ) (old new : UseTable) → ((i : ℕ) → StandsAt standing a i → i < below → ⊥)
-    → Added old new number (FromAt standing a limit below) → Added old new number (λ (i : ℕ). (i < limit) × StandsAt standing a i)
-from-all standing a limit below number old new none h =
-    added-as old new number (FromAt standing a limit below) (λ (i : ℕ). (i < limit) × StandsAt standing a i)
-    (λ i. (
-      λ g. (g.1, g.2),
-      λ g. (elim (cases_lt i below) [ inl less ↦ absurd (none i g.1 less) | inr more ↦ more ], g.0, g.1),
-    ))
-    h
-
--- ---- at the places above a place
-abbrev pub AtPrefix : PlaceUses → Place → ℕ → ℕ → ℕ → Type 0
-AtPrefix standing a limit n i = (i < limit) × ((l : ℕ) × (l < n) × StandsAt standing (take l a) i)
-
-pub prefix-none : (standing : PlaceUses) (a : Place) (limit : ℕ) (i : ℕ) → AtPrefix standing a limit 0 i → ⊥
-prefix-none standing a limit i h = let less : h.1.0 < 0 = h.1.1 in omega (arith, less)
-
-pub prefix-more : (standing : PlaceUses) (a b : Place) (limit n number : ℕ) (old mid new : UseTable) → b ≡ take n a → Added old mid number (AtPrefix standing a limit n)
-    → Added mid new number (λ (i : ℕ). (i < limit) × StandsAt standing b i) → Added old new number (AtPrefix standing a limit (n + 1))
-prefix-more standing a b limit n number old mid new is =
-    added-both old mid new number (AtPrefix standing a limit n) (λ (i : ℕ). (i < limit) × StandsAt standing b i) (AtPrefix standing a limit (n + 1))
-    (λ i. (forth i, back i))
-  where
-    forth : (i : ℕ) → (AtPrefix standing a limit n i ⊎ ((i < limit) × StandsAt standing b i)) → AtPrefix standing a limit (n + 1) i
-    forth i (inl h) = let less : h.1.0 < n = h.1.1 in (h.0, (h.1.0, omega (arith, less), h.1.2))
-    forth i (inr h) = (h.0, (n, omega arith, subst (λ (c : Place). StandsAt standing c i) is h.1))
-
-    back : (i : ℕ) → AtPrefix standing a limit (n + 1) i → AtPrefix standing a limit n i ⊎ ((i < limit) × StandsAt standing b i)
-    back i h = let less : h.1.0 < n + 1 = h.1.1 in elim (cases_eq h.1.0 n) [
-      | inl same ↦ inr (h.0, subst (λ (c : Place). StandsAt standing c i) (ap (λ (k : ℕ). take k a) same ∙ sym is) h.1.2)
-      | inr apart ↦ inl (h.0, (h.1.0, omega (arith, less, apart), h.1.2))
-    ]
-
-pub prefix-all : (standing : PlaceUses) (a : Place) (limit n number : ℕ) (old mid new : UseTable) → length a ≤ n → n ≤ length a → Added old mid number (AtPrefix standing a limit n)
-    → Added mid new number (λ (i : ℕ). (i < limit) × StandsAt standing a i) → Added old new number (λ (i : ℕ). (i < limit) × AtOrAbove standing a i)
-prefix-all standing a limit n number old mid new all within =
-    added-both old mid new number (AtPrefix standing a limit n) (λ (i : ℕ). (i < limit) × StandsAt standing a i) (λ (i : ℕ). (i < limit) × AtOrAbove standing a i)
-    (λ i. (forth i, back i))
+pub prefix-all : (table : PlaceUses) (a : Place) (n number : ℕ) (old mid new : UseTable) → length a ≤ n → n ≤ length a → Added old mid number (AtPrefix table a n)
+    → Added mid new number (λ (g : ℕ). row_at table a ≡ Some g) → Added old new number (λ (g : ℕ). RowOver table a g)
+prefix-all table a n number old mid new all within =
+    added-both old mid new number (AtPrefix table a n) (λ (g : ℕ). row_at table a ≡ Some g) (λ (g : ℕ). RowOver table a g)
+    (λ g. (forth g, back g))
   where
     whole : a ++ [] ≡ a
     whole = nothing-behind a
@@ -212,115 +179,64 @@ prefix-all standing a limit n number old mid new all within =
         nothing-behind [] = refl
         nothing-behind (x ∷ b) = ap (λ (c : Place). x ∷ c) (nothing-behind b)
 
-    forth : (i : ℕ) → (AtPrefix standing a limit n i ⊎ ((i < limit) × StandsAt standing a i)) → (i < limit) × AtOrAbove standing a i
-    forth i (inl h) = (h.0, (take h.1.0 a, (drop h.1.0 a, sym (take-append-drop h.1.0 a)), h.1.2))
-    forth i (inr h) = (h.0, (a, ([], sym whole), h.1))
+    forth : (g : ℕ) → (AtPrefix table a n g ⊎ (row_at table a ≡ Some g)) → RowOver table a g
+    forth g (inl h) = (take h.0 a, (drop h.0 a, sym (take-append-drop h.0 a)), h.2)
+    forth g (inr h) = (a, ([], sym whole), h)
 
-    back : (i : ℕ) → (i < limit) × AtOrAbove standing a i → AtPrefix standing a limit n i ⊎ ((i < limit) × StandsAt standing a i)
-    back i h =
-        let p : Place = h.1.0 in
-        let under : Under p a = h.1.1 in
+    back : (g : ℕ) → RowOver table a g → AtPrefix table a n g ⊎ (row_at table a ≡ Some g)
+    back g h =
+        let p : Place = h.0 in
+        let under : Under p a = h.1 in
         let size : length a ≡ length p + length under.0 = ap (λ (b : Place). length b) under.1 ∙ length-append p under.0 in
         let is : take (length p) a ≡ p = ap (take (length p)) under.1 ∙ take_at p under.0 (length p) refl in
         elim (cases_lt (length p) (length a)) [
-          | inl less ↦ inl (h.0, (length p, omega (arith, less, all), subst (λ (c : Place). StandsAt standing c i) (sym is) h.1.2))
+          | inl less ↦ inl (length p, omega (arith, less, all), subst (λ (c : Place). row_at table c ≡ Some g) (sym is) h.2)
           | inr more ↦
               let same : length p ≡ length a = omega (arith, more, size) in
               let one : p ≡ a = sym is ∙ take_all (length p) a (omega (arith, same)) in
-              inr (h.0, subst (λ (c : Place). StandsAt standing c i) one h.1.2)
+              inr (subst (λ (c : Place). row_at table c ≡ Some g) one h.2)
         ]
 
 -- ---- rows of actions
--- i is in the row of action j, one of the first n
-pub record InRow (xs : List LocalAction) (n limit : ℕ) (P : Place → ℕ → Type 0) (j i : ℕ) : Type 0 where
-  pub less : j < n
-  pub under : i < limit
-  pub action : LocalAction
-  pub at : slice_get xs j ≡ Some action
-  pub there : P action.place i
+pub place-within : (xs : List LocalAction) (j : ℕ) (a : Place) → place_at xs j ≡ Some a → j < length xs
+place-within xs j a h = pick (slice_get xs j) refl h
+  where
+    pick : (o : Option LocalAction) → slice_get xs j ≡ o → place_at xs j ≡ Some a → j < length xs
+    pick None e f = none-some a (sym (ap (option_map (λ (z : LocalAction). z.place)) e) ∙ f)
+    pick (Some x) e f = slice_get_within xs j x e
 
-abbrev pub RowsBelow : UseTable → List LocalAction → ℕ → ℕ → (Place → ℕ → Type 0) → Type 0
-RowsBelow table xs n limit P = (j i : ℕ) → Uses table j i ↔ InRow xs n limit P j i
+-- the rows of the first n
+abbrev pub RowsBelow : UseTable → PlaceUses → List LocalAction → ℕ → Type 0
+RowsBelow above table xs n = (j g : ℕ) → Uses above j g ↔ ((j < n) × StandsUnder table xs g j)
 
-pub rows-none : (table : UseTable) (xs : List LocalAction) (limit : ℕ) (P : Place → ℕ → Type 0) → ((j i : ℕ) → Uses table j i → ⊥) → RowsBelow table xs 0 limit P
-rows-none table xs limit P none j i = (λ u. absurd (none j i u), λ r. let less : j < 0 = r.less in absurd (omega (arith, less)))
+pub rows-none : (above : UseTable) (table : PlaceUses) (xs : List LocalAction) → ((j g : ℕ) → Uses above j g → ⊥) → RowsBelow above table xs 0
+rows-none above table xs none j g = (λ u. absurd (none j g u), λ r. let less : j < 0 = r.0 in absurd (omega (arith, less)))
 
-pub rows-more : (old new : UseTable) (xs : List LocalAction) (n limit : ℕ) (P : Place → ℕ → Type 0) (x : LocalAction) (a : Place) → slice_get xs n ≡ Some x → a ≡ x.place
-    → RowsBelow old xs n limit P → Added old new n (λ (i : ℕ). (i < limit) × P a i) → RowsBelow new xs (n + 1) limit P
-rows-more old new xs n limit P x a at is h more j i = (
-  λ u. elim ((more j i).0 u) [
-    | inl v ↦
-        let r = (h j i).0 v in
-        let less : j < n = r.less in record { less = omega (arith, less); under = r.under; action = r.action; at = r.at; there = r.there }
-    | inr v ↦
-        let same : j ≡ n = v.0 in
-        record { less = omega (arith, same); under = v.1.0; action = x; at = ap (slice_get xs) same ∙ at; there = subst (λ (b : Place). P b i) is v.1.1 }
+pub rows-more : (old new : UseTable) (table : PlaceUses) (xs : List LocalAction) (n : ℕ) (x : LocalAction) (a : Place) → slice_get xs n ≡ Some x → a ≡ x.place
+    → RowsBelow old table xs n → Added old new n (λ (g : ℕ). RowOver table a g) → RowsBelow new table xs (n + 1)
+rows-more old new table xs n x a at is h more j g = (
+  λ u. elim ((more j g).0 u) [
+    | inl v ↦ let w = (h j g).0 v in let less : j < n = w.0 in (omega (arith, less), w.1)
+    | inr v ↦ let same : j ≡ n = v.0 in (omega (arith, same), (a, ap (place_at xs) same ∙ there, v.1))
   ],
   λ r.
-      let less : j < n + 1 = r.less in
+      let less : j < n + 1 = r.0 in
       elim (cases_eq j n) [
         | inl same ↦
-            let one : r.action ≡ x = some-injective r.action x (sym r.at ∙ ap (slice_get xs) same ∙ at) in
-            (more j i).1 (inr (same, (r.under, subst (λ (b : Place). P b i) (ap (λ (z : LocalAction). z.place) one ∙ sym is) r.there)))
-        | inr apart ↦
-            (more j i).1 (inl ((h j i).1 (record { less = omega (arith, less, apart); under = r.under; action = r.action; at = r.at; there = r.there })))
+            let one : r.1.0 ≡ a = some-injective r.1.0 a (sym r.1.1 ∙ ap (place_at xs) same ∙ there) in
+            (more j g).1 (inr (same, subst (λ (b : Place). RowOver table b g) one r.1.2))
+        | inr apart ↦ (more j g).1 (inl ((h j g).1 (omega (arith, less, apart), r.1)))
       ],
 )
-
-pub all-edges : (table : UseTable) (standing : PlaceUses) (xs : List LocalAction) (ps : List Partner) (n limit : ℕ) → length xs ≤ n → limit ≡ length ps → HasWaiters standing ps
-    → RowsBelow table xs n limit (AtOrAbove standing) → HasEdges table xs ps
-all-edges table standing xs ps n limit all size has h j i = (
-  λ u.
-      let r = (h j i).0 u in
-      let p : Place = r.there.0 in
-      ap₂ (λ (q : Option Partner) (o : Option LocalAction). behind_at q o) ((has p i).0 r.there.2) r.at ∙ under-told p r.action.place r.there.1,
-  λ e. (h j i).1 (pick (slice_get ps i) (slice_get xs j) refl refl e),
-)
   where
-    pick : (q : Option Partner) (o : Option LocalAction) → slice_get ps i ≡ q → slice_get xs j ≡ o → behind_at q o ≡ true → InRow xs n limit (AtOrAbove standing) j i
-    pick None o e f g = cc
-    pick (Some p) None e f g = cc
-    pick (Some partner.Gone) (Some x) e f g = cc
-    pick (Some partner.Open) (Some x) e f g = cc
-    pick (Some (partner.Behind p)) (Some x) e f g =
-        let within : j < length xs = slice_get_within xs j x f in
-        let upto : i < length ps = slice_get_within ps i (partner.Behind p) e in
-        record {
-          less = omega (arith, within, all);
-          under = omega (arith, upto, size);
-          action = x;
-          at = f;
-          there = (p, under-true p x.place g, (has p i).1 e);
-        }
+    there : place_at xs n ≡ Some a
+    there = ap (option_map (λ (z : LocalAction). z.place)) at ∙ ap (λ (b : Place). Some b) (sym is)
 
-pub all-beside : (table : UseTable) (standing : PlaceUses) (xs : List LocalAction) (n limit : ℕ) → length xs ≤ n → limit ≡ length xs → HasActions standing xs
-    → RowsBelow table xs n limit (StandsAt standing) → HasBeside table xs
-all-beside table standing xs n limit all size has h j i = (
-  λ u. let r = (h j i).0 u in forth (slice_get xs i) refl r,
-  λ e. (h j i).1 (back (slice_get xs j) (slice_get xs i) refl refl e),
+pub all-above : (above : UseTable) (table : PlaceUses) (xs : List LocalAction) (n : ℕ) → length xs ≤ n → RowsBelow above table xs n → HasAbove above table xs
+all-above above table xs n all h j g = (
+  λ u. ((h j g).0 u).1,
+  λ s. let within : j < length xs = place-within xs j s.0 s.1 in (h j g).1 (omega (arith, within, all), s),
 )
-  where
-    forth : (o : Option LocalAction) → slice_get xs i ≡ o → InRow xs n limit (StandsAt standing) j i → same_at xs j i ≡ true
-    forth None e r = none-some r.action.place (sym (ap (option_map (λ (z : LocalAction). z.place)) e) ∙ (has r.action.place i).0 r.there)
-    forth (Some y) e r =
-        let one : y.place ≡ r.action.place =
-        some-injective y.place r.action.place (sym (ap (option_map (λ (z : LocalAction). z.place)) e) ∙ (has r.action.place i).0 r.there) in
-        ap₂ (λ (o q : Option LocalAction). same_places o q) r.at e ∙ subst (λ (b : Place). same_place r.action.place b ≡ true) (sym one) (place-itself r.action.place)
-
-    back : (o q : Option LocalAction) → slice_get xs j ≡ o → slice_get xs i ≡ q → same_places o q ≡ true → InRow xs n limit (StandsAt standing) j i
-    back None q e f g = cc
-    back (Some x) None e f g = cc
-    back (Some x) (Some y) e f g =
-        let within : j < length xs = slice_get_within xs j x e in
-        let upto : i < length xs = slice_get_within xs i y f in
-        let one : x.place ≡ y.place = place-true x.place y.place g in
-        record {
-          less = omega (arith, within, all);
-          under = omega (arith, upto, size);
-          action = x;
-          at = e;
-          there = (has x.place i).1 (ap (option_map (λ (z : LocalAction). z.place)) f ∙ ap (λ (b : Place). Some b) (sym one));
-        }
 
 -- ---- rows that are turned round
 abbrev pub Turned : UseTable → UseTable → ℕ → (ℕ → Type 0) → Type 0
@@ -395,54 +311,12 @@ below-more edges old new limit n h more i j = (
       ],
 )
 
-behind-within : (xs : List LocalAction) (ps : List Partner) (i j : ℕ) → behind_at (slice_get ps i) (slice_get xs j) ≡ true → (i < length ps) × (j < length xs)
-behind-within xs ps i j h = pick (slice_get ps i) (slice_get xs j) refl refl h
-  where
-    pick : (q : Option Partner) (o : Option LocalAction) → slice_get ps i ≡ q → slice_get xs j ≡ o → behind_at q o ≡ true → (i < length ps) × (j < length xs)
-    pick None o e f g = cc
-    pick (Some p) None e f g = cc
-    pick (Some p) (Some x) e f g = (slice_get_within ps i p e, slice_get_within xs j x f)
-
-pub all-nexts : (edges nexts : UseTable) (xs : List LocalAction) (ps : List Partner) (n limit : ℕ) → length xs ≤ n → limit ≡ length ps → HasEdges edges xs ps
-    → TurnedBelow edges nexts limit n → HasNexts nexts xs ps
-all-nexts edges nexts xs ps n limit all size has h i j = (
-  λ u. (has j i).0 ((h i j).0 u).1.1,
-  λ e.
-      let both = behind-within xs ps i j e in
-      let one : i < length ps = both.0 in
-      let two : j < length xs = both.1 in
-      (h i j).1 (omega (arith, two, all), (omega (arith, one, size), (has j i).1 e)),
+pub all-under : (above under : UseTable) (table : PlaceUses) (xs : List LocalAction) (n limit : ℕ) → length xs ≤ n → limit ≡ table.count → Sound table → HasAbove above table xs
+    → TurnedBelow above under limit n → HasUnder under table xs
+all-under above under table xs n limit all is sound has h g j = (
+  λ u. (has j g).0 ((h g j).0 u).1.1,
+  λ s.
+      let within : j < length xs = place-within xs j s.0 s.1 in
+      let less : g < table.count = sound.below s.2.0 g s.2.2 in
+      (h g j).1 (omega (arith, within, all), (omega (arith, less, is), (has j g).1 s)),
 )
-
--- ---- one for which an action waits, and at which the search is not done
-module _ (nexts : UseTable) (xs : List LocalAction) (ps : List Partner) (marks : List Bool) (seen : List Seen) (top : ℕ) (has : HasNexts nexts xs ps) (size : length seen ≡ length xs) where
-  pub next-some : (next : ℕ) → may_wait ps marks top ≡ true → Uses nexts top next → is_open (slice_get seen next) ≡ true → NextOpen (length xs) (waits xs ps marks) seen top (Some next)
-  next-some next may u more =
-      let goes : behind_at (slice_get ps top) (slice_get xs next) ≡ true = (has top next).0 u in (
-        (behind-within xs ps top next goes).1,
-        and_from (is_marked (slice_get marks top)) (behind_at (slice_get ps top) (slice_get xs next))
-            (and_parts (is_marked (slice_get marks top)) (comes_behind (slice_get ps top)) may).0 goes,
-        more,
-      )
-
-  pub next-not : may_wait ps marks top ≡ false → NextOpen (length xs) (waits xs ps marks) seen top None
-  next-not off j less w = absurd (true≢false (sym (waits_may xs ps marks top j w) ∙ off))
-
-  pub next-none : ((j : ℕ) → j < length seen → Uses nexts top j → is_open (slice_get seen j) ≡ false) → NextOpen (length xs) (waits xs ps marks) seen top None
-  next-none none j less w =
-      none j (omega (arith, less, size))
-      ((has top j).1 (and_parts (is_marked (slice_get marks top)) (behind_at (slice_get ps top) (slice_get xs j)) w).1)
-
--- those from a number on are done
-pub done-more : (nexts : UseTable) (seen : List Seen) (top below found : ℕ) → LastUse nexts top below found → is_open (slice_get seen found) ≡ false
-    → ((j : ℕ) → below ≤ j → j < length seen → Uses nexts top j → is_open (slice_get seen j) ≡ false)
-    → (j : ℕ) → found ≤ j → j < length seen → Uses nexts top j → is_open (slice_get seen j) ≡ false
-done-more nexts seen top below found last off h j up less u = elim (cases_lt j below) [
-  | inl under ↦ let down : j ≤ found = last.last j u under in let same : j ≡ found = omega (arith, up, down) in ap (λ (k : ℕ). is_open (slice_get seen k)) same ∙ off
-  | inr over ↦ h j over less u
-]
-
-pub done-all : (nexts : UseTable) (seen : List Seen) (top below : ℕ) → ((j : ℕ) → Uses nexts top j → j < below → ⊥)
-    → ((j : ℕ) → below ≤ j → j < length seen → Uses nexts top j → is_open (slice_get seen j) ≡ false)
-    → (j : ℕ) → j < length seen → Uses nexts top j → is_open (slice_get seen j) ≡ false
-done-all nexts seen top below none h j less u = elim (cases_lt j below) [ inl under ↦ absurd (none j u under) | inr over ↦ h j over less u ]

@@ -6,7 +6,6 @@ use Rattle.runs.proofs.public.Options.{none-some, some-injective}
 use Rattle.runs.specs.Moves.{Place}
 use Rattle.runs.proofs.public.Lists.{in-parts}
 use Rattle.last_events.specs.LastEvents.{Uses}
-use Rattle.last_events.specs.declared.uses.UseTable.{UseTable}
 use Rattle.runs.specs.Tests.{same_place}
 use Rattle.syntax.specs.Lists.{In}
 use Rattle.system.specs.Residual.{Residual}
@@ -18,12 +17,14 @@ use Rattle.rings.specs.Rings.{Helped, HeldBack, HoldEachOther, TellsDeadlocked}
 use Rattle.rings.specs.declared.partner.Partner.{Partner}
 use Rattle.rings.specs.declared.partner.Partner.TheVariants as partner
 use Rattle.rings.specs.internal.Loosened.{is_free, is_loose, is_marked, stands_under, supports, Firm, Held, Released, Loose, AllFirm, IsLoose}
-use Rattle.rings.specs.internal.Loosening.{Keeps, Loosened, Loosening, Sturdy}
-use Rattle.rings.specs.internal.Search.{behind_at, same_places, same_at}
-use Rattle.rings.specs.internal.Standing.{HasBeside, HasEdges}
-use Rattle.rings.specs.internal.Tally.{Counted, Loosens, Puts, counts_for, edge, tally}
+use Rattle.rings.specs.declared.tables.Tables.{Tables}
+use Rattle.rings.specs.internal.Loosening.{Keeps, Loosened, Loosening, Sturdy, count_for}
+use Rattle.rings.specs.internal.Search.{place_at, same_places, same_at}
+use Rattle.rings.specs.internal.Standing.{HasTables, StandsUnder, group_of, row_at, row_of}
+use Rattle.rings.specs.internal.Tally.{Counted, Loosens, Puts, count_of, counts_for, edge, tally}
+use Rattle.rings.proofs.Edging.{place-within}
 use Rattle.rings.proofs.Tallied.{edge-used, tally-same, tally-some, tally-zero, used-edge}
-use Rattle.rings.proofs.Places.{Among, got-in, in-got, itself, marked-some}
+use Rattle.rings.proofs.Places.{Among, got-in, got-within, in-got, itself, marked-some, one-place}
 
 -- ---- tests
 and-not : (m n u : Bool) → (m && u) ≡ false → ((m && n) && u) ≡ false
@@ -78,14 +79,78 @@ marked-within marks i h = pick (slice_get marks i) refl h
     pick None e f = cc
     pick (Some b) e f = slice_get_within marks i b e
 
--- what stands under a place stands behind it
-under-behind : (p : Place) (o : Option LocalAction) → stands_under p o ≡ true → behind_at (Some (partner.Behind p)) o ≡ true
-under-behind p None h = cc
-under-behind p (Some x) h = h
+-- ---- the tables
+module _ (tables : Tables) (xs : List LocalAction) (ps : List Partner) (has : HasTables tables xs ps) where
+  -- the row in which an action waits
+  the-group : (i : ℕ) (p : Place) → slice_get ps i ≡ Some (partner.Behind p) → (g : ℕ) × (row_at tables.waiters p ≡ Some g) × Uses tables.waiters.uses g i
+  the-group i p at = (has.waiters p i).1 at
 
-behind-under : (p : Place) (o : Option LocalAction) → behind_at (Some (partner.Behind p)) o ≡ true → stands_under p o ≡ true
-behind-under p None h = cc
-behind-under p (Some x) h = h
+  count-is : (counts : List ℕ) (i g : ℕ) (p : Place) → slice_get ps i ≡ Some (partner.Behind p) → row_at tables.waiters p ≡ Some g
+      → count_for tables.waiters counts ps i ≡ slice_index counts g
+  count-is counts i g p at row = ap (λ (o : Option Partner). count_of counts (group_of tables.waiters o)) at ∙ ap (count_of counts) row
+
+  -- above an action stand the rows of places under which it stands
+  above-under : (j g : ℕ) (p : Place) → row_at tables.waiters p ≡ Some g → Uses tables.above j g → stands_under p (slice_get xs j) ≡ true
+  above-under j g p row u = pick (slice_get xs j) refl
+    where
+      s : StandsUnder tables.waiters xs g j
+      s = (has.above j g).0 u
+
+      same : s.2.0 ≡ p
+      same = has.groups.apart s.2.0 p g s.2.2 row
+
+      pick : (o : Option LocalAction) → slice_get xs j ≡ o → stands_under p (slice_get xs j) ≡ true
+      pick None e = none-some s.0 (sym (ap (option_map (λ (z : LocalAction). z.place)) e) ∙ s.1)
+      pick (Some x) e =
+          let placed : x.place ≡ s.0 = some-injective x.place s.0 (sym (ap (option_map (λ (z : LocalAction). z.place)) e) ∙ s.1) in
+          ap (stands_under p) e ∙ ap (is_under p) placed ∙ ap (λ (q : Place). is_under q s.0) (sym same) ∙ under-told s.2.0 s.0 s.2.1
+
+  under-above : (j g : ℕ) (p : Place) → row_at tables.waiters p ≡ Some g → stands_under p (slice_get xs j) ≡ true → Uses tables.above j g
+  under-above j g p row h = pick (slice_get xs j) refl
+    where
+      pick : (o : Option LocalAction) → slice_get xs j ≡ o → Uses tables.above j g
+      pick None e = absurd (true≢false (sym h ∙ ap (stands_under p) e))
+      pick (Some x) e =
+          (has.above j g).1 (x.place, ap (option_map (λ (z : LocalAction). z.place)) e, (p, under-true p x.place (sym (ap (stands_under p) e) ∙ h), row))
+
+  -- the row of the place of an action
+  the-row : (n : ℕ) → n < length xs → (r : ℕ) × (row_of tables.standing (slice_get xs n) ≡ Some r)
+  the-row n within =
+      let x = got-within xs n within in
+      let s = (has.standing x.0.place n).1 (ap (option_map (λ (z : LocalAction). z.place)) x.1) in
+      (s.0, ap (row_of tables.standing) x.1 ∙ s.1)
+
+  -- in it stand those at its place
+  row-same : (n r i : ℕ) → row_of tables.standing (slice_get xs n) ≡ Some r → Uses tables.standing.uses r i → same_at xs n i ≡ true
+  row-same n r i row u = pick (slice_get xs n) refl
+    where
+      pick : (o : Option LocalAction) → slice_get xs n ≡ o → same_at xs n i ≡ true
+      pick None e = none-some r (sym (ap (row_of tables.standing) e) ∙ row)
+      pick (Some x) e =
+          let there : place_at xs i ≡ Some x.place = (has.standing x.place i).0 (r, sym (ap (row_of tables.standing) e) ∙ row, u) in
+          one-place x.place (slice_get xs n) (slice_get xs i) (ap (option_map (λ (z : LocalAction). z.place)) e) there
+
+  same-row : (n r i : ℕ) → row_of tables.standing (slice_get xs n) ≡ Some r → same_at xs n i ≡ true → Uses tables.standing.uses r i
+  same-row n r i row h = pick (slice_get xs n) (slice_get xs i) refl refl h
+    where
+      pick : (o q : Option LocalAction) → slice_get xs n ≡ o → slice_get xs i ≡ q → same_places o q ≡ true → Uses tables.standing.uses r i
+      pick None q e f g = cc
+      pick (Some x) None e f g = cc
+      pick (Some x) (Some y) e f g =
+          let one : x.place ≡ y.place = place-true x.place y.place g in
+          let s = (has.standing x.place i).1 (ap (option_map (λ (z : LocalAction). z.place)) f ∙ ap (λ (a : Place). Some a) (sym one)) in
+          let is : s.0 ≡ r = some-injective s.0 r (sym s.1 ∙ sym (ap (row_of tables.standing) e) ∙ row) in
+          subst (λ (k : ℕ). Uses tables.standing.uses k i) is s.2
+
+  row-within : (n r i : ℕ) → row_of tables.standing (slice_get xs n) ≡ Some r → Uses tables.standing.uses r i → i < length xs
+  row-within n r i row u = pick (slice_get xs n) refl
+    where
+      pick : (o : Option LocalAction) → slice_get xs n ≡ o → i < length xs
+      pick None e = none-some r (sym (ap (row_of tables.standing) e) ∙ row)
+      pick (Some x) e = place-within xs i x.place ((has.standing x.place i).0 (r, sym (ap (row_of tables.standing) e) ∙ row, u))
+
+  pub above-within : (j g : ℕ) → Uses tables.above j g → g < tables.waiters.count
+  above-within j g u = let s = (has.above j g).0 u in has.groups.below s.2.0 g s.2.2
 
 -- ---- all of it
 -- the partner of an action, and whether it is helped
@@ -107,25 +172,19 @@ within-same xs i j h = pick (slice_get xs i) (slice_get xs j) refl refl h
     pick (Some x) None e f g = cc
     pick (Some x) (Some y) e f g = (slice_get_within xs i x e, slice_get_within xs j y f)
 
--- where all are marked, all are counted
-pub all-counted : (edges : UseTable) (marks : List Bool) (counts : List ℕ) (n : ℕ) → length marks ≡ n → ((i : ℕ) → i < n → slice_get marks i ≡ Some true)
-    → ((i : ℕ) → slice_index counts i ≡ tally (λ (j : ℕ). edge edges j i) n) → Counted edges (length marks) marks counts
-all-counted edges marks counts n size all counted =
-    subst (λ (k : ℕ). Counted edges k marks counts) (sym size)
-    (λ i. counted i ∙ tally-same (λ (j : ℕ). edge edges j i) (counts_for edges marks i) n (λ j less. sym (ap (λ (o : Option Bool). is_marked o && edge edges j i) (all j less))))
-
-pub begins : (xs : List LocalAction) (ps : List Partner) (hs marks : List Bool) (edges : UseTable) (counts todo : List ℕ) → length marks ≡ length xs
-    → ((i : ℕ) → i < length xs → slice_get marks i ≡ Some true) → length counts ≡ length xs → ((i : ℕ) → slice_index counts i ≡ tally (λ (j : ℕ). edge edges j i) (length xs))
-    → ((i : ℕ) → i < length xs → In i todo) → Loosening xs ps hs marks edges counts todo
-begins xs ps hs marks edges counts todo size all sizes counted later = record {
+pub begins : (xs : List LocalAction) (ps : List Partner) (hs marks : List Bool) (tables : Tables) (counts todo : List ℕ) → length marks ≡ length xs
+    → ((i : ℕ) → i < length xs → slice_get marks i ≡ Some true) → length counts ≡ tables.waiters.count
+    → ((i : ℕ) → slice_index counts i ≡ tally (λ (j : ℕ). edge tables.above j i) (length xs))
+    → ((i : ℕ) → i < length xs → In i todo) → Loosening xs ps hs marks tables counts todo
+begins xs ps hs marks tables counts todo size all sizes counted later = record {
   size = size;
   sizes = sizes;
   alike = λ i j h. let both = within-same xs i j h in ap is_marked (all i both.0) ∙ sym (ap is_marked (all j both.1));
   keeps = λ r help given told places hold i x at in_places. ap is_marked (all i (slice_get_within xs i x at));
   counted = λ i.
       counted i
-      ∙ tally-same (λ (j : ℕ). edge edges j i) (counts_for edges marks i) (length xs)
-      (λ j less. sym (ap (λ (o : Option Bool). is_marked o && edge edges j i) (all j less)));
+      ∙ tally-same (λ (j : ℕ). edge tables.above j i) (counts_for tables.above marks i) (length xs)
+      (λ j less. sym (ap (λ (o : Option Bool). is_marked o && edge tables.above j i) (all j less)));
   pending = λ i on. inl (later i (omega (arith, marked-within marks i on, size)));
 }
 
@@ -174,10 +233,10 @@ loosened-keeps xs ps hs marks new index loose less keeps = λ r help given told 
 
 -- ---- a step
 -- action i is marked and loose, by the test
-pub loose-true : (xs : List LocalAction) (ps : List Partner) (hs marks : List Bool) (edges : UseTable) (counts : List ℕ) (i : ℕ) → length ps ≡ length xs → length marks ≡ length xs
-    → HasEdges edges xs ps → Counted edges (length xs) marks counts → is_loose ps hs marks counts i ≡ true → IsLoose xs ps hs marks i
-loose-true xs ps hs marks edges counts i same size has counted h =
-    let parts = and_parts (is_marked (slice_get marks i)) (is_marked (slice_get hs i) || is_free (slice_get ps i) (slice_index counts i)) h in
+pub loose-true : (xs : List LocalAction) (ps : List Partner) (hs marks : List Bool) (tables : Tables) (counts : List ℕ) (i : ℕ) → length ps ≡ length xs → length marks ≡ length xs
+    → HasTables tables xs ps → Counted tables.above (length xs) marks counts → is_loose ps hs marks (count_for tables.waiters counts ps i) i ≡ true → IsLoose xs ps hs marks i
+loose-true xs ps hs marks tables counts i same size has counted h =
+    let parts = and_parts (is_marked (slice_get marks i)) (is_marked (slice_get hs i) || is_free (slice_get ps i) (count_for tables.waiters counts ps i)) h in
     let within : i < length marks = marked-within marks i parts.0 in
     let there = partner-there ps i (omega (arith, within, same, size)) in (
       omega (arith, within, size),
@@ -185,9 +244,9 @@ loose-true xs ps hs marks edges counts i same size has counted h =
       (
         there.0,
         there.1,
-        elim (or-either (is_marked (slice_get hs i)) (is_free (slice_get ps i) (slice_index counts i)) parts.1) [
+        elim (or-either (is_marked (slice_get hs i)) (is_free (slice_get ps i) (count_for tables.waiters counts ps i)) parts.1) [
           | inl helped ↦ inl helped
-          | inr free ↦ inr (released there.0 there.1 (sym (ap (λ (o : Option Partner). is_free o (slice_index counts i)) there.1) ∙ free))
+          | inr free ↦ inr (released there.0 there.1 (sym (ap (λ (o : Option Partner). is_free o (count_for tables.waiters counts ps i)) there.1) ∙ free))
         ],
       ),
     )
@@ -201,44 +260,53 @@ loose-true xs ps hs marks edges counts i same size has counted h =
     partner-there (q ∷ qs) zero g = (q, refl)
     partner-there (q ∷ qs) (suc k) g = partner-there qs k (omega (arith, g))
 
-    released : (p : Partner) → slice_get ps i ≡ Some p → is_free (Some p) (slice_index counts i) ≡ true → Released xs marks p
+    released : (p : Partner) → slice_get ps i ≡ Some p → is_free (Some p) (count_for tables.waiters counts ps i) ≡ true → Released xs marks p
     released partner.Gone at free = cc
     released partner.Open at free = tt
     released (partner.Behind p) at free = λ j. elim (cases_Bool (supports xs marks p j)) [
       | inr off ↦ off
       | inl on ↦
+          let w = the-group tables xs ps has i p at in
           let both = and_parts (is_marked (slice_get marks j)) (stands_under p (slice_get xs j)) on in
-          let goes : edge edges j i ≡ true = used-edge edges j i ((has j i).1 (ap (λ (o : Option Partner). behind_at o (slice_get xs j)) at ∙ under-behind p (slice_get xs j) both.1)) in
+          let goes : edge tables.above j w.0 ≡ true = used-edge tables.above j w.0 (under-above tables xs ps has j w.0 p w.1 both.1) in
           let less : j < length marks = marked-within marks j both.0 in
-          let none : tally (counts_for edges marks i) (length xs) ≡ 0 = sym (counted i) ∙ eqb-true (slice_index counts i) 0 free in
-          let off : counts_for edges marks i j ≡ false = tally-zero (counts_for edges marks i) (length xs) none j (omega (arith, less, size)) in
-          absurd (true≢false (sym (and_from (is_marked (slice_get marks j)) (edge edges j i) both.0 goes) ∙ off))
+          let none : tally (counts_for tables.above marks w.0) (length xs) ≡ 0 =
+          sym (counted w.0) ∙ sym (count-is tables xs ps has counts i w.0 p at w.1) ∙ eqb-true (count_for tables.waiters counts ps i) 0 free in
+          let off : counts_for tables.above marks w.0 j ≡ false = tally-zero (counts_for tables.above marks w.0) (length xs) none j (omega (arith, less, size)) in
+          absurd (true≢false (sym (and_from (is_marked (slice_get marks j)) (edge tables.above j w.0) both.0 goes) ∙ off))
     ]
 
 not-zero : (n : ℕ) → (n ≡ 0 → ⊥) → (n == 0) ≡ false
 not-zero n h = elim (cases_Bool (n == 0)) [ inl on ↦ absurd (h (eqb-true n 0 on)) | inr off ↦ off ]
 
 -- what is sturdy stays so, or is looked at later
-sturdy-on : (ps : List Partner) (hs : List Bool) (before after todo new : List ℕ) (i : ℕ) → Puts before after todo new → Sturdy ps hs before i → In i new ⊎ Sturdy ps hs after i
-sturdy-on ps hs before after todo new i puts s = pick (slice_get ps i) refl s.1
+sturdy-on : (xs : List LocalAction) (ps : List Partner) (hs : List Bool) (tables : Tables) (limit : ℕ) (before after todo new : List ℕ) (i : ℕ) → HasTables tables xs ps → length ps ≡ limit
+    → Puts tables.waiters.uses limit before after todo new → Sturdy ps hs tables.waiters before i → In i new ⊎ Sturdy ps hs tables.waiters after i
+sturdy-on xs ps hs tables limit before after todo new i has size puts s = pick (slice_get ps i) refl
   where
-    pick : (o : Option Partner) → slice_get ps i ≡ o → is_free (slice_get ps i) (slice_index before i) ≡ false → In i new ⊎ Sturdy ps hs after i
-    pick None e f = inr (s.0, ap (λ (q : Option Partner). is_free q (slice_index after i)) e)
-    pick (Some partner.Gone) e f = inr (s.0, ap (λ (q : Option Partner). is_free q (slice_index after i)) e)
-    pick (Some partner.Open) e f = absurd (true≢false (sym (ap (λ (q : Option Partner). is_free q (slice_index before i)) e) ∙ f))
-    pick (Some (partner.Behind p)) e f = elim (cases_eq (slice_index after i) 0) [
-      | inl none ↦ elim (puts.put i none) [
-        | inl was ↦
-            absurd (true≢false (sym (eq-eqb (slice_index before i) 0 was) ∙ sym (ap (λ (q : Option Partner). is_free q (slice_index before i)) e) ∙ f))
-        | inr later ↦ inl later
-      ]
-      | inr some ↦ inr (s.0, ap (λ (q : Option Partner). is_free q (slice_index after i)) e ∙ not-zero (slice_index after i) some)
-    ]
+    free : List ℕ → Option Partner → Bool
+    free counts o = is_free o (count_of counts (group_of tables.waiters o))
 
-module _ (xs : List LocalAction) (ps : List Partner) (hs marks : List Bool) (edges beside : UseTable) (counts todo rest : List ℕ) (number : ℕ) (same : length ps ≡ length xs)
-    (has : HasEdges edges xs ps) (near : HasBeside beside xs) (l : Loosening xs ps hs marks edges counts todo) (popped : todo ≡ rest ++ number ∷ []) where
+    pick : (o : Option Partner) → slice_get ps i ≡ o → In i new ⊎ Sturdy ps hs tables.waiters after i
+    pick None e = inr (s.0, ap (free after) e)
+    pick (Some partner.Gone) e = inr (s.0, ap (free after) e)
+    pick (Some partner.Open) e = absurd (true≢false (sym (ap (free before) e) ∙ s.1))
+    pick (Some (partner.Behind p)) e =
+        let w = the-group tables xs ps has i p e in
+        let at : (counts : List ℕ) → is_free (slice_get ps i) (count_for tables.waiters counts ps i) ≡ (slice_index counts w.0 == 0) =
+        λ counts. ap (free counts) e ∙ ap (λ (k : Option ℕ). count_of counts k == 0) w.1 in
+        elim (cases_eq (slice_index after w.0) 0) [
+          | inl none ↦ elim (puts.put w.0 none) [
+            | inl was ↦ absurd (true≢false (sym (eq-eqb (slice_index before w.0) 0 was) ∙ sym (at before) ∙ s.1))
+            | inr later ↦ inl (later i w.2 (let within : i < length ps = slice_get_within ps i (partner.Behind p) e in omega (arith, within, size)))
+          ]
+          | inr some ↦ inr (s.0, at after ∙ not-zero (slice_index after w.0) some)
+        ]
+
+module _ (xs : List LocalAction) (ps : List Partner) (hs marks : List Bool) (tables : Tables) (counts todo rest : List ℕ) (number : ℕ) (same : length ps ≡ length xs)
+    (has : HasTables tables xs ps) (l : Loosening xs ps hs marks tables counts todo) (popped : todo ≡ rest ++ number ∷ []) where
   -- the one that is looked at is not loose
-  pub passed-by : is_loose ps hs marks counts number ≡ false → Loosening xs ps hs marks edges counts rest
+  pub passed-by : is_loose ps hs marks (count_for tables.waiters counts ps number) number ≡ false → Loosening xs ps hs marks tables counts rest
   passed-by firm = record {
     size = l.size;
     sizes = l.sizes;
@@ -263,93 +331,75 @@ module _ (xs : List LocalAction) (ps : List Partner) (hs marks : List Bool) (edg
       right-off true b h g = g
       right-off false b h g = cc
 
-      sturdy : (i : ℕ) → i ≡ number → is_marked (slice_get marks i) ≡ true → Sturdy ps hs counts i
+      sturdy : (i : ℕ) → i ≡ number → is_marked (slice_get marks i) ≡ true → Sturdy ps hs tables.waiters counts i
       sturdy i is on =
-          both-off (is_marked (slice_get hs i)) (is_free (slice_get ps i) (slice_index counts i))
-          (right-off (is_marked (slice_get marks i)) (is_marked (slice_get hs i) || is_free (slice_get ps i) (slice_index counts i)) on
-          (ap (is_loose ps hs marks counts) is ∙ firm))
+          both-off (is_marked (slice_get hs i)) (is_free (slice_get ps i) (count_for tables.waiters counts ps i))
+          (right-off (is_marked (slice_get marks i)) (is_marked (slice_get hs i) || is_free (slice_get ps i) (count_for tables.waiters counts ps i)) on
+          (ap (λ (k : ℕ). is_loose ps hs marks (count_for tables.waiters counts ps k) k) is ∙ firm))
 
-  -- or it is, and the marks at its place are taken away
-  module _ (cleared : List Bool) (after new : List ℕ) (loose : is_loose ps hs marks counts number ≡ true) (took : Loosens edges beside number marks cleared counts after rest new) where
+  -- or it is
+  module _ (loose : is_loose ps hs marks (count_for tables.waiters counts ps number) number ≡ true) where
     pub is-loose : IsLoose xs ps hs marks number
-    is-loose = loose-true xs ps hs marks edges counts number same l.size has l.counted loose
+    is-loose = loose-true xs ps hs marks tables counts number same l.size has l.counted loose
 
-    pub less : (i : ℕ) → is_marked (slice_get cleared i) ≡ (is_marked (slice_get marks i) && not (same_at xs i number))
-    less i = elim (cases_Bool (same_at xs number i)) [
-      | inl at ↦ took.cleared i ((near number i).1 at) ∙ gone-not (is_marked (slice_get marks i)) (same_at xs i number) (swapped number i at)
-      | inr apart ↦
-          took.others i (λ u. true≢false (sym ((near number i).0 u) ∙ apart))
-          ∙ kept-not (is_marked (slice_get marks i)) (same_at xs i number) (not-swapped i apart)
-    ]
-      where
-        swapped : (a b : ℕ) → same_at xs a b ≡ true → same_at xs b a ≡ true
-        swapped a b h = sym (same-as xs a b a h) ∙ itself xs a (within-same xs a b h).0
+    pub row-there : (r : ℕ) × (row_of tables.standing (slice_get xs number) ≡ Some r)
+    row-there = the-row tables xs ps has number is-loose.0
 
-        not-swapped : (a : ℕ) → same_at xs number a ≡ false → same_at xs a number ≡ false
-        not-swapped a h = elim (cases_Bool (same_at xs a number)) [
-          | inl on ↦ absurd (true≢false (sym (swapped a number on) ∙ h))
-          | inr off ↦ off
-        ]
+    -- and the marks at its place are taken away
+    module _ (cleared : List Bool) (after new : List ℕ) (r : ℕ) (row : row_of tables.standing (slice_get xs number) ≡ Some r)
+        (took : Loosens tables.above tables.standing.uses tables.waiters.uses r marks cleared counts after rest new) where
+      pub less : (i : ℕ) → is_marked (slice_get cleared i) ≡ (is_marked (slice_get marks i) && not (same_at xs i number))
+      less i = elim (cases_Bool (same_at xs number i)) [
+        | inl at ↦
+            took.cleared i (same-row tables xs ps has number r i row at)
+            ∙ gone-not (is_marked (slice_get marks i)) (same_at xs i number) (swapped number i at)
+        | inr apart ↦
+            took.others i (λ u. true≢false (sym (row-same tables xs ps has number r i row u) ∙ apart))
+            ∙ kept-not (is_marked (slice_get marks i)) (same_at xs i number) (not-swapped i apart)
+      ]
+        where
+          swapped : (a b : ℕ) → same_at xs a b ≡ true → same_at xs b a ≡ true
+          swapped a b h = sym (same-as xs a b a h) ∙ itself xs a (within-same xs a b h).0
 
-    pub loosened : Loosening xs ps hs cleared edges after new
-    loosened = record {
-      size = took.size ∙ l.size;
-      sizes = took.counts ∙ l.sizes;
-      alike = λ i j h. less i ∙ ap₂ (λ (a b : Bool). a && not b) (l.alike i j h) (same-as xs i j number h) ∙ sym (less j);
-      keeps = loosened-keeps xs ps hs marks cleared number is-loose less l.keeps;
-      counted = subst (λ (n : ℕ). Counted edges n cleared after) l.size took.counted;
-      pending = λ i on. elim (l.pending i (and-left (is_marked (slice_get marks i)) (not (same_at xs i number)) (sym (less i) ∙ on))) [
-        | inl later ↦ elim (in-parts i rest (number ∷ []) (subst (λ (t : List ℕ). In i t) popped later)) [
-          | inl there ↦ inl (took.puts.kept i there)
-          | inr (inl is) ↦ absurd (true≢false (sym on ∙ gone i is))
-          | inr (inr none) ↦ absurd none
-        ]
-        | inr s ↦ sturdy-on ps hs counts after rest new i took.puts s
-      ];
-    }
-      where
-        gone : (i : ℕ) → i ≡ number → is_marked (slice_get cleared i) ≡ false
-        gone i is =
-            less i
-            ∙ sym (gone-not (is_marked (slice_get marks i)) (same_at xs i number)
-            (ap (λ (k : ℕ). same_at xs k number) is ∙ itself xs number is-loose.0))
+          not-swapped : (a : ℕ) → same_at xs number a ≡ false → same_at xs a number ≡ false
+          not-swapped a h = elim (cases_Bool (same_at xs a number)) [
+            | inl on ↦ absurd (true≢false (sym (swapped a number on) ∙ h))
+            | inr off ↦ off
+          ]
 
--- how far it has come, from what it began with
-pub record Looking (ps : List Partner) (hs : List Bool) (edges beside : UseTable) (marks : List Bool) (counts todo : List ℕ) (left : List Bool) (after new : List ℕ) : Type 0 where
-  pub waiters : (j i : ℕ) → Uses edges j i → i < length after
-  pub standing : (j i : ℕ) → Uses beside j i → i < length left
-  pub counted : Counted edges (length left) left after
-  pub whole : (xs : List LocalAction) → length ps ≡ length xs → HasEdges edges xs ps → HasBeside beside xs → Loosening xs ps hs marks edges counts todo
-      → Loosening xs ps hs left edges after new
+      pub loosened : Loosening xs ps hs cleared tables after new
+      loosened = record {
+        size = took.size ∙ l.size;
+        sizes = took.counts ∙ l.sizes;
+        alike = λ i j h. less i ∙ ap₂ (λ (a b : Bool). a && not b) (l.alike i j h) (same-as xs i j number h) ∙ sym (less j);
+        keeps = loosened-keeps xs ps hs marks cleared number is-loose less l.keeps;
+        counted = subst (λ (n : ℕ). Counted tables.above n cleared after) l.size took.counted;
+        pending = λ i on. elim (l.pending i (and-left (is_marked (slice_get marks i)) (not (same_at xs i number)) (sym (less i) ∙ on))) [
+          | inl later ↦ elim (in-parts i rest (number ∷ []) (subst (λ (t : List ℕ). In i t) popped later)) [
+            | inl there ↦ inl (took.puts.kept i there)
+            | inr (inl is) ↦ absurd (true≢false (sym on ∙ gone i is))
+            | inr (inr none) ↦ absurd none
+          ]
+          | inr s ↦ sturdy-on xs ps hs tables (length marks) counts after rest new i has (same ∙ sym l.size) took.puts s
+        ];
+      }
+        where
+          gone : (i : ℕ) → i ≡ number → is_marked (slice_get cleared i) ≡ false
+          gone i is =
+              less i
+              ∙ sym (gone-not (is_marked (slice_get marks i)) (same_at xs i number)
+              (ap (λ (k : ℕ). same_at xs k number) is ∙ itself xs number is-loose.0))
 
-pub looking-none : (ps : List Partner) (hs : List Bool) (edges beside : UseTable) (marks : List Bool) (counts todo : List ℕ) → ((j i : ℕ) → Uses edges j i → i < length counts)
-    → ((j i : ℕ) → Uses beside j i → i < length marks) → Counted edges (length marks) marks counts → Looking ps hs edges beside marks counts todo marks counts todo
-looking-none ps hs edges beside marks counts todo waiters standing counted = record {
-  waiters = waiters;
-  standing = standing;
-  counted = counted;
-  whole = λ xs same has near l. l;
-}
+-- what the tables lead to is there
+pub groups-there : (xs : List LocalAction) (ps : List Partner) (hs marks : List Bool) (tables : Tables) (counts todo : List ℕ) → HasTables tables xs ps → Loosening xs ps hs marks tables counts todo
+    → (j g : ℕ) → Uses tables.above j g → g < length counts
+groups-there xs ps hs marks tables counts todo has l j g u =
+    let less : g < tables.waiters.count = above-within tables xs ps has j g u in let size : length counts ≡ tables.waiters.count = l.sizes in omega (arith, less, size)
 
-pub looking-by : (ps : List Partner) (hs : List Bool) (edges beside : UseTable) (marks left : List Bool) (counts todo after new rest : List ℕ) (number : ℕ)
-    → Looking ps hs edges beside marks counts todo left after new → new ≡ rest ++ number ∷ [] → is_loose ps hs left after number ≡ false
-    → Looking ps hs edges beside marks counts todo left after rest
-looking-by ps hs edges beside marks left counts todo after new rest number k popped firm = record {
-  waiters = k.waiters;
-  standing = k.standing;
-  counted = k.counted;
-  whole = λ xs same has near l. passed-by xs ps hs left edges beside after new rest number same has near (k.whole xs same has near l) popped firm;
-}
-
-pub looking-on : (ps : List Partner) (hs : List Bool) (edges beside : UseTable) (marks left cleared : List Bool) (counts todo after new rest less more : List ℕ) (number : ℕ)
-    → Looking ps hs edges beside marks counts todo left after new → new ≡ rest ++ number ∷ [] → is_loose ps hs left after number ≡ true
-    → Loosens edges beside number left cleared after less rest more → Looking ps hs edges beside marks counts todo cleared less more
-looking-on ps hs edges beside marks left cleared counts todo after new rest less more number k popped loose took = record {
-  waiters = λ j i u. subst (λ (n : ℕ). i < n) (sym took.counts) (k.waiters j i u);
-  standing = λ j i u. subst (λ (n : ℕ). i < n) (sym took.size) (k.standing j i u);
-  counted = subst (λ (n : ℕ). Counted edges n cleared less) (sym took.size) took.counted;
-  whole = λ xs same has near l. loosened xs ps hs left edges beside after new rest number same has near (k.whole xs same has near l) popped cleared less more loose took;
-}
+pub those-there : (xs : List LocalAction) (ps : List Partner) (hs marks : List Bool) (tables : Tables) (counts todo : List ℕ) → HasTables tables xs ps → Loosening xs ps hs marks tables counts todo
+    → (number r i : ℕ) → row_of tables.standing (slice_get xs number) ≡ Some r → Uses tables.standing.uses r i → i < length marks
+those-there xs ps hs marks tables counts todo has l number r i row u =
+    let less : i < length xs = row-within tables xs ps has number r i row u in let size : length marks ≡ length xs = l.size in omega (arith, less, size)
 
 -- where nothing is left to be looked at, each that is marked is firm
 some-partner : (qs : List Partner) (k : ℕ) → k < length qs → (q : Partner) × (slice_get qs k ≡ Some q)
@@ -357,34 +407,34 @@ some-partner [] k h = absurd (omega (arith, h))
 some-partner (q ∷ qs) zero h = (q, refl)
 some-partner (q ∷ qs) (suc k) h = some-partner qs k (omega (arith, h))
 
-sturdy-firm : (xs : List LocalAction) (ps : List Partner) (hs marks : List Bool) (edges : UseTable) (counts : List ℕ) (i : ℕ) (p : Partner) → HasEdges edges xs ps
-    → Counted edges (length xs) marks counts → slice_get ps i ≡ Some p → is_marked (slice_get hs i) ≡ false → is_free (Some p) (slice_index counts i) ≡ false → Firm xs ps hs marks i
-sturdy-firm xs ps hs marks edges counts i partner.Gone has counted at unhelped unfree = (partner.Gone, at, unhelped, tt)
-sturdy-firm xs ps hs marks edges counts i partner.Open has counted at unhelped unfree = absurd (true≢false unfree)
-sturdy-firm xs ps hs marks edges counts i (partner.Behind p) has counted at unhelped unfree =
-    let found = tally-some (counts_for edges marks i) (length xs) (λ none. true≢false (sym (eq-eqb (slice_index counts i) 0 (counted i ∙ none)) ∙ unfree)) in
-    let both = and_parts (is_marked (slice_get marks found.0)) (edge edges found.0 i) found.2 in
-    let behind : behind_at (Some (partner.Behind p)) (slice_get xs found.0) ≡ true =
-    ap (λ (q : Option Partner). behind_at q (slice_get xs found.0)) (sym at) ∙ (has found.0 i).0 (edge-used edges found.0 i both.1) in
-    (partner.Behind p, at, unhelped, (found.0, and_from (is_marked (slice_get marks found.0)) (stands_under p (slice_get xs found.0)) both.0 (behind-under p (slice_get xs found.0) behind)))
+sturdy-firm : (xs : List LocalAction) (ps : List Partner) (hs marks : List Bool) (tables : Tables) (counts : List ℕ) (i : ℕ) (p : Partner) → HasTables tables xs ps
+    → Counted tables.above (length xs) marks counts → slice_get ps i ≡ Some p → is_marked (slice_get hs i) ≡ false
+    → is_free (Some p) (count_for tables.waiters counts ps i) ≡ false → Firm xs ps hs marks i
+sturdy-firm xs ps hs marks tables counts i partner.Gone has counted at unhelped unfree = (partner.Gone, at, unhelped, tt)
+sturdy-firm xs ps hs marks tables counts i partner.Open has counted at unhelped unfree = absurd (true≢false unfree)
+sturdy-firm xs ps hs marks tables counts i (partner.Behind p) has counted at unhelped unfree =
+    let w = the-group tables xs ps has i p at in
+    let found = tally-some (counts_for tables.above marks w.0) (length xs)
+    (λ none. true≢false (sym (eq-eqb (count_for tables.waiters counts ps i) 0 (count-is tables xs ps has counts i w.0 p at w.1 ∙ counted w.0 ∙ none)) ∙ unfree)) in
+    let both = and_parts (is_marked (slice_get marks found.0)) (edge tables.above found.0 w.0) found.2 in
+    let under : stands_under p (slice_get xs found.0) ≡ true = above-under tables xs ps has found.0 w.0 p w.1 (edge-used tables.above found.0 w.0 both.1) in
+    (partner.Behind p, at, unhelped, (found.0, and_from (is_marked (slice_get marks found.0)) (stands_under p (slice_get xs found.0)) both.0 under))
 
-all-firm : (xs : List LocalAction) (ps : List Partner) (hs marks : List Bool) (edges : UseTable) (counts : List ℕ) → length ps ≡ length xs → HasEdges edges xs ps
-    → Loosening xs ps hs marks edges counts [] → AllFirm xs ps hs marks
-all-firm xs ps hs marks edges counts same has l i within on = elim (l.pending i on) [
+all-firm : (xs : List LocalAction) (ps : List Partner) (hs marks : List Bool) (tables : Tables) (counts : List ℕ) → length ps ≡ length xs → HasTables tables xs ps
+    → Loosening xs ps hs marks tables counts [] → AllFirm xs ps hs marks
+all-firm xs ps hs marks tables counts same has l i within on = elim (l.pending i on) [
   | inl later ↦ absurd later
   | inr s ↦
       let there = some-partner ps i (omega (arith, within, same)) in
-      sturdy-firm xs ps hs marks edges counts i there.0 has l.counted there.1 s.0 (sym (ap (λ (q : Option Partner). is_free q (slice_index counts i)) there.1) ∙ s.1)
+      sturdy-firm xs ps hs marks tables counts i there.0 has l.counted there.1 s.0
+      (sym (ap (λ (q : Option Partner). is_free q (count_for tables.waiters counts ps i)) there.1) ∙ s.1)
 ]
 
-pub looking-end : (ps : List Partner) (hs : List Bool) (edges beside : UseTable) (marks left : List Bool) (counts todo after old new last : List ℕ) (n : ℕ)
-    → Looking ps hs edges beside marks counts todo left after old → n ≡ length old → n ≡ 0 → old ≡ new ++ last
-    → (xs : List LocalAction) → length ps ≡ length xs → HasEdges edges xs ps → HasBeside beside xs → Loosening xs ps hs marks edges counts todo → Loosened xs ps hs left edges after new
-looking-end ps hs edges beside marks left counts todo after [] [] last n k size none is xs same has near l =
-    let now : Loosening xs ps hs left edges after [] = k.whole xs same has near l in
-    record { loosening = now; firm = all-firm xs ps hs left edges after same has now }
-looking-end ps hs edges beside marks left counts todo after [] (x ∷ new) last n k size none is xs same has near l = cc
-looking-end ps hs edges beside marks left counts todo after (x ∷ old) new last n k size none is xs same has near l = absurd (omega (arith, size, none))
+pub loosening-end : (xs : List LocalAction) (ps : List Partner) (hs marks : List Bool) (tables : Tables) (counts old new last : List ℕ) (n : ℕ) → length ps ≡ length xs → HasTables tables xs ps
+    → Loosening xs ps hs marks tables counts old → n ≡ length old → n ≡ 0 → old ≡ new ++ last → Loosened xs ps hs marks tables counts new
+loosening-end xs ps hs marks tables counts [] [] last n same has l size none is = record { loosening = l; firm = all-firm xs ps hs marks tables counts same has l }
+loosening-end xs ps hs marks tables counts [] (x ∷ new) last n same has l size none is = cc
+loosening-end xs ps hs marks tables counts (x ∷ old) new last n same has l size none is = absurd (omega (arith, size, none))
 
 -- ---- at the end
 -- the places of the actions that are marked
@@ -418,7 +468,7 @@ marked-in (x ∷ xs) (true ∷ ms) a (inr h) =
 marked-in (x ∷ xs) (false ∷ ms) a h =
     let rest = marked-in xs ms a h in record { index = suc rest.index; action = rest.action; got = rest.got; mark = rest.mark; place = rest.place }
 
-module _ (xs : List LocalAction) (ps : List Partner) (hs marks : List Bool) (edges : UseTable) (counts todo : List ℕ) (l : Loosening xs ps hs marks edges counts todo)
+module _ (xs : List LocalAction) (ps : List Partner) (hs marks : List Bool) (tables : Tables) (counts todo : List ℕ) (l : Loosening xs ps hs marks tables counts todo)
     (firm : AllFirm xs ps hs marks) (r : Residual) (help : Helped) (given : ps ≡ map (partner_in r) xs) (told : hs ≡ map help xs) where
   back : (p : Partner) → Held xs marks p → HeldBack (marked-places xs marks) p
   back (partner.Behind p) h = pick (slice_get xs h.0) refl

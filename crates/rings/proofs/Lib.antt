@@ -10,3 +10,4 @@ mod Summed
 mod PlaceRows
 mod Edging
 mod Tallied
+mod Trailing

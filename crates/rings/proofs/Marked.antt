@@ -10,19 +10,19 @@ use Rattle.rings.specs.internal.Search.{Test, Ring, Apart, InNoRing, Names, Path
 use Rattle.rings.proofs.Ringed.{none-through, ring-below, path-more, path-less, path-last, ring-from}
 
 -- ---- a mark that is set
-got-same : (l : List Seen) (i : ℕ) (v : Seen) → i < length l → slice_get (slice_set l i v) i ≡ Some v
+pub got-same : (l : List Seen) (i : ℕ) (v : Seen) → i < length l → slice_get (slice_set l i v) i ≡ Some v
 got-same [] i v h = absurd (omega (arith, h))
 got-same (x ∷ l) zero v h = refl
 got-same (x ∷ l) (suc i) v h = got-same l i v (omega (arith, h))
 
-got-other : (l : List Seen) (i j : ℕ) (v : Seen) → (i ≡ j → ⊥) → slice_get (slice_set l i v) j ≡ slice_get l j
+pub got-other : (l : List Seen) (i j : ℕ) (v : Seen) → (i ≡ j → ⊥) → slice_get (slice_set l i v) j ≡ slice_get l j
 got-other [] i j v h = refl
 got-other (x ∷ l) zero zero v h = absurd (h refl)
 got-other (x ∷ l) zero (suc j) v h = refl
 got-other (x ∷ l) (suc i) zero v h = refl
 got-other (x ∷ l) (suc i) (suc j) v h = got-other l i j v (λ e. h (ap suc e))
 
-same-or-not : (i j : ℕ) → (i ≡ j) ⊎ (i ≡ j → ⊥)
+pub same-or-not : (i j : ℕ) → (i ≡ j) ⊎ (i ≡ j → ⊥)
 same-or-not i j = pick (i == j) refl
   where
     pick : (b : Bool) → (i == j) ≡ b → (i ≡ j) ⊎ (i ≡ j → ⊥)
@@ -36,12 +36,12 @@ kept-mark l k i v x less other h = elim (same-or-not k i) [
   | inr apart ↦ sym (got-other l k i v apart) ∙ h
 ]
 
-mark-at : (l : List Seen) (i : ℕ) → i < length l → (x : Seen) × (slice_get l i ≡ Some x)
+pub mark-at : (l : List Seen) (i : ℕ) → i < length l → (x : Seen) × (slice_get l i ≡ Some x)
 mark-at [] i h = absurd (omega (arith, h))
 mark-at (x ∷ l) zero h = (x, refl)
 mark-at (x ∷ l) (suc i) h = mark-at l i (omega (arith, h))
 
-mark-within : (l : List Seen) (i : ℕ) (x : Seen) → slice_get l i ≡ Some x → i < length l
+pub mark-within : (l : List Seen) (i : ℕ) (x : Seen) → slice_get l i ≡ Some x → i < length l
 mark-within [] i x h = none-some x h
 mark-within (y ∷ l) zero x h = omega arith
 mark-within (y ∷ l) (suc i) x h = let rest = mark-within l i x h in omega (arith, rest)
@@ -67,6 +67,15 @@ is-new l i more apart = pick (slice_get l i) more apart
 
 pub not-new : (l : List Seen) (i : ℕ) → is_new (slice_get l i) ≡ false → slice_get l i ≡ Some New → ⊥
 not-new l i f e = let both : true ≡ false = sym (ap is_new e) ∙ f in true≢false both
+
+pub was-new : (l : List Seen) (i : ℕ) → is_new (slice_get l i) ≡ true → slice_get l i ≡ Some New
+was-new l i h = pick (slice_get l i) h
+  where
+    pick : (o : Option Seen) → is_new o ≡ true → o ≡ Some New
+    pick (Some New) e = refl
+    pick (Some OnWay) e = cc
+    pick (Some Done) e = cc
+    pick None e = cc
 
 -- ---- how many are new
 pub count-less : (l : List Seen) (k : ℕ) → slice_get l k ≡ Some New → count_new (slice_set l k OnWay) + 1 ≡ count_new l

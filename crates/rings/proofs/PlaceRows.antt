@@ -1,5 +1,5 @@
 -- Rows of places: what is put, and what stands there then.
-use Rattle.std.proofs.Common.{◌≡◌, ◌≢◌, ◌⊎◌, inl, inr, ℕ, ◌+◌, ◌<◌, Bool, true, false, List, Vec, Option, Some, None, MatchOption, refl, sym, ap, subst, ◌∙◌, true≢false, Ordering, Less, Equal, Greater, Global, arith}
+use Rattle.std.proofs.Common.{◌≡◌, ◌≢◌, ◌⊎◌, inl, inr, ℕ, ◌+◌, ◌<◌, Bool, true, false, List, Vec, Option, Some, None, refl, sym, ap, subst, ◌∙◌, true≢false, Ordering, Less, Equal, Greater, Global, arith}
 use Rattle.std.specs.Prelude.{◌↔◌}
 use Rattle.std.specs.Ordering.{is_eq, eq_by_cmp}
 use Rattle.std.specs.Cmp.Lexicographic.{slice_cmp}
@@ -10,11 +10,11 @@ use Rattle.address.specs.contracts.EntryOrd.TheImpl.{cmp-value}
 use Rattle.address.specs.Order.{order_of}
 use Rattle.address.proofs.public.Entries.{entries_cmp-is}
 use Rattle.address.proofs.public.Total.{order-ties, order-itself}
-use Rattle.last_events.specs.LastEvents.{Uses, LastUse}
+use Rattle.last_events.specs.LastEvents.{Uses}
 use Rattle.runs.proofs.public.Options.{none-some, some-injective}
 use Rattle.runs.specs.Moves.{Place}
 use Rattle.rings.specs.declared.place_uses.PlaceUses.{PlaceUses}
-use Rattle.rings.specs.internal.Standing.{LastAt, Sound, StandsAt, row_at}
+use Rattle.rings.specs.internal.Standing.{Sound, StandsAt, row_at}
 
 -- ---- keys
 -- whether a key is this place
@@ -186,22 +186,3 @@ module _ (old new : PlaceUses) (key : Vec Entry Global) (a : Place) (number : �
       | inr both ↦ (old.count, ap (row_at new) both.0 ∙ put.here, (uses old.count i).1 (inr (refl, both.1)))
     ],
   )
-
--- ---- the last at a place
-match-more : {X : Type 0} (o : Option X) (A B : Type 0) (P Q : X → Type 0) → (A → B) → ((x : X) → P x → Q x) → MatchOption o A P → MatchOption o B Q
-match-more None A B P Q f g h = f h
-match-more (Some x) A B P Q f g h = g x h
-
-pub last-at : (table : PlaceUses) (a : Place) (n below : ℕ) (o : Option ℕ) → row_at table a ≡ Some n
-    → MatchOption o ((t : ℕ) → Uses table.uses n t → t < below → ⊥) (λ t. LastUse table.uses n below t)
-    → MatchOption o ((i : ℕ) → StandsAt table a i → i < below → ⊥) (λ i. LastAt table a below i)
-last-at table a n below o at =
-    match-more o ((t : ℕ) → Uses table.uses n t → t < below → ⊥) ((i : ℕ) → StandsAt table a i → i < below → ⊥) (λ t. LastUse table.uses n below t) (λ i. LastAt table a below i)
-    (λ none i s less. none i (there i s) less)
-    (λ t last. record { stands = (n, at, last.uses); less = last.less; last = λ u s less. last.last u (there u s) less })
-  where
-    there : (i : ℕ) → StandsAt table a i → Uses table.uses n i
-    there i s = subst (λ (k : ℕ). Uses table.uses k i) (some-injective s.0 n (sym s.1 ∙ at)) s.2
-
-pub none-at : (table : PlaceUses) (a : Place) (below : ℕ) → row_at table a ≡ None → (i : ℕ) → StandsAt table a i → i < below → ⊥
-none-at table a below none i s less = none-some s.0 (sym none ∙ s.1)

@@ -7,7 +7,7 @@ use Rattle.syntax.specs.Lists.{In}
 use Rattle.last_events.specs.LastEvents.{Uses, LastUse}
 use Rattle.last_events.specs.declared.uses.UseTable.{UseTable}
 use Rattle.rings.specs.internal.Loosened.{is_marked}
-use Rattle.rings.specs.internal.Tally.{Counted, Loosens, Lowered, Moved, OneMore, Puts, counts_for, edge, has, one, tally, total}
+use Rattle.rings.specs.internal.Tally.{Adds, Counted, Loosens, Lowered, Moved, OneMore, Puts, counts_for, edge, has, one, tally, times, total}
 
 -- ---- marks at their indexes
 pub bool-same : (l : List Bool) (i : ℕ) (v : Bool) → i < length l → slice_get (slice_set l i v) i ≡ Some v
@@ -215,44 +215,93 @@ moved-all edges j row below more less same none h = record {
     ]
 
 -- ---- what is put into the list of what is looked at later
-pub puts-none : (counts todo : List ℕ) → Puts counts counts todo todo
-puts-none counts todo = record { kept = λ i h. h; put = λ i h. inl h; less = omega arith }
+-- those that wait in a row, from a number on
+pub record AddsFrom (waiters : UseTable) (limit g below : ℕ) (todo new : List ℕ) : Type 0 where
+  pub kept : (i : ℕ) → In i todo → In i new
+  pub added : (i : ℕ) → below ≤ i → Uses waiters g i → i < limit → In i new
+  pub size : length new + below ≤ length todo + limit
 
-pub puts-both : (a b c t u v : List ℕ) → Puts a b t u → Puts b c u v → Puts a c t v
-puts-both a b c t u v h g =
-    let first : total b + length u ≤ total a + length t = h.less in
-    let second : total c + length v ≤ total b + length u = g.less in
+pub adds-none : (waiters : UseTable) (limit g : ℕ) (todo : List ℕ) → AddsFrom waiters limit g limit todo todo
+adds-none waiters limit g todo = record {
+  kept = λ i h. h;
+  added = λ i up u less. absurd (omega (arith, up, less));
+  size = omega arith;
+}
+
+pub adds-more : (waiters : UseTable) (limit g row below found : ℕ) (todo mid new : List ℕ) → row ≡ g → LastUse waiters row below found → new ≡ mid ++ found ∷ []
+    → AddsFrom waiters limit g below todo mid → AddsFrom waiters limit g found todo new
+adds-more waiters limit g row below found todo mid new same last is h =
+    let down : found < below = last.less in
+    let so_far : length mid + below ≤ length todo + limit = h.size in
+    let size : length new ≡ length mid + 1 = ap (λ (l : List ℕ). length l) is ∙ length-append mid (found ∷ []) in
+    record {
+      kept = λ i k. put i (h.kept i k);
+      added = λ i up u less. elim (cases_eq i found) [
+        | inl e ↦ subst (λ (l : List ℕ). In i l) (sym is) (in-right i mid (found ∷ []) (inl e))
+        | inr apart ↦ put i (h.added i (from-below waiters g row below found same last i apart up u) u less)
+      ];
+      size = omega (arith, down, so_far, size);
+    }
+  where
+    put : (i : ℕ) → In i mid → In i new
+    put i k = subst (λ (l : List ℕ). In i l) (sym is) (in-left i mid (found ∷ []) k)
+
+pub adds-all : (waiters : UseTable) (limit g row below : ℕ) (todo new : List ℕ) → row ≡ g → ((i : ℕ) → Uses waiters row i → i < below → ⊥)
+    → AddsFrom waiters limit g below todo new → Adds waiters limit g todo new
+adds-all waiters limit g row below todo new same none h =
+    let so_far : length new + below ≤ length todo + limit = h.size in
+    record {
+      kept = h.kept;
+      added = λ i u less. elim (cases_lt i below) [
+        | inl under ↦ absurd (none i (subst (λ (k : ℕ). Uses waiters k i) (sym same) u) under)
+        | inr over ↦ h.added i over u less
+      ];
+      size = omega (arith, so_far);
+    }
+
+pub puts-none : (waiters : UseTable) (limit : ℕ) (counts todo : List ℕ) → Puts waiters limit counts counts todo todo
+puts-none waiters limit counts todo = record { kept = λ i h. h; put = λ i h. inl h; less = omega arith }
+
+pub puts-both : (waiters : UseTable) (limit : ℕ) (a b c t u v : List ℕ) → Puts waiters limit a b t u → Puts waiters limit b c u v → Puts waiters limit a c t v
+puts-both waiters limit a b c t u v h g =
+    let first : times (total b) limit + length u ≤ times (total a) limit + length t = h.less in
+    let second : times (total c) limit + length v ≤ times (total b) limit + length u = g.less in
     record {
       kept = λ i k. g.kept i (h.kept i k);
-      put = λ i z. elim (g.put i z) [ inl y ↦ elim (h.put i y) [ inl x ↦ inl x | inr k ↦ inr (g.kept i k) ] | inr k ↦ inr k ];
+      put = λ n z. elim (g.put n z) [ inl y ↦ elim (h.put n y) [ inl x ↦ inl x | inr k ↦ inr (λ i w l. g.kept i (k i w l)) ] | inr k ↦ inr k ];
       less = omega (arith, first, second);
     }
 
--- one that came to nothing is put
-pub puts-one : (index : ℕ) (less more todo new : List ℕ) → index < length less → OneMore index less more → new ≡ todo ++ index ∷ [] → Puts more less todo new
-puts-one index less more todo new within o is =
-    let down : total more ≡ total less + 1 = total-more index less more within o in
-    let size : length new ≡ length todo + 1 = ap (λ (l : List ℕ). length l) is ∙ length-append todo (index ∷ []) in
+one-time : (n m limit : ℕ) → m ≡ n + 1 → times m limit ≡ times n limit + limit
+one-time n m limit is = let next : m ≡ suc n = omega (arith, is) in ap (λ (k : ℕ). times k limit) next
+
+-- those of a row that came to nothing are put
+pub puts-one : (waiters : UseTable) (limit index : ℕ) (less more todo new : List ℕ) → index < length less → OneMore index less more → Adds waiters limit index todo new
+    → Puts waiters limit more less todo new
+puts-one waiters limit index less more todo new within o adds =
+    let paid : times (total more) limit ≡ times (total less) limit + limit = one-time (total less) (total more) limit (total-more index less more within o) in
+    let size : length new ≤ length todo + limit = adds.size in
     record {
-      kept = λ i k. subst (λ (l : List ℕ). In i l) (sym is) (in-left i todo (index ∷ []) k);
-      put = λ i z. elim (cases_eq i index) [
-        | inl e ↦ inr (subst (λ (l : List ℕ). In i l) (sym is) (in-right i todo (index ∷ []) (inl e)))
-        | inr apart ↦ inl (o.others i apart ∙ z)
+      kept = adds.kept;
+      put = λ g z. elim (cases_eq g index) [
+        | inl e ↦ inr (λ i u l. adds.added i (subst (λ (k : ℕ). Uses waiters k i) e u) l)
+        | inr apart ↦ inl (o.others g apart ∙ z)
       ];
-      less = omega (arith, down, size);
+      less = omega (arith, paid, size);
     }
 
--- one that did not is not
-pub puts-not : (index : ℕ) (less more todo : List ℕ) → index < length less → OneMore index less more → (slice_index less index ≡ 0 → ⊥) → Puts more less todo todo
-puts-not index less more todo within o some =
-    let down : total more ≡ total less + 1 = total-more index less more within o in
+-- those of one that did not are not
+pub puts-not : (waiters : UseTable) (limit index : ℕ) (less more todo : List ℕ) → index < length less → OneMore index less more → (slice_index less index ≡ 0 → ⊥)
+    → Puts waiters limit more less todo todo
+puts-not waiters limit index less more todo within o some =
+    let paid : times (total more) limit ≡ times (total less) limit + limit = one-time (total less) (total more) limit (total-more index less more within o) in
     record {
       kept = λ i k. k;
-      put = λ i z. elim (cases_eq i index) [
+      put = λ g z. elim (cases_eq g index) [
         | inl e ↦ absurd (some (ap (slice_index less) (sym e) ∙ z))
-        | inr apart ↦ inl (o.others i apart ∙ z)
+        | inr apart ↦ inl (o.others g apart ∙ z)
       ];
-      less = omega (arith, down);
+      less = omega (arith, paid);
     }
 
 -- ---- all counts
@@ -315,29 +364,29 @@ count-less edges n k marks cleared counts new less within on set m c i =
         omega (arith, down, was, up, last)
 
 -- ---- marks of a row that are taken away, from a number on
-pub record LoosensFrom (edges beside : UseTable) (j below : ℕ) (marks left : List Bool) (before after todo new : List ℕ) : Type 0 where
+pub record LoosensFrom (edges beside waiters : UseTable) (j below : ℕ) (marks left : List Bool) (before after todo new : List ℕ) : Type 0 where
   pub upto : below ≤ length marks
   pub size : length left ≡ length marks
   pub cleared : (i : ℕ) → below ≤ i → Uses beside j i → is_marked (slice_get left i) ≡ false
   pub others : (i : ℕ) → (below ≤ i → Uses beside j i → ⊥) → is_marked (slice_get left i) ≡ is_marked (slice_get marks i)
   pub counted : Counted edges (length marks) left after
   pub counts : length after ≡ length before
-  pub puts : Puts before after todo new
+  pub puts : Puts waiters (length marks) before after todo new
 
-pub loosens-none : (edges beside : UseTable) (j below : ℕ) (marks : List Bool) (counts todo : List ℕ) → below ≡ length marks → ((i : ℕ) → Uses beside j i → i < length marks)
-    → Counted edges (length marks) marks counts → LoosensFrom edges beside j below marks marks counts counts todo todo
-loosens-none edges beside j below marks counts todo all within c = record {
+pub loosens-none : (edges beside waiters : UseTable) (j below : ℕ) (marks : List Bool) (counts todo : List ℕ) → below ≡ length marks → ((i : ℕ) → Uses beside j i → i < length marks)
+    → Counted edges (length marks) marks counts → LoosensFrom edges beside waiters j below marks marks counts counts todo todo
+loosens-none edges beside waiters j below marks counts todo all within c = record {
   upto = omega (arith, all);
   size = refl;
   cleared = λ i up u. let less : i < length marks = within i u in absurd (omega (arith, less, up, all));
   others = λ i none. refl;
   counted = c;
   counts = refl;
-  puts = puts-none counts todo;
+  puts = puts-none waiters (length marks) counts todo;
 }
 
-module _ (edges beside : UseTable) (j row below found : ℕ) (marks mid : List Bool) (before counts todo between : List ℕ) (same : row ≡ j) (last : LastUse beside row below found)
-    (h : LoosensFrom edges beside j below marks mid before counts todo between) where
+module _ (edges beside waiters : UseTable) (j row below found : ℕ) (marks mid : List Bool) (before counts todo between : List ℕ) (same : row ≡ j) (last : LastUse beside row below found)
+    (h : LoosensFrom edges beside waiters j below marks mid before counts todo between) where
   down : found < below
   down = last.less
 
@@ -351,7 +400,7 @@ module _ (edges beside : UseTable) (j row below found : ℕ) (marks mid : List B
   found-counted = omega (arith, down, upto-marks)
 
   -- it was not marked
-  pub loosens-on : is_marked (slice_get mid found) ≡ false → LoosensFrom edges beside j found marks mid before counts todo between
+  pub loosens-on : is_marked (slice_get mid found) ≡ false → LoosensFrom edges beside waiters j found marks mid before counts todo between
   loosens-on off = record {
     upto = omega (arith, down, upto-marks);
     size = h.size;
@@ -366,8 +415,8 @@ module _ (edges beside : UseTable) (j row below found : ℕ) (marks mid : List B
   }
 
   -- its mark is taken away
-  pub loosens-more : (cleared : List Bool) (after new : List ℕ) → is_marked (slice_get mid found) ≡ true → cleared ≡ slice_set mid found false → Lowered edges found counts after between new
-      → LoosensFrom edges beside j found marks cleared before after todo new
+  pub loosens-more : (cleared : List Bool) (after new : List ℕ) → is_marked (slice_get mid found) ≡ true → cleared ≡ slice_set mid found false → Lowered edges waiters (length marks) found counts after between new
+      → LoosensFrom edges beside waiters j found marks cleared before after todo new
   loosens-more cleared after new on set l = record {
     upto = omega (arith, down, upto-marks);
     size = ap (λ (b : List Bool). length b) set ∙ length-set mid found false ∙ h.size;
@@ -379,15 +428,15 @@ module _ (edges beside : UseTable) (j row below found : ℕ) (marks mid : List B
     others = λ i none. other i (not-found beside j row below found same last i none) ∙ h.others i (not-yet beside j row below found same last i none);
     counted = count-less edges (length marks) found mid cleared counts after found-counted found-within on set l.moved h.counted;
     counts = sym l.moved.size ∙ h.counts;
-    puts = puts-both before counts after todo between new h.puts l.puts;
+    puts = puts-both waiters (length marks) before counts after todo between new h.puts l.puts;
   }
     where
       other : (i : ℕ) → (i ≡ found → ⊥) → is_marked (slice_get cleared i) ≡ is_marked (slice_get mid i)
       other i apart = ap (λ (b : List Bool). is_marked (slice_get b i)) set ∙ ap is_marked (bool-other mid found i false (λ e. apart (sym e)))
 
-pub loosens-all : (edges beside : UseTable) (j row below : ℕ) (marks cleared : List Bool) (before after todo new : List ℕ) → row ≡ j → ((i : ℕ) → Uses beside row i → i < below → ⊥)
-    → LoosensFrom edges beside j below marks cleared before after todo new → Loosens edges beside j marks cleared before after todo new
-loosens-all edges beside j row below marks cleared before after todo new same none h = record {
+pub loosens-all : (edges beside waiters : UseTable) (j row below : ℕ) (marks cleared : List Bool) (before after todo new : List ℕ) → row ≡ j → ((i : ℕ) → Uses beside row i → i < below → ⊥)
+    → LoosensFrom edges beside waiters j below marks cleared before after todo new → Loosens edges beside waiters j marks cleared before after todo new
+loosens-all edges beside waiters j row below marks cleared before after todo new same none h = record {
   size = h.size;
   cleared = λ i u. h.cleared i (from i u) u;
   others = λ i no. h.others i (λ up u. no u);

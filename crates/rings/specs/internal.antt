@@ -6,3 +6,4 @@ pub mod Search
 pub mod Seen
 pub mod Standing
 pub mod Tally
+pub mod Trails

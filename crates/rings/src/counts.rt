@@ -1,4 +1,4 @@
-// For how many others an action waits, as their marks are taken away.
+// For how many those wait whose partner comes behind a place, as marks are taken away.
 ghost use Rattle.std.specs.Prelude.{◌≡◌, ◌↔◌, ◌<◌, ◌≤◌, ℕ, length, slice_index, IfOk, IsTrue, OnOk};
 ghost use Rattle.last_events.specs.LastEvents.{Uses};
 ghost use Rattle.rings.specs.internal.Tally as model;
@@ -8,19 +8,20 @@ use crate::way::small;
 use last_events::UseTable;
 use std::alloc::{AllocError, Global};
 
-/// For each of so many actions for how many of them it waits.
+/// For each of so many numbers in how many of the first `rows` rows it stands.
 pub(crate) fn counts_of(
     alloc: Global,
     edges: &UseTable,
+    rows: usize,
     count: usize,
 ) -> Result<Vec<usize>, AllocError>
     requires { (j i : ℕ) → Uses edges.now j i → i < count }
     ensures size { IfOk result (λ counts. length counts.items ≡ count) }
     ensures counted { IfOk result (λ counts. (i : ℕ) →
-        slice_index counts.items i ≡ model.tally (λ j. model.edge edges.now j i) count) }
+        slice_index counts.items i ≡ model.tally (λ j. model.edge edges.now j i) rows) }
 {
     let mut counts = no_counts(alloc, count)?;
-    for number in 0..count {
+    for number in 0..rows {
         raise(edges, number, &mut counts)?;
     }
     Ok(counts)
@@ -34,7 +35,7 @@ fn no_counts(alloc: Global, count: usize) -> Result<Vec<usize>, AllocError>
     Ok(vec![in alloc; 0; count]?)
 }
 
-/// Counts the action of this number for each that waits for it.
+/// Counts one more for each number in this row.
 fn raise(edges: &UseTable, number: usize, counts: &mut Vec<usize>) -> Result<(), AllocError>
     requires { (i : ℕ) → Uses edges.now number i → i < length counts.old.items }
     ensures size { length counts.new.items ≡ length counts.old.items }
@@ -42,8 +43,8 @@ fn raise(edges: &UseTable, number: usize, counts: &mut Vec<usize>) -> Result<(),
 {
     let row = small(number as u64)?;
     let mut below = counts.len();
-    'waiters: while let Some(waiter) = edges.last(row, below as u64) {
-        below = waiter as usize;
+    'groups: while let Some(found) = edges.last(row, below as u64) {
+        below = found as usize;
         add_one(counts, below)?;
     }
     Ok(())
@@ -74,35 +75,56 @@ fn take_one(counts: &mut Vec<usize>, index: usize) -> bool
     left == 0
 }
 
-/// Counts the action of this number no more for those that wait for it, and puts those into `todo` that wait for none
-/// any more.
+/// Puts those into `todo` that wait in the row of this number and are less than `limit`.
+fn add_waiters(
+    waiters: &UseTable,
+    limit: usize,
+    number: usize,
+    todo: &mut Vec<usize>,
+) -> Result<(), AllocError>
+    ensures { OnOk result (model.Adds waiters.now limit number todo.old.items todo.new.items) }
+{
+    let row = small(number as u64)?;
+    let mut below = limit;
+    'waiters: while let Some(waiter) = waiters.last(row, below as u64) {
+        below = waiter as usize;
+        todo.push(below)?;
+    }
+    Ok(())
+}
+
+/// Counts one less for each number in this row, and puts those into `todo` that wait in the row of one of which none is
+/// left.
 fn lower(
     edges: &UseTable,
+    waiters: &UseTable,
+    limit: usize,
     number: usize,
     counts: &mut Vec<usize>,
     todo: &mut Vec<usize>,
 ) -> Result<(), AllocError>
     requires { (i : ℕ) → Uses edges.now number i →
         (i < length counts.old.items) × (1 ≤ slice_index counts.old.items i) }
-    ensures { OnOk result (model.Lowered edges.now number counts.old.items counts.new.items todo.old.items
-        todo.new.items) }
+    ensures { OnOk result (model.Lowered edges.now waiters.now limit number counts.old.items counts.new.items
+        todo.old.items todo.new.items) }
 {
     let row = small(number as u64)?;
     let mut below = counts.len();
-    'waiters: while let Some(waiter) = edges.last(row, below as u64) {
-        below = waiter as usize;
+    'groups: while let Some(found) = edges.last(row, below as u64) {
+        below = found as usize;
         if take_one(counts, below) {
-            todo.push(below)?;
+            add_waiters(waiters, limit, below, todo)?;
         }
     }
     Ok(())
 }
 
-/// Takes the marks of all away that stand beside the action of this number, and counts them no more. Those that wait
-/// for none any more are put into `todo`.
+/// Takes the marks of all away that stand in the row of this number, and counts them no more. Those that wait for none
+/// any more are put into `todo`.
 pub(crate) fn loosen(
     edges: &UseTable,
     beside: &UseTable,
+    waiters: &UseTable,
     number: usize,
     marks: &mut Vec<bool>,
     counts: &mut Vec<usize>,
@@ -111,16 +133,17 @@ pub(crate) fn loosen(
     requires rows { (j i : ℕ) → Uses edges.now j i → i < length counts.old.items }
     requires row { (i : ℕ) → Uses beside.now number i → i < length marks.old.items }
     requires counted { model.Counted edges.now (length marks.old.items) marks.old.items counts.old.items }
-    ensures { OnOk result (model.Loosens edges.now beside.now number marks.old.items marks.new.items
+    ensures { OnOk result (model.Loosens edges.now beside.now waiters.now number marks.old.items marks.new.items
         counts.old.items counts.new.items todo.old.items todo.new.items) }
 {
     let row = small(number as u64)?;
-    let mut below = marks.len();
+    let limit = marks.len();
+    let mut below = limit;
     'clearing: while let Some(found) = beside.last(row, below as u64) {
         below = found as usize;
         if is_marked(marks.as_slice(), below) {
             marks[below] = false;
-            lower(edges, below, counts, todo)?;
+            lower(edges, waiters, limit, below, counts, todo)?;
         }
     }
     Ok(())

@@ -1,28 +1,28 @@
 // Places of which none goes on before another does.
-ghost use Rattle.std.specs.Prelude.{◌≡◌, ◌<◌, ℕ, List, true, length, map, slice_get, slice_index, Some, IfOk, OnOk};
+ghost use Rattle.std.specs.Prelude.{◌≡◌, ◌<◌, ℕ, true, length, map, slice_get, slice_index, Some, IfOk, OnOk};
 ghost use Rattle.std.specs.Option.{option_copied};
 ghost use Rattle.syntax.specs.Lists.{In};
 ghost use Rattle.last_events.specs.LastEvents.{Uses};
-ghost use Rattle.local_actions.specs.declared.action.LocalAction as any;
 ghost use Rattle.system.specs.Residual.{Residual};
 ghost use Rattle.rings.specs.Partners.{partner_in};
 ghost use Rattle.rings.specs.Rings.{Helped, TellsDeadlocked};
 ghost use Rattle.rings.specs.internal.Loosened as model;
-ghost use Rattle.rings.specs.internal.Loosening.{Loosened, Loosening};
-ghost use Rattle.rings.specs.internal.Standing.{HasBeside, HasEdges};
-ghost use Rattle.rings.specs.internal.Tally.{Counted};
+ghost use Rattle.rings.specs.internal.Loosening.{Loosened, Loosening, count_for};
+ghost use Rattle.rings.specs.internal.Standing.{HasTables, row_of};
+ghost use Rattle.rings.specs.internal.Tally.{Counted, Loosens};
 
 use crate::counts::{counts_of, loosen};
-use crate::edges::{beside_of, edges_of};
 use crate::partner::Partner;
+use crate::place_uses::PlaceUses;
+use crate::tables::{Tables, group_of, row_of};
 use crate::waits::is_marked;
-use last_events::UseTable;
 use local_actions::LocalAction;
 use std::alloc::{AllocError, Global};
 
 /// For each of the actions whether its place is deadlocked, where these are the partners of the actions, and `helped`
-/// says which of them are helped from elsewhere, in their order. It takes as many steps as there are actions, and pairs
-/// of which one waits for the other, each by halves. It is an error if there is no memory.
+/// says which of them are helped from elsewhere, in their order. It takes as many steps as there are actions, and as
+/// their places have entries, each by halves: what waits behind one place is counted together. It is an error if there
+/// is no memory.
 pub fn deadlocked_among(
     alloc: Global,
     actions: &[LocalAction],
@@ -34,16 +34,16 @@ pub fn deadlocked_among(
     ensures { (r : Residual) (help : Helped) → partners.now ≡ map (partner_in r) actions.now
         → helped.now ≡ map help actions.now → IfOk result (λ marks. TellsDeadlocked help r actions.now marks.items) }
 {
-    let edges = edges_of(alloc, actions, partners)?;
-    let beside = beside_of(alloc, actions)?;
+    let tables = Tables::of(alloc, actions, partners)?;
     let mut marks = all_marked(alloc, actions.len())?;
-    let mut counts = counts_of(alloc, &edges, actions.len())?;
+    let groups = tables.waiters.count as usize;
+    let mut counts = counts_of(alloc, &tables.above, actions.len(), groups)?;
     let mut todo = all_numbers(alloc, actions.len())?;
     loosen_all(
+        actions,
         partners,
         helped,
-        &edges,
-        &beside,
+        &tables,
         &mut marks,
         &mut counts,
         &mut todo,
@@ -53,34 +53,59 @@ pub fn deadlocked_among(
 
 /// Takes marks away until each action that is marked is firm.
 fn loosen_all(
+    actions: &[LocalAction],
     partners: &[Partner],
     helped: &[bool],
-    edges: &UseTable,
-    beside: &UseTable,
+    tables: &Tables,
     marks: &mut Vec<bool>,
     counts: &mut Vec<usize>,
     todo: &mut Vec<usize>,
 ) -> Result<(), AllocError>
-    requires waiters { (j i : ℕ) → Uses edges.now j i → i < length counts.old.items }
-    requires standing { (j i : ℕ) → Uses beside.now j i → i < length marks.old.items }
-    requires counted { Counted edges.now (length marks.old.items) marks.old.items counts.old.items }
-    ensures { (xs : List any.LocalAction) → length partners.now ≡ length xs → HasEdges edges.now xs partners.now
-        → HasBeside beside.now xs
-        → Loosening xs partners.now helped.now marks.old.items edges.now counts.old.items todo.old.items
-        → OnOk result (Loosened xs partners.now helped.now marks.new.items edges.now counts.new.items todo.new.items) }
+    requires partners { length partners.now ≡ length actions.now }
+    requires tables { HasTables tables.now actions.now partners.now }
+    requires begun { Loosening actions.now partners.now helped.now marks.old.items tables.now counts.old.items
+        todo.old.items }
+    ensures { OnOk result (Loosened actions.now partners.now helped.now marks.new.items tables.now counts.new.items
+        todo.new.items) }
 {
     'loosening: while let Some(number) = todo.pop() {
-        if is_loose(
-            partners,
-            helped,
-            marks.as_slice(),
-            counts.as_slice(),
-            number,
-        ) {
-            loosen(edges, beside, number, marks, counts, todo)?;
+        let count = count_for(&tables.waiters, counts.as_slice(), partners, number);
+        if is_loose(partners, helped, marks.as_slice(), count, number) {
+            loosen_at(actions, tables, number, marks, counts, todo)?;
         }
     }
     Ok(())
+}
+
+/// Takes the marks of all away that stand at the place of the action of this number.
+fn loosen_at(
+    actions: &[LocalAction],
+    tables: &Tables,
+    number: usize,
+    marks: &mut Vec<bool>,
+    counts: &mut Vec<usize>,
+    todo: &mut Vec<usize>,
+) -> Result<(), AllocError>
+    requires groups { (j g : ℕ) → Uses tables.now.above j g → g < length counts.old.items }
+    requires standing { (r i : ℕ) → row_of tables.now.standing (slice_get actions.now number) ≡ Some r
+        → Uses tables.now.standing.uses r i → i < length marks.old.items }
+    requires counted { Counted tables.now.above (length marks.old.items) marks.old.items counts.old.items }
+    ensures { (r : ℕ) → row_of tables.now.standing (slice_get actions.now number) ≡ Some r → OnOk result
+        (Loosens tables.now.above tables.now.standing.uses tables.now.waiters.uses r marks.old.items marks.new.items
+        counts.old.items counts.new.items todo.old.items todo.new.items) }
+{
+    match row_of(&tables.standing, actions, number) {
+        Some(row) => loosen(
+            &tables.above,
+            &tables.standing.uses,
+            &tables.waiters.uses,
+            row as usize,
+            marks,
+            counts,
+            todo,
+        ),
+        None => Ok(()),
+    }
 }
 
 /// So many marks, all of them set.
@@ -102,21 +127,30 @@ fn all_numbers(alloc: Global, count: usize) -> Result<Vec<usize>, AllocError>
     Ok(numbers)
 }
 
-/// Whether the action of this number is marked, and is helped or not held back.
+/// Whether the action of this number is marked, and is helped or not held back, where it waits for so many.
 fn is_loose(
     partners: &[Partner],
     helped: &[bool],
     marks: &[bool],
-    counts: &[usize],
+    count: usize,
     number: usize,
 ) -> bool
-    ensures { result ≡ model.is_loose partners.now helped.now marks.now counts.now number }
+    ensures { result ≡ model.is_loose partners.now helped.now marks.now count number }
 {
-    is_marked(marks, number)
-        && (is_marked(helped, number) || is_free(partners.get(number), count_at(counts, number)))
+    is_marked(marks, number) && (is_marked(helped, number) || is_free(partners.get(number), count))
 }
 
-/// For how many the action of this number waits.
+/// For how many the action waits that has the partner of this number.
+fn count_for(waiters: &PlaceUses, counts: &[usize], partners: &[Partner], number: usize) -> usize
+    ensures { result ≡ count_for waiters.now counts.now partners.now number }
+{
+    match group_of(waiters, partners, number) {
+        Some(group) => count_at(counts, group as usize),
+        None => 0,
+    }
+}
+
+/// For how many those wait that wait in the row of this number.
 fn count_at(counts: &[usize], number: usize) -> usize
     ensures { result ≡ slice_index counts.now number }
 {

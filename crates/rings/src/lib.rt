@@ -5,7 +5,6 @@
 mod among;
 mod counts;
 mod deadlock;
-mod edges;
 mod ends;
 mod fresh;
 mod look;
@@ -13,6 +12,7 @@ mod partner;
 mod place_uses;
 mod ring;
 mod sought;
+mod tables;
 mod waits;
 mod wanted;
 mod way;

@@ -1,7 +1,7 @@
 // Which numbers stand at which place.
-ghost use Rattle.std.specs.Prelude.{◌≡◌, ◌⊎◌, ◌↔◌, ◌<◌, ℕ, None, Some, MatchOption, OnOk};
+ghost use Rattle.std.specs.Prelude.{◌≡◌, ◌⊎◌, ◌↔◌, ℕ, None, OnOk};
 ghost use Rattle.runs.specs.Moves.{Place};
-ghost use Rattle.rings.specs.internal.Standing.{LastAt, Sound, StandsAt, row_at};
+ghost use Rattle.rings.specs.internal.Standing.{Sound, StandsAt, row_at};
 
 use address::Entry;
 use last_events::UseTable;
@@ -12,8 +12,8 @@ use std::collections::BTreeMap;
 #[derive(Drop)]
 pub(crate) struct PlaceUses {
     rows: BTreeMap<Vec<Entry>, u32>,
-    count: u32,
-    uses: UseTable,
+    pub(crate) count: u32,
+    pub(crate) uses: UseTable,
 }
 
 impl PlaceUses {
@@ -67,20 +67,9 @@ impl PlaceUses {
     }
 
     /// The row of the place, if it has one.
-    fn row(&self, place: &[Entry]) -> Option<u32>
+    pub(crate) fn row(&self, place: &[Entry]) -> Option<u32>
         ensures { result ≡ row_at self.now place.now }
     {
         self.rows.get(place).copied()
-    }
-
-    /// The greatest number at the place that is less than `below`.
-    pub(crate) fn last(&self, place: &[Entry], below: u64) -> Option<u64>
-        ensures { MatchOption result ((i : ℕ) → StandsAt self.now place.now i → i < below → ⊥)
-            (λ i. LastAt self.now place.now below i) }
-    {
-        match self.row(place) {
-            Some(row) => self.uses.last(row, below),
-            None => None,
-        }
     }
 }

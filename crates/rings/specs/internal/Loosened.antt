@@ -1,7 +1,7 @@
 -- How deadlocked places are found by the indexes of actions: all are marked, and a mark is taken away where nothing
 -- that is marked holds an action back. No reader has to believe it: the contract of `deadlocked_among` ties it to
 -- `TellsDeadlocked`.
-use Rattle.std.specs.Prelude.{◌≡◌, ◌⊎◌, ℕ, ◌<◌, ◌==◌, List, length, Bool, true, false, ◌&&◌, ◌||◌, Option, Some, None, slice_get, slice_index}
+use Rattle.std.specs.Prelude.{◌≡◌, ◌⊎◌, ℕ, ◌<◌, ◌==◌, List, length, Bool, true, false, ◌&&◌, ◌||◌, Option, Some, None, slice_get}
 use Rattle.runs.specs.Moves.{Place}
 use Rattle.local_actions.specs.internal.At.{is_under}
 use Rattle.local_actions.specs.declared.action.LocalAction.{LocalAction}
@@ -41,11 +41,11 @@ is_free (Some partner.Open) n = true
 is_free (Some partner.Gone) n = false
 is_free None n = false
 
--- whether action i is marked, and is helped or not held back
-abbrev pub is_loose : List Partner → List Bool → List Bool → List ℕ → ℕ → Bool
-is_loose partners helped marks counts i =
+-- whether action i is marked, and is helped or not held back, where its partner waits for so many
+abbrev pub is_loose : List Partner → List Bool → List Bool → ℕ → ℕ → Bool
+is_loose partners helped marks count i =
     is_marked (slice_get marks i)
-    && (is_marked (slice_get helped i) || is_free (slice_get partners i) (slice_index counts i))
+    && (is_marked (slice_get helped i) || is_free (slice_get partners i) count)
 
 -- action i is not helped and held back
 abbrev pub Firm : List LocalAction → List Partner → List Bool → List Bool → ℕ → Type 0

@@ -1,6 +1,6 @@
--- Which numbers stand at which place, and who waits for whom by these, as the code keeps them.
+-- Which numbers stand at which place, and who waits behind which place, as the code keeps them.
 -- No reader has to believe it: the contract of `deadlocked_among` ties it to `TellsDeadlocked`.
-use Rattle.std.specs.Prelude.{◌≡◌, ◌↔◌, ◌<◌, ◌≤◌, ℕ, List, true, Option, Some, Vec, slice_get}
+use Rattle.std.specs.Prelude.{◌≡◌, ◌↔◌, ◌<◌, ◌≤◌, ℕ, List, Option, Some, None, Vec, slice_get}
 use Rattle.std.specs.Global.{Global}
 use Rattle.std.specs.Map.{lookup}
 use Rattle.std.specs.Ordering.{is_eq}
@@ -14,7 +14,8 @@ use Rattle.local_actions.specs.declared.action.LocalAction.{LocalAction}
 use Rattle.rings.specs.declared.partner.Partner.{Partner}
 use Rattle.rings.specs.declared.partner.Partner.TheVariants as partner
 use Rattle.rings.specs.declared.place_uses.PlaceUses.{PlaceUses}
-use Rattle.rings.specs.internal.Search.{behind_at, place_at, same_at}
+use Rattle.rings.specs.declared.tables.Tables.{Tables}
+use Rattle.rings.specs.internal.Search.{place_at}
 
 -- the row of a place
 abbrev pub row_at : PlaceUses → Place → Option ℕ
@@ -30,16 +31,6 @@ pub record Sound (table : PlaceUses) : Type 0 where
   pub apart : (a b : Place) (n : ℕ) → row_at table a ≡ Some n → row_at table b ≡ Some n → a ≡ b
   pub used : (n i : ℕ) → Uses table.uses n i → n < table.count
 
--- i is the greatest number at the place that is less than `below`
-pub record LastAt (table : PlaceUses) (a : Place) (below i : ℕ) : Type 0 where
-  pub stands : StandsAt table a i
-  pub less : i < below
-  pub last : (u : ℕ) → StandsAt table a u → u < below → u ≤ i
-
--- the number stands at the place or above it
-abbrev pub AtOrAbove : PlaceUses → Place → ℕ → Type 0
-AtOrAbove table a i = (p : Place) × Under p a × StandsAt table p i
-
 -- at each place stand the partners that come behind it
 abbrev pub HasWaiters : PlaceUses → List Partner → Type 0
 HasWaiters table ps = (a : Place) (i : ℕ) → StandsAt table a i ↔ (slice_get ps i ≡ Some (partner.Behind a))
@@ -48,14 +39,38 @@ HasWaiters table ps = (a : Place) (i : ℕ) → StandsAt table a i ↔ (slice_ge
 abbrev pub HasActions : PlaceUses → List LocalAction → Type 0
 HasActions table xs = (a : Place) (i : ℕ) → StandsAt table a i ↔ (place_at xs i ≡ Some a)
 
--- in the row of action j stand those that wait for its place
-abbrev pub HasEdges : UseTable → List LocalAction → List Partner → Type 0
-HasEdges table xs ps = (j i : ℕ) → Uses table j i ↔ (behind_at (slice_get ps i) (slice_get xs j) ≡ true)
+-- the row of the place of an action that may be there
+abbrev pub row_of : PlaceUses → Option LocalAction → Option ℕ
+row_of table (Some x) = row_at table x.place
+row_of table None = None
 
--- in the row of action i stand those for whose places it waits
-abbrev pub HasNexts : UseTable → List LocalAction → List Partner → Type 0
-HasNexts table xs ps = (i j : ℕ) → Uses table i j ↔ (behind_at (slice_get ps i) (slice_get xs j) ≡ true)
+-- the row of the place behind which a partner comes, if one does
+abbrev pub group_of : PlaceUses → Option Partner → Option ℕ
+group_of table (Some (partner.Behind p)) = row_at table p
+group_of table (Some partner.Gone) = None
+group_of table (Some partner.Open) = None
+group_of table None = None
 
--- in the row of action j stand those at its place
-abbrev pub HasBeside : UseTable → List LocalAction → Type 0
-HasBeside table xs = (j i : ℕ) → Uses table j i ↔ (same_at xs j i ≡ true)
+-- the row of the place or of one above it
+abbrev pub RowOver : PlaceUses → Place → ℕ → Type 0
+RowOver table a g = (p : Place) × Under p a × (row_at table p ≡ Some g)
+
+-- action j stands at the place of the row or below it
+abbrev pub StandsUnder : PlaceUses → List LocalAction → ℕ → ℕ → Type 0
+StandsUnder table xs g j = (a : Place) × (place_at xs j ≡ Some a) × RowOver table a g
+
+-- in the row of action j stand the rows of the places at or above its own
+abbrev pub HasAbove : UseTable → PlaceUses → List LocalAction → Type 0
+HasAbove above table xs = (j g : ℕ) → Uses above j g ↔ StandsUnder table xs g j
+
+-- in each row stand the actions at its place and below it
+abbrev pub HasUnder : UseTable → PlaceUses → List LocalAction → Type 0
+HasUnder under table xs = (g j : ℕ) → Uses under g j ↔ StandsUnder table xs g j
+
+-- the tables of these actions, which have these partners
+pub record HasTables (tables : Tables) (xs : List LocalAction) (ps : List Partner) : Type 0 where
+  pub places : Sound tables.standing
+  pub standing : HasActions tables.standing xs
+  pub groups : Sound tables.waiters
+  pub waiters : HasWaiters tables.waiters ps
+  pub above : HasAbove tables.above tables.waiters xs

@@ -1,6 +1,6 @@
--- For how many an action waits, and how marks are taken away.
+-- For how many those wait whose partner comes behind a place, and how marks are taken away.
 -- No reader has to believe it: the contract of `deadlocked_among` ties it to `TellsDeadlocked`.
-use Rattle.std.specs.Prelude.{◌≡◌, ◌⊎◌, ℕ, zero, suc, ◌+◌, ◌≤◌, ◌==◌, List, [], ◌∷◌, length, Bool, true, false, ◌&&◌, ◌||◌, slice_get, slice_index, slice_index_or}
+use Rattle.std.specs.Prelude.{◌≡◌, ◌⊎◌, ℕ, zero, suc, ◌+◌, ◌<◌, ◌≤◌, ◌==◌, List, [], ◌∷◌, length, Bool, true, false, ◌&&◌, ◌||◌, Option, Some, None, slice_get, slice_index, slice_index_or}
 use Rattle.syntax.specs.Lists.{In}
 use Rattle.last_events.specs.LastEvents.{Uses}
 use Rattle.last_events.specs.declared.uses.UseTable.{UseTable}
@@ -49,23 +49,40 @@ abbrev pub total : List ℕ → ℕ
 total [] = 0
 total (x ∷ xs) = x + total xs
 
--- what came to nothing is put into `todo`, from which nothing is taken
-pub record Puts (before after todo new : List ℕ) : Type 0 where
+-- the count of a row; none where there is no row
+abbrev pub count_of : List ℕ → Option ℕ → ℕ
+count_of counts (Some g) = slice_index counts g
+count_of counts None = 0
+
+-- so many times the second
+abbrev pub times : ℕ → ℕ → ℕ
+times zero limit = 0
+times (suc n) limit = times n limit + limit
+
+-- those less than `limit` that wait in the row of g are put into `todo`, from which nothing is taken
+pub record Adds (waiters : UseTable) (limit g : ℕ) (todo new : List ℕ) : Type 0 where
   pub kept : (i : ℕ) → In i todo → In i new
-  pub put : (i : ℕ) → slice_index after i ≡ 0 → (slice_index before i ≡ 0) ⊎ In i new
-  pub less : total after + length new ≤ total before + length todo
+  pub added : (i : ℕ) → Uses waiters g i → i < limit → In i new
+  pub size : length new ≤ length todo + limit
+
+-- those that wait in a row whose count came to nothing are put into `todo`, from which nothing is taken
+pub record Puts (waiters : UseTable) (limit : ℕ) (before after todo new : List ℕ) : Type 0 where
+  pub kept : (i : ℕ) → In i todo → In i new
+  pub put : (g : ℕ) → slice_index after g ≡ 0 →
+      (slice_index before g ≡ 0) ⊎ ((i : ℕ) → Uses waiters g i → i < limit → In i new)
+  pub less : times (total after) limit + length new ≤ times (total before) limit + length todo
 
 -- those in the row of j are one less
-pub record Lowered (edges : UseTable) (j : ℕ) (before after todo new : List ℕ) : Type 0 where
+pub record Lowered (edges waiters : UseTable) (limit j : ℕ) (before after todo new : List ℕ) : Type 0 where
   pub moved : Moved edges j before after
-  pub puts : Puts before after todo new
+  pub puts : Puts waiters limit before after todo new
 
 -- the marks of those in the row of a number are taken away
-pub record Loosens (edges beside : UseTable) (j : ℕ) (marks left : List Bool)
+pub record Loosens (edges beside waiters : UseTable) (j : ℕ) (marks left : List Bool)
     (before after todo new : List ℕ) : Type 0 where
   pub size : length left ≡ length marks
   pub cleared : (i : ℕ) → Uses beside j i → is_marked (slice_get left i) ≡ false
   pub others : (i : ℕ) → (Uses beside j i → ⊥) → is_marked (slice_get left i) ≡ is_marked (slice_get marks i)
   pub counted : Counted edges (length marks) left after
   pub counts : length after ≡ length before
-  pub puts : Puts before after todo new
+  pub puts : Puts waiters (length marks) before after todo new

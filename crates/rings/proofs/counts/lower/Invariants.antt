@@ -3,10 +3,10 @@ use Rattle.rings.specs.internal.Tally.{Puts}
 use Rattle.rings.proofs.Tallied.{MovedFrom}
 use Rattle.rings.proofs.counts.lower.Given as goal
 
-abbrev pub invariant-waiters : goal.invariant-waiters
-invariant-waiters l =
+abbrev pub invariant-groups : goal.invariant-groups
+invariant-groups l =
     (l.below ≤ length l.fn.counts.items) × MovedFrom l.edges l.number l.below l.fn.counts.items l.counts.items
-    × Puts l.fn.counts.items l.counts.items l.fn.todo.items l.todo.items
+    × Puts l.waiters l.limit l.fn.counts.items l.counts.items l.fn.todo.items l.todo.items
 
-abbrev pub decreases-waiters : goal.decreases-waiters
-decreases-waiters l = l.below
+abbrev pub decreases-groups : goal.decreases-groups
+decreases-groups l = l.below

@@ -2,8 +2,8 @@ use Rattle.std.proofs.Common.{◌≤◌, length}
 use Rattle.rings.proofs.Tallied.{MovedFrom}
 use Rattle.rings.proofs.counts.raise.Given as goal
 
-abbrev pub invariant-waiters : goal.invariant-waiters
-invariant-waiters l = (l.below ≤ length l.fn.counts.items) × MovedFrom l.edges l.number l.below l.counts.items l.fn.counts.items
+abbrev pub invariant-groups : goal.invariant-groups
+invariant-groups l = (l.below ≤ length l.fn.counts.items) × MovedFrom l.edges l.number l.below l.counts.items l.fn.counts.items
 
-abbrev pub decreases-waiters : goal.decreases-waiters
-decreases-waiters l = l.below
+abbrev pub decreases-groups : goal.decreases-groups
+decreases-groups l = l.below

@@ -1,22 +1,20 @@
-use Rattle.std.proofs.Common.{◌≡◌, ◌<◌, ◌≤◌, ◌∙◌, ℕ, Option, None, MatchOption, sym, subst, arith, rules}
-use Rattle.last_events.specs.LastEvents.{LastUse, Uses}
-use Rattle.rings.proofs.Edging.{done-all, done-more, next-none, next-not, next-some}
+use Rattle.std.proofs.Common.{◌∙◌, List, sym, subst, rules}
+use Rattle.rings.specs.declared.ring.Seen.{Seen}
+use Rattle.rings.specs.internal.Trails.{Fewer, NextIn}
+use Rattle.rings.proofs.Trailing.{next-no-row, next-told, opens-fewer}
 use Rattle.rings.proofs.ring.next_open.Goals as goal
 
-pub nexts-init : goal.nexts-init
-nexts-init c = λ j up less u. absurd (omega (arith, up, less))
+pub returns-in-Some-clause-next : goal.returns-in-Some-clause-next
+returns-in-Some-clause-next c = λ xs sound has opens size.
+    next-told c.args.waiters.now xs c.args.partners.now c.args.marks.now c.args.trail.now.seen.items c.args.top c.in-Some.row sound (sym c.group_of.ensures ∙ c.in-Some.is)
+    c.args.trail.now.left c.next_in.result opens (first_of (cc, search rules))
+    (subst (λ (l : List Seen). NextIn l c.args.trail.now.left c.in-Some.row c.next_in.result) c.as_slice.ensures.value c.next_in.ensures.next)
 
-pub nexts-preserved : goal.nexts-preserved
-nexts-preserved c = done-more c.args.nexts.now c.args.seen.now c.args.top c.nexts.below c.in-Some.next c.in-Some.ensures (sym c.is_open.ensures ∙ c.if-is_open.false) c.nexts.invariant
+pub returns-in-Some-clause-left : goal.returns-in-Some-clause-left
+returns-in-Some-clause-left c = λ xs opens.
+    opens-fewer c.args.waiters.now xs c.args.trail.now.seen.items c.args.trail.now.left c.next_in.new.left opens
+    (subst (λ (l : List Seen). Fewer l c.args.trail.now.left c.next_in.new.left) c.as_slice.ensures.value c.next_in.ensures.left)
 
-pub returns-then-is_open : goal.returns-then-is_open
-returns-then-is_open c = λ xs has size.
-    next-some c.args.nexts.now xs c.args.partners.now c.args.marks.now c.args.seen.now c.args.top has size c.in-Some.next (first_of (cc, search rules)) c.in-Some.ensures.uses (sym c.is_open.ensures ∙ c.if-is_open.true)
-
-pub returns : goal.returns
-returns c = λ xs has size.
-    let no : c.last.result ≡ None = first_of (cc, search rules) in
-    let none : (t : ℕ) → Uses c.args.nexts.now c.args.top t → t < c.nexts.below → ⊥ =
-    subst (λ (o : Option ℕ). MatchOption o ((t : ℕ) → Uses c.args.nexts.now c.args.top t → t < c.nexts.below → ⊥) (λ t. LastUse c.args.nexts.now c.args.top c.nexts.below t)) no c.last.ensures in
-    next-none c.args.nexts.now xs c.args.partners.now c.args.marks.now c.args.seen.now c.args.top has size
-    (done-all c.args.nexts.now c.args.seen.now c.args.top c.nexts.below none c.nexts.invariant)
+pub returns-in-None-clause-next : goal.returns-in-None-clause-next
+returns-in-None-clause-next c = λ xs sound has opens size.
+    next-no-row c.args.waiters.now xs c.args.partners.now c.args.marks.now c.args.trail.now.seen.items c.args.top has (sym c.group_of.ensures ∙ c.in-None.is)
