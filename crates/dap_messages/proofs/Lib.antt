@@ -1,2 +1,3 @@
 mod Heading
 mod Numbered
+mod Reading

@@ -1,3 +1,6 @@
+ghost use Rattle.std.specs.Prelude.{◌≡◌};
+ghost use Rattle.dap_messages.specs.Kinds.{kind_named};
+
 /// What a request asks for.
 #[derive(Clone, Copy, Debug, PartialEq, Eq)]
 pub enum Kind {
@@ -32,43 +35,38 @@ pub enum Kind {
     Other,
 }
 
-/// The requests, by the words of the protocol.
-static KINDS: [(&str, Kind); 27] = [
-    ("initialize", Kind::Initialize),
-    ("launch", Kind::Launch),
-    ("attach", Kind::Attach),
-    ("configurationDone", Kind::ConfigurationDone),
-    ("restart", Kind::Restart),
-    ("terminate", Kind::Terminate),
-    ("disconnect", Kind::Disconnect),
-    ("threads", Kind::Threads),
-    ("stackTrace", Kind::StackTrace),
-    ("scopes", Kind::Scopes),
-    ("variables", Kind::Variables),
-    ("evaluate", Kind::Evaluate),
-    ("completions", Kind::Completions),
-    ("setBreakpoints", Kind::SetBreakpoints),
-    ("breakpointLocations", Kind::BreakpointLocations),
-    ("setExceptionBreakpoints", Kind::SetExceptionBreakpoints),
-    ("exceptionInfo", Kind::ExceptionInfo),
-    ("dataBreakpointInfo", Kind::DataBreakpointInfo),
-    ("setDataBreakpoints", Kind::SetDataBreakpoints),
-    ("next", Kind::Next),
-    ("stepIn", Kind::StepIn),
-    ("stepOut", Kind::StepOut),
-    ("stepInTargets", Kind::StepInTargets),
-    ("continue", Kind::Continue),
-    ("pause", Kind::Pause),
-    ("stepBack", Kind::StepBack),
-    ("reverseContinue", Kind::ReverseContinue),
-];
-
 /// What the request of this name asks for.
-pub fn kind_of(name: &str) -> Kind {
-    for (word, kind) in &KINDS {
-        if *word == name {
-            return *kind;
-        }
+pub fn kind_of(name: &str) -> Kind
+    ensures { result ≡ kind_named name.now }
+{
+    match name {
+        "initialize" => Kind::Initialize,
+        "launch" => Kind::Launch,
+        "attach" => Kind::Attach,
+        "configurationDone" => Kind::ConfigurationDone,
+        "restart" => Kind::Restart,
+        "terminate" => Kind::Terminate,
+        "disconnect" => Kind::Disconnect,
+        "threads" => Kind::Threads,
+        "stackTrace" => Kind::StackTrace,
+        "scopes" => Kind::Scopes,
+        "variables" => Kind::Variables,
+        "evaluate" => Kind::Evaluate,
+        "completions" => Kind::Completions,
+        "setBreakpoints" => Kind::SetBreakpoints,
+        "breakpointLocations" => Kind::BreakpointLocations,
+        "setExceptionBreakpoints" => Kind::SetExceptionBreakpoints,
+        "exceptionInfo" => Kind::ExceptionInfo,
+        "dataBreakpointInfo" => Kind::DataBreakpointInfo,
+        "setDataBreakpoints" => Kind::SetDataBreakpoints,
+        "next" => Kind::Next,
+        "stepIn" => Kind::StepIn,
+        "stepOut" => Kind::StepOut,
+        "stepInTargets" => Kind::StepInTargets,
+        "continue" => Kind::Continue,
+        "pause" => Kind::Pause,
+        "stepBack" => Kind::StepBack,
+        "reverseContinue" => Kind::ReverseContinue,
+        _ => Kind::Other,
     }
-    Kind::Other
 }

@@ -1,9 +1,11 @@
 // Objects and lists of JSON that are being made. Where there is no memory for a part this is kept in mind, and told at
 // the end: so whoever makes a message need not ask after each part.
 ghost use Rattle.std.specs.Prelude.{◌≡◌, false, IfSome};
+ghost use Rattle.std.specs.Option.{option_map};
 ghost use Rattle.serde_json.specs.Data.{boolean, no_members, object, string, unsigned};
 ghost use Rattle.serde_json.specs.Data as json;
 ghost use Rattle.serde_json.specs.View.{members_view, view};
+ghost use Rattle.dap_messages.specs.Arguments.{number_named, text_named};
 ghost use Rattle.dap_messages.specs.Written.{Puts, PutsSome};
 
 use serde_json::{Map, Value, push, put};
@@ -179,11 +181,21 @@ pub fn field<'a>(value: &'a Value, name: &str) -> Option<&'a Value> {
 }
 
 /// The member of this name, where it is a whole number from 0 on.
-pub fn number_in(value: &Value, name: &str) -> Option<u64> {
-    field(value, name)?.as_u64()
+pub fn number_in(value: &Value, name: &str) -> Option<u64>
+    ensures { result ≡ number_named name.now (view value.now) }
+{
+    match value.get(name) {
+        Some(found) => found.as_u64(),
+        None => None,
+    }
 }
 
 /// The member of this name, where it is a text.
-pub fn text_in<'a>(value: &'a Value, name: &str) -> Option<&'a str> {
-    field(value, name)?.as_str()
+pub fn text_in<'a>(value: &'a Value, name: &str) -> Option<&'a str>
+    ensures { option_map (λ s. s.now) result ≡ text_named name.now (view value.now) }
+{
+    match value.get(name) {
+        Some(found) => found.as_str(),
+        None => None,
+    }
 }

@@ -1,12 +1,15 @@
-ghost use Rattle.std.specs.Prelude.{◌≡◌, unwrap_or};
+ghost use Rattle.std.specs.Prelude.{◌≡◌, ◌≤◌, ◌<◌, MatchOption, codes, false, string_bytes, true, unwrap_or};
 ghost use Rattle.std.specs.Option.{option_map};
-ghost use Rattle.serde_json.specs.View.{view};
+ghost use Rattle.serde_json.specs.Data.{depth, items_depth, members_depth, null};
+ghost use Rattle.serde_json.specs.Find.{get_member};
+ghost use Rattle.serde_json.specs.View.{items_view, members_view, view};
 ghost use Rattle.dap_messages.specs.Arguments.{flag_named, number_named, text_named};
+ghost use Rattle.dap_messages.specs.Requests.{HasHead, HasNoHead, IsOf, IsReadAs, arguments_in, is_request_type};
 
 use crate::kind::{Kind, kind_of};
 use crate::members::{field, number_in, text_in};
 use serde_json::{Map, Value};
-use std::alloc::{AllocError, Global};
+use std::alloc::Global;
 
 /// How deep a request may nest.
 pub const MOST_DEPTH: u32 = 64;
@@ -31,12 +34,6 @@ pub enum Unread {
     NoJson,
     /// it is JSON, and no request
     NoRequest,
-}
-
-impl From<AllocError> for Unread {
-    fn from(_error: AllocError) -> Unread {
-        Unread::Memory
-    }
 }
 
 impl Request {
@@ -97,7 +94,9 @@ impl Request {
 }
 
 /// The request that the bytes are: a JSON object of the type `request` with a number and a name.
-pub fn read_request(alloc: Global, bytes: &[u8]) -> Result<Request, Unread> {
+pub fn read_request(alloc: Global, bytes: &[u8]) -> Result<Request, Unread>
+    ensures { IsReadAs bytes.now result }
+{
     match Value::from_slice(alloc, bytes) {
         Ok(value) if nests_within(&value, MOST_DEPTH) => request_of(alloc, value),
         Ok(_) => Err(Unread::NoJson),
@@ -107,11 +106,15 @@ pub fn read_request(alloc: Global, bytes: &[u8]) -> Result<Request, Unread> {
 }
 
 /// The request that the value is.
-fn request_of(alloc: Global, value: Value) -> Result<Request, Unread> {
+fn request_of(alloc: Global, value: Value) -> Result<Request, Unread>
+    ensures { IsOf (view value) result }
+{
     let Some((seq, name)) = head_of(&value) else {
         return Err(Unread::NoRequest);
     };
-    let command = String::from_str(alloc, name)?;
+    let Ok(command) = String::from_str(alloc, name) else {
+        return Err(Unread::Memory);
+    };
     let kind = kind_of(command.as_str());
     Ok(Request {
         seq,
@@ -122,23 +125,57 @@ fn request_of(alloc: Global, value: Value) -> Result<Request, Unread> {
 }
 
 /// The number and the name of a request.
-fn head_of(value: &Value) -> Option<(u64, &str)> {
-    if text_in(value, "type")? != "request" {
-        return None;
+fn head_of(value: &Value) -> Option<(u64, &str)>
+    ensures { MatchOption result (HasNoHead (view value.now)) (λ head. HasHead (view value.now) head.0 head.1.now) }
+{
+    if is_request(value) {
+        numbered(value)
+    } else {
+        None
     }
-    Some((number_in(value, "seq")?, text_in(value, "command")?))
+}
+
+/// The number and the name of a message that is a request.
+fn numbered(value: &Value) -> Option<(u64, &str)>
+    requires { is_request_type (text_named (codes "type") (view value.now)) ≡ true }
+    ensures { MatchOption result (HasNoHead (view value.now)) (λ head. HasHead (view value.now) head.0 head.1.now) }
+{
+    let seq = number_in(value, "seq")?;
+    let command = text_in(value, "command")?;
+    Some((seq, command))
+}
+
+/// Whether the message is a request.
+fn is_request(value: &Value) -> bool
+    ensures { result ≡ is_request_type (text_named (codes "type") (view value.now)) }
+{
+    is_request_type(text_in(value, "type"))
+}
+
+/// Whether this is the type of a request.
+fn is_request_type(word: Option<&str>) -> bool
+    ensures { result ≡ is_request_type (option_map (λ s. s.now) word.entry) }
+{
+    match word {
+        Some(word) => word.as_bytes() == b"request".as_slice(),
+        None => false,
+    }
 }
 
 /// The arguments of a request.
-fn arguments_of(value: Value) -> Value {
-    match value {
-        Value::Object(members) => taken(members),
-        _ => Value::Null,
+fn arguments_of(mut value: Value) -> Value
+    ensures { view result ≡ arguments_in (view value) }
+{
+    match value.as_object_mut() {
+        Some(members) => taken(members),
+        None => Value::Null,
     }
 }
 
 /// The member `arguments` of these.
-fn taken(mut members: Map<String, Value>) -> Value {
+fn taken(members: &mut Map<String, Value>) -> Value
+    ensures { view result ≡ unwrap_or (get_member (codes "arguments") (members_view members.old.entries)) null }
+{
     match members.remove("arguments") {
         Some(arguments) => arguments,
         None => Value::Null,
@@ -147,7 +184,10 @@ fn taken(mut members: Map<String, Value>) -> Value {
 
 /// Whether the value nests no deeper than so many levels.
 #[cycle(nests)]
-fn nests_within(value: &Value, levels: u32) -> bool {
+fn nests_within(value: &Value, levels: u32) -> bool
+    ensures within { result ≡ true → depth (view value.now) ≤ levels }
+    ensures deeper { result ≡ false → levels < depth (view value.now) }
+{
     match value {
         Value::Null | Value::Bool(_) | Value::Number(_) | Value::String(_) => true,
         Value::Array(items) => levels > 0 && all_within(items.as_slice(), levels - 1),
@@ -157,20 +197,28 @@ fn nests_within(value: &Value, levels: u32) -> bool {
 
 /// Whether each of the values does.
 #[cycle(nests)]
-fn all_within(values: &[Value], levels: u32) -> bool {
-    let mut within = true;
+fn all_within(values: &[Value], levels: u32) -> bool
+    ensures within { result ≡ true → items_depth (items_view values.now) ≤ levels }
+    ensures deeper { result ≡ false → levels < items_depth (items_view values.now) }
+{
     for value in values {
-        within = within && nests_within(value, levels);
+        if !nests_within(value, levels) {
+            return false;
+        }
     }
-    within
+    true
 }
 
 /// Whether each of the members does.
 #[cycle(nests)]
-fn members_within(members: &Map<String, Value>, levels: u32) -> bool {
-    let mut within = true;
-    for value in members.values() {
-        within = within && nests_within(value, levels);
+fn members_within(members: &Map<String, Value>, levels: u32) -> bool
+    ensures within { result ≡ true → members_depth (members_view members.now.entries) ≤ levels }
+    ensures deeper { result ≡ false → levels < members_depth (members_view members.now.entries) }
+{
+    for (_name, value) in members.iter() {
+        if !nests_within(value, levels) {
+            return false;
+        }
     }
-    within
+    true
 }

@@ -88,7 +88,17 @@ abbrev pub IsPictureOf : AtMachine → Files → Drawing → Pictured → Type 0
 IsPictureOf m f drawing (Pictured.Text text) = IsPictureText m f drawing text.items
 IsPictureOf m f drawing (Pictured.NoSuchStep words) = TellsMissing m.live (asked_event drawing) words.items
 
--- of the machine that the trace is loaded to
+-- the text is that of a picture of the machine that the trace is loaded to
+abbrev pub IsTextBehind : System → List ℕ → Files → Drawing → List ℕ → Type 0
+IsTextBehind system trace f drawing text =
+    (m : AtMachine) × IsLoaded system trace m × IsPictureText m f drawing text
+
+-- these words say of that machine that it has no such step
+abbrev pub IsMissingBehind : System → List ℕ → Drawing → List ℕ → Type 0
+IsMissingBehind system trace drawing words =
+    (m : AtMachine) × IsLoaded system trace m × TellsMissing m.live (asked_event drawing) words
+
+-- the one or the other
 abbrev pub IsPictureBehind : System → List ℕ → Files → Drawing → Pictured → Type 0
 IsPictureBehind system trace f drawing pictured =
     (m : AtMachine) × IsLoaded system trace m × IsPictureOf m f drawing pictured

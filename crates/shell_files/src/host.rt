@@ -1,7 +1,7 @@
 //! What a session reaches beside its lines: files that it saves to and loads from, a clock, and who waits for a long
 //! line.
 
-ghost use Rattle.std.specs.Prelude.{◌≡◌, IfOk, OnOk, false, ⊤};
+ghost use Rattle.std.specs.Prelude.{◌≡◌, IfOk, OnErr, OnOk, false, ⊤};
 ghost use Rattle.shell_files.specs.Files.{Files};
 
 use std::alloc::Global;
@@ -251,14 +251,17 @@ fn write_whole<W: Write + Drop>(mut file: W, bytes: &[u8]) -> io::Result<()> {
     file.flush()
 }
 
-/// Names the file beside, which was written so; where that fails it is removed.
+/// Names the file beside, which was written so; where that fails it is removed. What was not written whole is never
+/// told as done.
 fn finish<R: fs::Files>(
     rt: &R,
     name: &str,
     beside: &str,
     over: bool,
     written: io::Result<()>,
-) -> Result<(), FileFault> {
+) -> Result<(), FileFault>
+    ensures { OnOk result (OnErr written ⊥) }
+{
     let named = match written {
         Ok(()) if over => rt.rename(beside, name),
         Ok(()) => name_new(rt, beside, name),
