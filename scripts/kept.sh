@@ -94,3 +94,36 @@ tasks() {
     memory=$(awk '/^MemAvailable/ { print int($2 / 5000000) }' /proc/meminfo)
     echo $((memory < 1 ? 1 : memory < $(nproc) ? memory : $(nproc)))
 }
+
+# Where the libraries that the crates' own checks have built stand while the gate runs. (`rt ci` lets no such file lie below
+# the top of the repository.)
+aside() {
+    echo "$(git rev-parse --absolute-git-dir 2>/dev/null || echo "${TMPDIR:-/tmp}/balsadbg-$(id -u)")/built-before-the-gate"
+}
+
+# Moves those libraries out of the way. `rt ci` gives each crate back, at its end, what stood there, and so leaves its own
+# where nothing did. A gate that was killed may have left some there.
+set_aside() {
+    local library crate
+    put_back
+    for library in crates/*/out/rlib; do
+        [ -d "$library" ] || continue
+        crate=$(basename "${library%/out/rlib}")
+        mkdir -p "$(aside)/$crate"
+        mv "$library" "$(aside)/$crate/rlib"
+    done
+}
+
+# Puts them back in place of what `rt ci` has built.
+put_back() {
+    local library crate
+    for library in "$(aside)"/*/rlib; do
+        [ -d "$library" ] || continue
+        crate=$(basename "${library%/rlib}")
+        [ -d "crates/$crate" ] || continue
+        rm -rf "crates/$crate/out/rlib"
+        mkdir -p "crates/$crate/out"
+        mv "$library" "crates/$crate/out/rlib"
+    done
+    rm -rf "$(aside)"
+}

@@ -7,6 +7,8 @@ OPEN_GOAL = re.compile(r"note: (\S+?):(\d+):\d+: .*?not proved.*? \(`([^`]+)`\)"
 ERROR = re.compile(r"(?:\./)?((?:src|specs|proofs)/\S+?):(\d+):\d+: error\b:? ?(.*)")
 FUNCTION = re.compile(r"fn (\S+): (.*)")
 OTHER = re.compile(r"((?:impl|struct|enum|trait) \S+): (.*)")
+# The files of a function's own folder below proofs/.
+OF_FUNCTION = ("Answers", "Invariants", "Proof")
 # A proof file that names what an edit took away, and what cites such a proof.
 NAMES_ALONE = re.compile(r"has no field|is not in scope|has no `|was not admitted")
 # What stands on something that was refused elsewhere, and says nothing of its own.
@@ -88,3 +90,13 @@ def unreadable(error: Error, changed: set[str]) -> bool:
     name = re.match(r"`[^`]*`: ", error.text)
     said = re.sub(r"`[^`]*`", "", error.text[name.end() :] if name else error.text)
     return not name or bool(UNREADABLE.search(said))
+
+
+def is_of_proof(file: str, function: str, cycle: str = "") -> bool:
+    """Whether a file of proofs/ is of the function's own proof, of that of its cycle of calls or of one of its closures."""
+    folder, _, name = file.rpartition("/")
+    *above, own = ["proofs", *function.split("::")[1:]]
+    folders = ["/".join([*above, own]), "/".join([*above, f"+{own}"])]
+    is_cycle = bool(cycle) and folder.endswith(f"/+{cycle}")
+    is_closure = "/fn/" in folder and folder.replace("/fn/", "/").startswith(f"{folders[0]}/")
+    return name.removesuffix(".antt") in OF_FUNCTION and (folder in folders or is_cycle or is_closure)
