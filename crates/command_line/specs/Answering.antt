@@ -93,11 +93,11 @@ WorkRefuses holds file stimulus fault =
 abbrev pub PageRefuses : Fault → Type 0
 PageRefuses fault = fault ≡ Memory
 
--- `outline` on the file of this name gives this answer: the text of the outline of its source, where `check` accepts it
+-- `outline` on the file of this name gives this answer: the text of the outline, where `check` accepts the description
 abbrev pub OutlineGives : Holding → List ℕ → List ℕ → Type 0
 OutlineGives holds file answer =
     (source : List ℕ) × (system : System) × holds file (Some source) × AcceptedAs source [] system
-    × IsOutlineText source system answer
+    × IsOutlineText system answer
 
 -- `waiting` on the files of these names gives this answer: the text that tells who waits, where `replay` gives one
 abbrev pub WaitingGives : Holding → List ℕ → List ℕ → List ℕ → List ℕ → Type 0
