@@ -1,5 +1,5 @@
 -- How what the libraries give becomes the answer to a request, or the reason why there is none.
-use Rattle.std.proofs.Common.{◌≡◌, inl, inr, ℕ, List, [], Option, Some, Result, Ok, Err, refl, subst}
+use Rattle.std.proofs.Common.{◌≡◌, inl, inr, ℕ, Bool, List, [], Option, Some, Result, Ok, Err, refl, subst}
 use Rattle.std.specs.Prelude.{IfOk, IfErr, MatchResult}
 use Rattle.system.specs.declared.system.System.{System}
 use Rattle.runs.specs.declared.command.Refusal.TheVariants.{NoSuchEvent}
@@ -7,11 +7,9 @@ use Rattle.trace_file.specs.Loading as trace_text
 use Rattle.trace_file.specs.declared.fault.Fault.{Fault as TraceFault}
 use Rattle.trace_file.specs.declared.fault.Fault.TheVariants as not_loaded
 use Rattle.questions.specs.Asking.{IsAnswered}
+use Rattle.questions.specs.WhyText.{IsWhyText}
 use Rattle.questions.specs.declared.why.Why.{Why}
-use Rattle.trace_file.specs.Loading.{ticketed}
-use Rattle.picture_drawing.specs.Asked.{IsMissing, IsThere}
-use Rattle.picture.specs.Pictures.{asked_event}
-use Rattle.picture.proofs.public.Shown.{IsPictured}
+use Rattle.picture.specs.Pictures.{IsMissingBehind, IsPictureBehind, IsTextBehind}
 use Rattle.picture.specs.declared.Drawing.{Drawing as Form}
 use Rattle.picture.specs.declared.Pictured.{Pictured}
 use Rattle.command_words.specs.declared.form.Drawing.{Drawing}
@@ -21,9 +19,9 @@ use Rattle.debug_session.specs.Accepting.{AcceptedAs, IsRefused}
 use Rattle.debug_session.specs.Transcript.{Debugged}
 use Rattle.debug_session.specs.declared.fault.Fault.{Fault}
 use Rattle.debug_session.specs.declared.fault.Fault.TheVariants.{Refused}
-use Rattle.command_line.specs.Answering.{Holding, TextsHad, FilesGive, FilesRefuse, CheckRefuses, ReplayRefuses}
+use Rattle.command_line.specs.Answering.{Holding, TextsHad, FilesDescribe, FilesRefuse, CheckRefuses, ReplayRefuses}
 use Rattle.command_line.specs.Answering.{WhyGives, WhyRefuses}
-use Rattle.command_line.specs.Drawing.{PictureGives, PictureRefuses, marked_step}
+use Rattle.command_line.specs.Drawing.{PictureGives, PictureRefuses, files_of, form_of}
 use Rattle.command_line.specs.Serving.{Answers, DebugsFiles}
 use Rattle.command_line.specs.Used.{Outcome, Used, IsUntouched, ReaderBlamed, WriterBlamed}
 use Rattle.command_line.specs.Used.{bytes_before, bytes_behind}
@@ -33,9 +31,8 @@ use Rattle.command_line.specs.internal.Answers.{RunHad, RunNotHad, SourceGives, 
 pub texts-accepted : (holds : Holding) (file stimulus source values slice text : List ℕ) (r : Result System Fault)
     → TextsHad holds file stimulus source values → slice ≡ source → text ≡ values
     → IfOk r (λ system. AcceptedAs slice text system) → IfErr r (λ fault. IsRefused slice text fault)
-    → MatchResult r (FilesGive holds file stimulus) (FilesRefuse holds file stimulus)
+    → MatchResult r (FilesDescribe holds file stimulus source) (FilesRefuse holds file stimulus)
 texts-accepted holds file stimulus source values slice text (Ok system) had same alike accepted fault = (
-  source,
   values,
   had,
   subst (λ (t : List ℕ). AcceptedAs source t system) alike
@@ -85,11 +82,11 @@ run-not-had holds file stimulus trace fault (inl none) = inl none
 run-not-had holds file stimulus trace fault (inr (system, files, none)) = inr (system, files, inl none)
 
 -- nor where the trace is refused
-pub run-refused : (holds : Holding) (file stimulus trace : List ℕ) (system : System) (text slice : List ℕ) (fault : Fault)
-    → RunHad holds file stimulus trace system text → slice ≡ text → RefusesTrace system slice fault
+pub run-refused : (holds : Holding) (file stimulus trace source : List ℕ) (system : System) (text slice : List ℕ)
+    (fault : Fault) → RunHad holds file stimulus trace source system text → slice ≡ text → RefusesTrace system slice fault
     → ReplayRefuses holds file stimulus trace fault
-run-refused holds file stimulus trace system text slice fault had same none =
-    inr (system, had.0, inr (text, had.1, subst (λ (t : List ℕ). RefusesTrace system t fault) same none))
+run-refused holds file stimulus trace source system text slice fault had same none =
+    inr (system, (source, had.0), inr (text, had.1, subst (λ (t : List ℕ). RefusesTrace system t fault) same none))
 
 -- a trace that is refused is so for the fault that its fault becomes
 pub trace-refused : (system : System) (text : List ℕ) (fault : TraceFault) → trace_text.IsRefused system text fault
@@ -98,28 +95,30 @@ trace-refused system text not_loaded.Memory h = tt
 trace-refused system text other h = ((λ e. cc), h)
 
 -- the answer to the question why, or the reason why there is none
-pub why-answered : {O : Type 0} (holds : Holding) (file stimulus trace subject : List ℕ) (system : System)
-    (text slice : List ℕ) (why : Why) (out : Used O) (done : Outcome) → RunHad holds file stimulus trace system text
-    → slice ≡ text → IsAnswered system slice subject why → TellsWhy why out done
-    → Answers (λ _. WhyGives holds file stimulus trace subject) (WhyRefuses holds file stimulus trace subject) out done
-why-answered holds file stimulus trace subject system text slice (Why.Told lines) out done had same answered told =
-    let of = subst (λ (t : List ℕ). IsAnswered system t subject (Why.Told lines)) same answered in
-    inr (lines.items, (system, text, of.0, of.2.0, had.0, had.1, of.1, of.2.1), told)
-why-answered holds file stimulus trace subject system text slice (Why.Refused reason words) out done had same answered told =
+pub why-answered : {O : Type 0} (holds : Holding) (file stimulus trace subject : List ℕ) (all : Bool) (source : List ℕ)
+    (system : System) (text slice : List ℕ) (why : Why) (out : Used O) (done : Outcome)
+    → RunHad holds file stimulus trace source system text → slice ≡ text → IsAnswered system slice subject why
+    → IsWhyText system slice subject all why → TellsWhy why out done
+    → Answers (WhyGives holds file stimulus trace subject all) (WhyRefuses holds file stimulus trace subject) out done
+why-answered holds file stimulus trace subject all source system text slice (Why.Told lines) out done had same answered is told =
+    let of = subst (λ (t : List ℕ). IsWhyText system t subject all (Why.Told lines)) same is in
+    inr (lines.items, (system, text, lines, (source, had.0), had.1, of, refl), told)
+why-answered holds file stimulus trace subject all source system text slice (Why.Refused reason words) out done had same answered is told =
     let of = subst (λ (t : List ℕ). IsAnswered system t subject (Why.Refused reason words)) same answered in
-    inl (Refused reason, inr (system, text, of.0, reason, had.0, had.1, of.1, of.2, refl), told.0, told.1)
+    inl (Refused reason, inr (system, text, of.0, reason, (source, had.0), had.1, of.1, of.2, refl), told.0, told.1)
 
 -- a picture, or the reason why there is none
 pub picture-answered : {O : Type 0} (holds : Holding) (file stimulus trace : List ℕ) (drawing : Drawing) (form : Form)
-    (system : System) (text slice : List ℕ) (pictured : Pictured) (out : Used O) (done : Outcome)
-    → RunHad holds file stimulus trace system text → slice ≡ text → IsPictured system slice form pictured
-    → asked_event form ≡ marked_step drawing → TellsPicture pictured out done
-    → Answers (λ _. PictureGives holds file stimulus trace drawing) (PictureRefuses holds file stimulus trace drawing) out done
-picture-answered holds file stimulus trace drawing form system text slice (Pictured.Text lines) out done had same drawn marked told =
-    let of = subst (λ (t : List ℕ). IsPictured system t form (Pictured.Text lines)) same drawn in
-    let there = subst (λ (e : Option ℕ). IsThere (ticketed 1 of.0) e) marked of.2 in
-    inr (lines.items, (system, text, of.0, had.0, had.1, of.1, there), told)
-picture-answered holds file stimulus trace drawing form system text slice (Pictured.NoSuchStep words) out done had same drawn marked told =
-    let of = subst (λ (t : List ℕ). IsPictured system t form (Pictured.NoSuchStep words)) same drawn in
-    let missing = subst (λ (e : Option ℕ). IsMissing (ticketed 1 of.0) e) marked of.2 in
-    inl (Refused NoSuchEvent, inr (system, text, of.0, had.0, had.1, of.1, missing, refl), told.0, told.1)
+    (source bytes : List ℕ) (system : System) (text slice : List ℕ) (pictured : Pictured) (out : Used O) (done : Outcome)
+    → RunHad holds file stimulus trace source system text → bytes ≡ source → slice ≡ text → form ≡ form_of drawing
+    → IsPictureBehind system slice (files_of bytes file stimulus trace) form pictured → TellsPicture pictured out done
+    → Answers (PictureGives holds file stimulus trace drawing) (PictureRefuses holds file stimulus trace drawing) out done
+picture-answered holds file stimulus trace drawing form source bytes system text slice (Pictured.Text lines) out done had alike same is drawn told =
+    let on = subst (λ (t : List ℕ). IsTextBehind system t (files_of bytes file stimulus trace) form lines.items) same drawn in
+    let of = subst (λ (s : List ℕ). IsTextBehind system text (files_of s file stimulus trace) form lines.items) alike on in
+    let asked = subst (λ (f : Form). IsTextBehind system text (files_of source file stimulus trace) f lines.items) is of in
+    inr (lines.items, (system, source, text, had.0, had.1, asked), told)
+picture-answered holds file stimulus trace drawing form source bytes system text slice (Pictured.NoSuchStep words) out done had alike same is drawn told =
+    let on = subst (λ (t : List ℕ). IsMissingBehind system t form words.items) same drawn in
+    let asked = subst (λ (f : Form). IsMissingBehind system text f words.items) is on in
+    inl (Refused NoSuchEvent, inr (system, text, words.items, (source, had.0), had.1, asked, refl), told.0, told.1)

@@ -1,11 +1,14 @@
 -- What the files of a request give: an answer, or a reason why there is none.
-use Rattle.std.specs.Prelude.{◌≡◌, ◌⊎◌, ◌++◌, [], ℕ, List, Option, Some, None, codes}
+use Rattle.std.specs.Prelude.{◌≡◌, ◌⊎◌, ◌++◌, [], ℕ, Bool, List, Option, Some, None, Vec, codes}
+use Rattle.std.specs.Global.{Global}
 use Rattle.system.specs.declared.system.System.{System}
 use Rattle.runs.specs.declared.command.Refusal.{Refusal}
 use Rattle.runs.specs.declared.event.Event.{Event}
 use Rattle.trace_file.specs.Loading.{ticketed}
 use Rattle.trace_file.specs.TraceText.{StandsFor}
-use Rattle.questions.specs.Asking.{IsAbout, IsAboutNone, IsOutlineText, IsWaitingText}
+use Rattle.questions.specs.Asking.{IsAboutNone, IsOutlineText, IsWaitingText}
+use Rattle.questions.specs.WhyText.{IsWhyText}
+use Rattle.questions.specs.declared.why.Why.{Why}
 use Rattle.locked_execution.specs.Working.{Worked}
 use Rattle.debug_session.specs.Accepting.{AcceptedAs, IsRefused}
 use Rattle.debug_session.specs.Replaying.{Replays, RefusesTrace}
@@ -30,10 +33,14 @@ TextsHad holds file stimulus source values = holds file (Some source) × holds s
 abbrev pub TextsNotHad : Holding → List ℕ → List ℕ → Fault → Type 0
 TextsNotHad holds file stimulus fault = NotHad (holds file) fault ⊎ NotHad (holds stimulus) fault
 
+-- the first of them holds this source, and they describe this system
+abbrev pub FilesDescribe : Holding → List ℕ → List ℕ → List ℕ → System → Type 0
+FilesDescribe holds file stimulus source system =
+    (values : List ℕ) × TextsHad holds file stimulus source values × AcceptedAs source values system
+
 -- they describe this system
 abbrev pub FilesGive : Holding → List ℕ → List ℕ → System → Type 0
-FilesGive holds file stimulus system =
-    (source : List ℕ) × (values : List ℕ) × TextsHad holds file stimulus source values × AcceptedAs source values system
+FilesGive holds file stimulus system = (source : List ℕ) × FilesDescribe holds file stimulus source system
 
 -- they describe none: they were not had, or they are refused
 abbrev pub FilesRefuse : Holding → List ℕ → List ℕ → Fault → Type 0
@@ -98,11 +105,12 @@ WaitingGives holds file stimulus trace answer =
     (system : System) × (text : List ℕ) × FilesGive holds file stimulus system × holds trace (Some text)
     × IsWaitingText system text answer
 
--- `why` does: the subject is the name of a variable that a step of the trace wrote, or the ticket of one
-abbrev pub WhyGives : Holding → List ℕ → List ℕ → List ℕ → List ℕ → Type 0
-WhyGives holds file stimulus trace subject =
-    (system : System) × (text : List ℕ) × (h : List Event) × (t : ℕ) × FilesGive holds file stimulus system
-    × holds trace (Some text) × StandsFor system text h × IsAbout system (ticketed 1 h) subject t
+-- `why` does: the lines that tell why the subject is as it is behind the trace, by the steps that carried a value, or
+-- by all
+abbrev pub WhyGives : Holding → List ℕ → List ℕ → List ℕ → List ℕ → Bool → List ℕ → Type 0
+WhyGives holds file stimulus trace subject all answer =
+    (system : System) × (text : List ℕ) × (lines : Vec ℕ Global) × FilesGive holds file stimulus system
+    × holds trace (Some text) × IsWhyText system text subject all (Why.Told lines) × (answer ≡ lines.items)
 
 -- it gives none: `replay` does not, or else the subject is not that of a step, for this reason
 abbrev pub WhyRefuses : Holding → List ℕ → List ℕ → List ℕ → List ℕ → Fault → Type 0

@@ -1,32 +1,36 @@
--- What a picture is drawn of.
-use Rattle.std.specs.Prelude.{◌≡◌, ◌⊎◌, ℕ, List, Option, Some, None}
+-- The picture that is drawn.
+use Rattle.std.specs.Prelude.{◌≡◌, ◌⊎◌, ℕ, List, Some}
 use Rattle.system.specs.declared.system.System.{System}
 use Rattle.runs.specs.declared.command.Refusal.TheVariants.{NoSuchEvent}
-use Rattle.runs.specs.declared.event.Event.{Event}
-use Rattle.trace_file.specs.Loading.{ticketed}
-use Rattle.trace_file.specs.TraceText.{StandsFor}
 use Rattle.debug_session.specs.declared.fault.Fault.{Fault}
 use Rattle.debug_session.specs.declared.fault.Fault.TheVariants.{Refused}
-use Rattle.picture_drawing.specs.Asked.{IsMissing, IsThere}
+use Rattle.picture.specs.Pictures.{Files, IsMissingBehind, IsTextBehind}
+use Rattle.picture.specs.declared.Drawing.{Drawing as Form}
+use Rattle.picture.specs.declared.Drawing.TheVariants as form
 use Rattle.command_words.specs.declared.form.Drawing.{Drawing}
-use Rattle.command_line.specs.Answering.{Holding, FilesGive, ReplayRefuses}
+use Rattle.command_line.specs.Answering.{Holding, FilesDescribe, FilesGive, ReplayRefuses}
 
--- the step whose causes and consequences a picture marks, if one is asked for
-abbrev pub marked_step : Drawing → Option ℕ
-marked_step (Drawing.Sheet event quiet) = event
-marked_step other = None
+-- what the library calls the picture that is asked for
+abbrev pub form_of : Drawing → Form
+form_of Drawing.Page = form.Page
+form_of (Drawing.Sheet event quiet) = form.Sheet event quiet
+form_of Drawing.Waves = form.Waves
+form_of Drawing.Data = form.Data
 
--- `picture` on the files of these names gives an answer: where `replay` does, and the trace has the step that is to be
--- marked
-abbrev pub PictureGives : Holding → List ℕ → List ℕ → List ℕ → Drawing → Type 0
-PictureGives holds file stimulus trace drawing =
-    (system : System) × (text : List ℕ) × (h : List Event) × FilesGive holds file stimulus system
-    × holds trace (Some text) × StandsFor system text h × IsThere (ticketed 1 h) (marked_step drawing)
+-- what a picture tells of the files of a run: the source, and their names
+abbrev pub files_of : List ℕ → List ℕ → List ℕ → List ℕ → Files
+files_of source file stimulus trace = record { source = source; file = file; stimulus = stimulus; trace = trace }
 
--- it gives none: `replay` does not, or else the trace has no such step
+-- `picture` on the files of these names gives this answer: the text of the picture of the run that the trace gives
+abbrev pub PictureGives : Holding → List ℕ → List ℕ → List ℕ → Drawing → List ℕ → Type 0
+PictureGives holds file stimulus trace drawing answer =
+    (system : System) × (source : List ℕ) × (text : List ℕ) × FilesDescribe holds file stimulus source system
+    × holds trace (Some text)
+    × IsTextBehind system text (files_of source file stimulus trace) (form_of drawing) answer
+
+-- it gives none: `replay` does not, or else the trace does not have the step that is to be marked
 abbrev pub PictureRefuses : Holding → List ℕ → List ℕ → List ℕ → Drawing → Fault → Type 0
 PictureRefuses holds file stimulus trace drawing fault =
     ReplayRefuses holds file stimulus trace fault
-    ⊎ ((system : System) × (text : List ℕ) × (h : List Event) × FilesGive holds file stimulus system
-    × holds trace (Some text) × StandsFor system text h × IsMissing (ticketed 1 h) (marked_step drawing)
-    × (fault ≡ Refused NoSuchEvent))
+    ⊎ ((system : System) × (text : List ℕ) × (words : List ℕ) × FilesGive holds file stimulus system
+    × holds trace (Some text) × IsMissingBehind system text (form_of drawing) words × (fault ≡ Refused NoSuchEvent))

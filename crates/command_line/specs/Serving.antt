@@ -73,9 +73,9 @@ Serves holds (Request.Waiting file stimulus trace) reader out done =
     (ReplayRefuses holds file.now stimulus.now trace.now) out done
 Serves holds (Request.Why file stimulus trace subject all) reader out done =
     IsUntouched reader
-    × Answers (λ text. WhyGives holds file.now stimulus.now trace.now subject.now)
+    × Answers (WhyGives holds file.now stimulus.now trace.now subject.now all)
     (WhyRefuses holds file.now stimulus.now trace.now subject.now) out done
 Serves holds (Request.Picture file stimulus trace drawing) reader out done =
     IsUntouched reader
-    × Answers (λ text. PictureGives holds file.now stimulus.now trace.now drawing)
+    × Answers (PictureGives holds file.now stimulus.now trace.now drawing)
     (PictureRefuses holds file.now stimulus.now trace.now drawing) out done

@@ -1,8 +1,8 @@
 //! The picture of the run that a trace is.
 
 ghost use Rattle.std.specs.Prelude.{◌≡◌};
-ghost use Rattle.picture.specs.Pictures.{asked_event};
-ghost use Rattle.command_line.specs.Drawing.{PictureGives, PictureRefuses, marked_step};
+ghost use Rattle.command_line.specs.Drawing as model;
+ghost use Rattle.command_line.specs.Drawing.{PictureGives, PictureRefuses};
 ghost use Rattle.command_line.specs.Serving.{Answers};
 ghost use Rattle.command_line.specs.Used.{used};
 ghost use Rattle.command_line.specs.internal.Answers.{TellsPicture};
@@ -18,7 +18,7 @@ use std::io::Write;
 
 /// What the library calls that picture.
 fn form_of(drawing: Drawing) -> picture::Drawing
-    ensures { asked_event result ≡ marked_step drawing }
+    ensures { result ≡ model.form_of drawing }
 {
     match drawing {
         Drawing::Page => picture::Drawing::Page,
@@ -55,8 +55,7 @@ pub fn picture_files<F: Files, O: Write>(
     out: &mut Counted<O>,
 ) -> Result<(), Fault>
     ensures { Answers
-        (λ _. PictureGives (F.holds from.now.files.now) names.now.file.now names.now.stimulus.now names.now.trace.now
-        drawing)
+        (PictureGives (F.holds from.now.files.now) names.now.file.now names.now.stimulus.now names.now.trace.now drawing)
         (PictureRefuses (F.holds from.now.files.now) names.now.file.now names.now.stimulus.now names.now.trace.now
         drawing)
         (used O.contents out.old out.new) result }

@@ -84,8 +84,8 @@ pub fn why_files<F: Files, O: Write>(
     out: &mut Counted<O>,
 ) -> Result<(), Fault>
     ensures { Answers
-        (λ _. WhyGives (F.holds from.now.files.now) names.now.file.now names.now.stimulus.now names.now.trace.now
-        asked.now.subject.now)
+        (WhyGives (F.holds from.now.files.now) names.now.file.now names.now.stimulus.now names.now.trace.now
+        asked.now.subject.now asked.now.all)
         (WhyRefuses (F.holds from.now.files.now) names.now.file.now names.now.stimulus.now names.now.trace.now
         asked.now.subject.now)
         (used O.contents out.old out.new) result }

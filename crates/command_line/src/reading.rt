@@ -1,7 +1,7 @@
 //! What the files of a request hold, and the system that they describe.
 
 ghost use Rattle.std.specs.Prelude.{◌≡◌, Some, MatchResult};
-ghost use Rattle.command_line.specs.Answering.{CheckRefuses, FilesGive, FilesRefuse, NotHad, TextsHad, TextsNotHad};
+ghost use Rattle.command_line.specs.Answering.{CheckRefuses, FilesDescribe, FilesRefuse, NotHad, TextsHad, TextsNotHad};
 ghost use Rattle.command_line.specs.internal.Answers.{RunHad, RunNotHad, SourceGives};
 
 use crate::files::{Files, Source};
@@ -58,7 +58,8 @@ pub fn read_system<F: Files>(
     stimulus: &str,
     texts: &mut Texts,
 ) -> Result<Checked, Fault>
-    ensures { MatchResult result (FilesGive (F.holds from.now.files.now) file.now stimulus.now)
+    ensures { MatchResult result
+        (FilesDescribe (F.holds from.now.files.now) file.now stimulus.now texts.new.source.items)
         (FilesRefuse (F.holds from.now.files.now) file.now stimulus.now) }
 {
     read_texts(from, file, stimulus, texts)?;
@@ -90,7 +91,7 @@ pub fn read_run<F: Files>(
 ) -> Result<Checked, Fault>
     ensures { MatchResult result
         (λ system. RunHad (F.holds from.now.files.now) names.now.file.now names.now.stimulus.now names.now.trace.now
-        system texts.new.trace.items)
+        texts.new.source.items system texts.new.trace.items)
         (RunNotHad (F.holds from.now.files.now) names.now.file.now names.now.stimulus.now names.now.trace.now) }
 {
     let checked = read_system(from, names.file, names.stimulus, texts)?;

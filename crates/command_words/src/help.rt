@@ -1,5 +1,7 @@
 //! The texts of `--help` and `--version`.
 
+use refusal_pages::refusal_lines;
+
 pub const VERSION: &str = "0.1.0";
 
 pub const BALSADBG: &str = "\
@@ -336,62 +338,14 @@ pub const NO_PICTURE: &str =
     "--svg, --vcd and --json exclude one another; --event, with the number of a step, \
 and --quiet go with --svg";
 
-/// What each refusal of a command means: a line for each of a description, or one for all (`together`); with lines for
-/// a trace, for the files, for a stimulus and for a script.
-macro_rules! refusal_lines {
-    (each [$($trace:literal)*] [$($files:literal)*] [$($stimulus:literal)*] [$($script:literal)*]) => {
-        refusal_lines!(
-            [
-                "   2  this byte begins no word, number or sign\n"
-                "   3  this (-- is closed by no --)\n"
-                "   4  this number is over 2^64 - 1\n"
-                "   5  no description goes on with this word\n"
-                "   6  this opens more than 64 levels\n"
-                "   7  nothing visible has this name\n"
-                "   8  this name is declared already\n"
-                "   9  this name is that of another kind of thing\n"
-                "  10  this is too wide: over 64 bits, or wider than what takes it\n"
-                "  11  this condition is not one bit wide\n"
-                "  12  this label or channel stands in two arms, or the label is too wide\n"
-                "  13  the arguments of this call do not fit the ports\n"
-                "  14  the system has over 16384 nodes, or a command inside over 1024 others\n"
-                "  15  this variable is written in one parallel branch and used in another\n"
-                "  16  this channel has two senders, two receivers or three syncs at a time\n"
-                "  17  this channel is open around this place\n"
-            ]
-            [$($trace)*]
-            [$($files)*]
-            [$($stimulus)*]
-            [$($script)*]
-        )
-    };
-    (together [$($trace:literal)*] [$($files:literal)*] [$($stimulus:literal)*] [$($script:literal)*]) => {
-        refusal_lines!(
-            ["2-17  FILE is refused: `balsadbg check --help` has a line on each\n"]
-            [$($trace)*]
-            [$($files)*]
-            [$($stimulus)*]
-            [$($script)*]
-        )
-    };
-    (
-        [$($description:literal)*]
-        [$($trace:literal)*]
-        [$($files:literal)*]
-        [$($stimulus:literal)*]
-        [$($script:literal)*]
-    ) => {
+/// The lines of refusals with what stands around them.
+macro_rules! refusals {
+    ([$($line:literal)*]) => {
         concat!(
             "Refusals. The line `balsadbg: refused N ..` on standard error ends a run with\n",
             "status 1. Behind most numbers stands the byte of FILE that is meant, from 0:\n",
             "\n",
-            "   1  memory is used up\n",
-            $($description,)*
-            $($trace,)*
-            $($files,)*
-            "  42  writing the answers failed\n",
-            $($stimulus,)*
-            $($script,)*
+            $($line,)*
             "\n",
             "`balsadbg explain N` shows an example and the usual causes of one. A command\n",
             "line that cannot be read ends with status 2. All else ends with status 0."
@@ -399,146 +353,111 @@ macro_rules! refusal_lines {
     };
 }
 
-/// The same with the lines for a stimulus.
-macro_rules! refusal_lines_over_ports {
-    ($description:tt [$($trace:literal)*] [$($files:literal)*] [$($script:literal)*]) => {
+/// The lines of a script's refusals behind others, with more behind them.
+macro_rules! refusals_of_scripts {
+    ([$($before:tt)*] [$($behind:tt)*]) => {
         refusal_lines!(
-            $description
-            [$($trace)*]
-            [$($files)*]
             [
-                "  51  this line of STIMULUS, from 1, fits no port, is a second one for a port,\n"
-                "      or has another form (blanks, line ends)\n"
-            ]
-            [$($script)*]
-        )
-    };
-}
-
-/// The same with the lines for a script, and what stands behind them.
-macro_rules! refusal_lines_of_scripts {
-    ($description:tt [$($trace:literal)*] [$($files:literal)*] [$($behind:literal)*]) => {
-        refusal_lines_over_ports!(
-            $description
-            [$($trace)*]
-            [$($files)*]
-            [
-                "  61  this line of the script, from 1, is none of its lines, or names no\n"
-                "      variable (a port or a channel is none)\n"
+                $($before)*
+                42 51 61
                 "\n"
                 "`refused N` as the answer of a script line says that it cannot be done now. Then\n"
                 "nothing has changed, and the script goes on:\n"
                 "\n"
-                "   1  memory is used up\n"
-                "  21  nothing waits at this place with this arm\n"
-                "  22  65536 steps are live\n"
-                "  23  no live step has this ticket\n"
-                "  24  the step with the ticket that is named depends on this one\n"
-                "  25  no live step has written this variable\n"
-                "  26  no ticket is left\n"
-                "  27  this session has 64 breakpoints\n"
-                "  28  no command begins on this line\n"
+                1 21 22 23 24 25 26 27 28
                 $($behind)*
             ]
-        )
-    };
-}
-
-/// The same with the lines for a trace, behind those that are its command's own.
-macro_rules! refusal_lines_over_traces {
-    ([$($own:literal)*] [$($files:literal)*]) => {
-        refusal_lines_over_ports!(
-            together
-            [
-                $($own)*
-                "  31  TRACE does not begin with the line `balsadbg trace 2`, or with 1 for 2\n"
-                "  32  this line of TRACE, from 1, is no step, or has no end\n"
-                "  33  the step of this line of TRACE, from 1, cannot be taken there\n"
-                "  34  behind `balsadbg trace 2` another step comes before that of this line\n"
-            ]
-            [$($files)*]
             []
+            refusals
         )
     };
 }
 
-pub const REFUSALS: &str = refusal_lines_of_scripts!(
-    each
-    [
-        "  31  TRACE does not begin with the line `balsadbg trace 2`, or with 1 for 2\n"
-        "  32  this line of TRACE, from 1, is no step, or has no end\n"
-        "  33  the step of this line of TRACE, from 1, cannot be taken there\n"
-        "  34  behind `balsadbg trace 2` another step comes before that of this line\n"
-    ]
-    ["  41  a file is missing, or reading it or the script failed\n"]
+/// The lines of refusals of a command over a trace: of one that is its own, and of the files.
+macro_rules! refusals_over_traces {
+    ([$($own:literal)*] $files:literal) => {
+        refusal_lines!(
+            [
+                1
+                "2-17  FILE is refused: `balsadbg check --help` has a line on each\n"
+                $($own)*
+                31 32 33 34
+                $files
+                42 51
+            ]
+            []
+            refusals
+        )
+    };
+}
+
+pub const REFUSALS: &str = refusals_of_scripts!(
+    [1 2 3 4 5 6 7 8 9 10 11 12 13 14 15 16 17 31 32 33 34 41]
     [
         "\n"
         "A request of an editor to `balsadbg dap` is answered with one of those above, or\n"
         "with one of these. Nothing has changed then:\n"
         "\n"
-        " 101  the adapter does not know this request\n"
-        " 102  `initialize` comes first\n"
-        " 103  `launch` comes before this request\n"
-        " 104  an argument of the request is missing or no number\n"
-        " 105  there is no thread with this number\n"
-        " 106  `initialize` asks for URIs, and only paths are understood\n"
-        " 107  a source is launched already\n"
-        " 108  `program` is missing from `launch`: the path of a Balsa source\n"
-        " 109  there is no such frame any more\n"
-        " 110  there are no variables with this reference\n"
-        " 111  no refusal is there of which `exceptionInfo` could tell\n"
-        " 113  `attach` finds nothing: `launch` starts the debugger on a source\n"
+        101 102 103 104 105 106 107 108 109 110 111 113
     ]
 );
 
 pub const CHECK_REFUSALS: &str = refusal_lines!(
-    each
+    [
+        1 2 3 4 5 6 7 8 9 10 11 12 13 14 15 16 17
+        "  41  FILE is missing, or reading it failed\n"
+        42
+    ]
     []
-    ["  41  FILE is missing, or reading it failed\n"]
-    []
-    []
+    refusals
 );
 
 pub const OUTLINE_REFUSALS: &str = refusal_lines!(
-    together
+    [
+        1
+        "2-17  FILE is refused: `balsadbg check --help` has a line on each\n"
+        "  41  FILE is missing, or reading it failed\n"
+        42
+    ]
     []
-    ["  41  FILE is missing, or reading it failed\n"]
-    []
+    refusals
+);
+
+pub const DEBUG_REFUSALS: &str = refusals_of_scripts!(
+    [
+        1
+        "2-17  FILE is refused: `balsadbg check --help` has a line on each\n"
+        "  41  FILE or STIMULUS is missing, or reading it or the script failed\n"
+    ]
     []
 );
 
-pub const DEBUG_REFUSALS: &str = refusal_lines_of_scripts!(
-    together
+pub const WORK_REFUSALS: &str = refusal_lines!(
+    [
+        1
+        "2-17  FILE is refused: `balsadbg check --help` has a line on each\n"
+        "  41  FILE or STIMULUS is missing, or reading it failed\n"
+        42 51
+    ]
     []
-    ["  41  FILE or STIMULUS is missing, or reading it or the script failed\n"]
-    []
+    refusals
 );
 
-pub const WORK_REFUSALS: &str = refusal_lines_over_ports!(
-    together
-    []
-    ["  41  FILE or STIMULUS is missing, or reading it failed\n"]
-    []
-);
+pub const SHELL_REFUSALS: &str =
+    refusals_over_traces!([] "  41  a file is missing, or reading it or the lines failed\n");
 
-pub const SHELL_REFUSALS: &str = refusal_lines_over_traces!(
-    []["  41  a file is missing, or reading it or the lines failed\n"]
-);
+pub const TRACE_REFUSALS: &str =
+    refusals_over_traces!([] "  41  FILE, STIMULUS or TRACE is missing, or reading it failed\n");
 
-pub const TRACE_REFUSALS: &str = refusal_lines_over_traces!(
-    []["  41  FILE, STIMULUS or TRACE is missing, or reading it failed\n"]
-);
-
-pub const WHY_REFUSALS: &str = refusal_lines_over_traces!(
+pub const WHY_REFUSALS: &str = refusals_over_traces!(
     [
         "  23  X is the number of no step of TRACE\n"
         "  25  X is the name of no variable, or of one that no step of TRACE wrote\n"
     ]
-    ["  41  FILE, STIMULUS or TRACE is missing, or reading it failed\n"]
+    "  41  FILE, STIMULUS or TRACE is missing, or reading it failed\n"
 );
 
-pub const PICTURE_REFUSALS: &str = refusal_lines_over_traces!(
-    [
-        "  23  with --event: TRACE has no step of this number\n"
-    ]["  41  FILE, STIMULUS or TRACE is missing, or reading it failed\n"]
+pub const PICTURE_REFUSALS: &str = refusals_over_traces!(
+    ["  23  with --event: TRACE has no step of this number\n"]
+    "  41  FILE, STIMULUS or TRACE is missing, or reading it failed\n"
 );

@@ -6,7 +6,6 @@ pub static NOT_READY: Page = Page {
     number: 21,
     field: "",
     name: "not ready",
-    line: "nothing waits at this place with this arm",
     meaning: "Nothing waits at this place with this arm.",
     source: "",
     told: "\
@@ -23,7 +22,6 @@ pub static HISTORY_FULL: Page = Page {
     number: 22,
     field: "",
     name: "full",
-    line: "65536 steps are live",
     meaning: "65,536 steps are live. Undo or roll back to make room.",
     source: "",
     told: "",
@@ -34,7 +32,6 @@ pub static NO_SUCH_EVENT: Page = Page {
     number: 23,
     field: "",
     name: "no such step",
-    line: "no live step has this ticket",
     meaning: "\
 No live step has this ticket: it was taken back, or never given. Tickets are
 not used again. Where `balsadbg why` ends with 23, or `balsadbg picture` with
@@ -48,7 +45,6 @@ pub static NEEDED_BY: Page = Page {
     number: 24,
     field: "ticket",
     name: "needed",
-    line: "the step with the ticket that is named depends on this one",
     meaning: "\
 A live step depends on this one; the least of them is named. Take that one
 back first, or take this one and all that depend on it back by `roll T`.",
@@ -67,7 +63,6 @@ pub static NEVER_WRITTEN: Page = Page {
     number: 25,
     field: "",
     name: "never written",
-    line: "no live step has written this variable",
     meaning: "\
 No live step wrote this variable, so there is nothing to blame or to roll
 back. Where `balsadbg why` ends with 25, no step of the trace wrote it, or no
@@ -81,7 +76,6 @@ pub static SPENT: Page = Page {
     number: 26,
     field: "",
     name: "spent",
-    line: "no ticket is left",
     meaning: "\
 2^63 tickets are given out, or 2^63 calls of a shared execution are recorded.
 A call of a shared execution that is refused so is not recorded. No run that
@@ -95,7 +89,6 @@ pub static BREAKS_FULL: Page = Page {
     number: 27,
     field: "",
     name: "breakpoints are full",
-    line: "this session has 64 breakpoints",
     meaning: "\
 The session has 64 breakpoints, and this line is none of these. Clear one, or
 set it in another session; `view` shows them with `*`.",
@@ -108,7 +101,6 @@ pub static NO_SUCH_LINE: Page = Page {
     number: 28,
     field: "",
     name: "no such line",
-    line: "no command begins on this line",
     meaning: "\
 No command begins on this line, so a breakpoint there would never stop
 anything. (The reverse does not hold: on a line with a send, `continue`,

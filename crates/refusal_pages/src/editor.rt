@@ -6,7 +6,6 @@ pub static UNKNOWN_REQUEST: Page = Page {
     number: 101,
     field: "",
     name: "an unknown request",
-    line: "the adapter does not know this request",
     meaning: "\
 The adapter of `balsadbg dap` does not know a request of this name. Nothing has
 changed, and the session goes on.",
@@ -21,7 +20,6 @@ pub static NOT_INITIALIZED: Page = Page {
     number: 102,
     field: "",
     name: "not begun",
-    line: "`initialize` comes first",
     meaning: "\
 Before `initialize` only `disconnect` is answered. Nothing has changed.",
     source: "",
@@ -33,7 +31,6 @@ pub static NOTHING_LAUNCHED: Page = Page {
     number: 103,
     field: "",
     name: "nothing is launched",
-    line: "`launch` comes before this request",
     meaning: "\
 The request asks about a run, and no source was launched, or its launch was
 refused. Nothing has changed.",
@@ -46,7 +43,6 @@ pub static BAD_ARGUMENT: Page = Page {
     number: 104,
     field: "",
     name: "an argument is missing",
-    line: "an argument of the request is missing or no number",
     meaning: "\
 The request needs the argument that the answer names, as `threadId`, `frameId`,
 `variablesReference` or `line`, and it is missing or no whole number from 0.
@@ -60,7 +56,6 @@ pub static NO_THREAD: Page = Page {
     number: 105,
     field: "",
     name: "no such thread",
-    line: "there is no thread with this number",
     meaning: "\
 A thread is a branch. The answer to `threads` has the numbers of all. Nothing
 has changed.",
@@ -73,7 +68,6 @@ pub static ONLY_PATHS: Page = Page {
     number: 106,
     field: "",
     name: "only paths",
-    line: "`initialize` asks for URIs, and only paths are understood",
     meaning: "\
 `pathFormat` of `initialize` is `path`, or is left out. The client can ask once
 more.",
@@ -86,7 +80,6 @@ pub static LAUNCHED_ALREADY: Page = Page {
     number: 107,
     field: "",
     name: "launched already",
-    line: "a source is launched already",
     meaning: "\
 A session debugs one source. What was launched goes on, and has not changed. For
 another source begin another session.",
@@ -99,7 +92,6 @@ pub static NO_PROGRAM: Page = Page {
     number: 108,
     field: "",
     name: "no program is named",
-    line: "`program` is missing from `launch`: the path of a Balsa source",
     meaning: "\
 `launch` needs `program`, the path of a Balsa source. Nothing is launched.",
     source: "",
@@ -112,7 +104,6 @@ pub static NO_FRAME: Page = Page {
     number: 109,
     field: "",
     name: "no such frame",
-    line: "there is no such frame any more",
     meaning: "\
 A frame is a call in which a branch stands. After each step that an editor asks
 for, frames are to be asked for anew. Nothing has changed.",
@@ -125,7 +116,6 @@ pub static NO_VARIABLES: Page = Page {
     number: 110,
     field: "",
     name: "no such variables",
-    line: "there are no variables with this reference",
     meaning: "\
 The answers to `scopes` and `variables` have the references. Nothing has
 changed.",
@@ -138,7 +128,6 @@ pub static NOTHING_REFUSED: Page = Page {
     number: 111,
     field: "",
     name: "nothing was refused",
-    line: "no refusal is there of which `exceptionInfo` could tell",
     meaning: "\
 `exceptionInfo` tells of the last refusal at which the session stopped, and it
 has stopped at none. Nothing has changed.",
@@ -151,7 +140,6 @@ pub static NO_ATTACHING: Page = Page {
     number: 113,
     field: "",
     name: "nothing to attach to",
-    line: "`attach` finds nothing: `launch` starts the debugger on a source",
     meaning: "\
 A run lives in the debugger alone, so there is nothing to attach to. Use
 `launch`.",

@@ -6,8 +6,6 @@ pub static BAD_HEADER: Page = Page {
     number: 31,
     field: "",
     name: "no header",
-    line: "\
-TRACE does not begin with the line `balsadbg trace 2`, or with 1 for 2",
     meaning: "\
 The first line of the trace is not `balsadbg trace 2` or, of an older trace,
 `balsadbg trace 1`.",
@@ -22,7 +20,6 @@ pub static BAD_LINE: Page = Page {
     number: 32,
     field: "line",
     name: "a bad line of a trace",
-    line: "this line of TRACE, from 1, is no step, or has no end",
     meaning: "The line has another form than a step, or no end.",
     source: "",
     told: "",
@@ -36,7 +33,6 @@ pub static NOT_A_STEP: Page = Page {
     number: 33,
     field: "line",
     name: "not a step",
-    line: "the step of this line of TRACE, from 1, cannot be taken there",
     meaning: "\
 The step of this line cannot be taken once those of the lines before are.",
     source: "",
@@ -50,7 +46,6 @@ pub static NOT_CANONICAL: Page = Page {
     number: 34,
     field: "line",
     name: "not in canonical order",
-    line: "behind `balsadbg trace 2` another step comes before that of this line",
     meaning: "\
 All steps can be taken, but behind `balsadbg trace 2` each event has one
 place, and on this line another event is due. Write `balsadbg trace 1` in the
@@ -67,7 +62,6 @@ pub static READ_FAILED: Page = Page {
     number: 41,
     field: "",
     name: "reading failed",
-    line: "a file is missing, or reading it or the script failed",
     meaning: "\
 A file is missing or is a folder, or may not be read, or standard input broke
 off. The lines before are answered. FILE is read first and STIMULUS behind it,
@@ -83,7 +77,6 @@ pub static WRITE_FAILED: Page = Page {
     number: 42,
     field: "",
     name: "writing failed",
-    line: "writing the answers failed",
     meaning: "Standard output took no more; a beginning of the answers is out.",
     source: "",
     told: "",
@@ -94,9 +87,6 @@ pub static BAD_STIMULUS: Page = Page {
     number: 51,
     field: "line",
     name: "a bad line of a stimulus",
-    line: "\
-this line of STIMULUS, from 1, fits no port, is a second one for a port,
-or has another form (blanks, line ends)",
     meaning: "\
 The line has another form, names no port of the last procedure, a port of
 another kind or one that was named before, or has a value that is too great
@@ -119,9 +109,6 @@ pub static BAD_COMMAND: Page = Page {
     number: 61,
     field: "line",
     name: "a bad line of a script",
-    line: "\
-this line of the script, from 1, is none of its lines, or names no
-variable (a port or a channel is none)",
     meaning: "\
 The line has another form, a number that is too great for what it counts, or
 the name of no variable (a port or a channel is none). The answers before it

@@ -6,7 +6,6 @@ pub static MEMORY: Page = Page {
     number: 1,
     field: "",
     name: "memory",
-    line: "memory is used up",
     meaning: "\
 The system gave no more memory. Nothing has changed, with one exception; a
 smaller description, a shorter run, or more memory helps. The exception is a
@@ -22,7 +21,6 @@ pub static BAD_CHARACTER: Page = Page {
     number: 2,
     field: "byte",
     name: "a byte begins nothing",
-    line: "this byte begins no word, number or sign",
     meaning: "Outside comments only names, numbers, signs and blanks may stand.",
     source: "procedure p @",
     told: "            ^            refused 2 12",
@@ -36,7 +34,6 @@ pub static OPEN_COMMENT: Page = Page {
     number: 3,
     field: "byte",
     name: "an open comment",
-    line: "this (-- is closed by no --)",
     meaning: "A `(--` is never closed by `--)`. The outermost one is named.",
     source: "(-- (-- --)",
     told: "^            refused 3 0",
@@ -49,7 +46,6 @@ pub static NUMBER_TOO_LARGE: Page = Page {
     number: 4,
     field: "byte",
     name: "a number is too large",
-    line: "this number is over 2^64 - 1",
     meaning: "The number is above 18446744073709551615, which is 2^64 - 1.",
     source: "type t is 18446744073709551616 bits",
     told: "          ^            refused 4 10",
@@ -60,7 +56,6 @@ pub static UNEXPECTED: Page = Page {
     number: 5,
     field: "byte",
     name: "this word cannot stand here",
-    line: "no description goes on with this word",
     meaning: "\
 With this word no description can go on, whatever follows. At the end of a
 file, the byte is the file's length.",
@@ -81,7 +76,6 @@ pub static TOO_DEEP: Page = Page {
     number: 6,
     field: "byte",
     name: "too deep",
-    line: "this opens more than 64 levels",
     meaning: "\
 This word would open level 65. Brackets, `loop`, `if`, `case`, `select`,
 `arbitrate`, `then` behind `->`, `(` in an expression and `not` open a level

@@ -6,7 +6,6 @@ pub static UNKNOWN_NAME: Page = Page {
     number: 7,
     field: "byte",
     name: "an unknown name",
-    line: "nothing visible has this name",
     meaning: "Nothing that is visible here has this name.",
     source: "procedure p is begin q () end",
     told: "                     ^   refused 7 21",
@@ -20,7 +19,6 @@ pub static NAME_TWICE: Page = Page {
     number: 8,
     field: "byte",
     name: "a name twice",
-    line: "this name is declared already",
     meaning: "A name that is visible is declared again.",
     source: "procedure p is variable x, x : 8 bits begin halt end",
     told: "                           ^     refused 8 27",
@@ -33,7 +31,6 @@ pub static WRONG_KIND: Page = Page {
     number: 9,
     field: "byte",
     name: "the wrong kind",
-    line: "this name is that of another kind of thing",
     meaning: "The name is there and is something else.",
     source: "procedure p (input i : 8 bits) is begin i <- 1 end",
     told: "                                        ^   refused 9 40",
@@ -47,7 +44,6 @@ pub static TOO_WIDE: Page = Page {
     number: 10,
     field: "byte",
     name: "too wide",
-    line: "this is too wide: over 64 bits, or wider than what takes it",
     meaning: "\
 A width is not from 1 to 64, a sum would need 65 bits, or a value is wider
 than what takes it.",
@@ -62,7 +58,6 @@ pub static GUARD_NOT_ONE_BIT: Page = Page {
     number: 11,
     field: "byte",
     name: "a guard is not one bit",
-    line: "this condition is not one bit wide",
     meaning: "\
 What stands behind `if`, `while` or a `|` of an `if` has to be one bit wide.",
     source: "procedure p is begin if 2 then halt end end",
@@ -74,7 +69,6 @@ pub static BAD_ARM: Page = Page {
     number: 12,
     field: "byte",
     name: "a bad arm",
-    line: "this label or channel stands in two arms, or the label is too wide",
     meaning: "\
 A `case` label stands twice, however it is spelled, or is wider than the
 expression; or a channel stands in two arms of one `select` or `arbitrate`.",
@@ -89,7 +83,6 @@ pub static PORT_MISMATCH: Page = Page {
     number: 13,
     field: "byte",
     name: "a call does not fit",
-    line: "the arguments of this call do not fit the ports",
     meaning: "\
 The arguments differ from the ports in number, direction or width, or one
 channel stands twice. The byte is that of the called name.",
@@ -106,7 +99,6 @@ pub static ENCLOSED_TWICE: Page = Page {
     number: 17,
     field: "byte",
     name: "enclosed twice",
-    line: "this channel is open around this place",
     meaning: "\
 Inside an arm that is open on a channel, its name is the value that was
 received; any other use of it is refused.",

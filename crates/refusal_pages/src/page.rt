@@ -1,4 +1,3 @@
-use crate::{NUMBERS, page_of};
 use std::alloc::{AllocError, Global};
 
 /// What is said of a refusal.
@@ -8,8 +7,6 @@ pub struct Page {
     /// What stands behind the number: a byte, a line or a ticket; nothing where it is empty.
     pub field: &'static str,
     pub name: &'static str,
-    /// What it means, in one line, as the lists of `--help` have it.
-    pub line: &'static str,
     pub meaning: &'static str,
     /// A source that is refused so. Empty where the example is none.
     pub source: &'static str,
@@ -57,32 +54,4 @@ pub fn summary(alloc: Global, page: &Page) -> Result<String, AllocError> {
         return format!(in alloc; "refused {number}: {name}\n");
     }
     format!(in alloc; "refused {number} {field}: {name}\n")
-}
-
-/// All refusals, in order of their numbers, a line each: the number, and in one line what it means.
-pub fn list_text(alloc: Global) -> Result<String, AllocError> {
-    let mut text = String::new(alloc);
-    for number in NUMBERS {
-        if let Some(page) = page_of(number) {
-            add_listed(&mut text, page)?;
-        }
-    }
-    Ok(text)
-}
-
-/// Adds the number, and behind it what the refusal means, with further lines under the first.
-fn add_listed(text: &mut String, page: &Page) -> Result<(), AllocError> {
-    let number = page.number;
-    write!(text, "{number:4}")?;
-    let mut is_first = true;
-    for line in page.line.lines() {
-        if !is_first {
-            text.push_str("    ")?;
-        }
-        is_first = false;
-        text.push_str("  ")?;
-        text.push_str(line)?;
-        text.push_str("\n")?;
-    }
-    Ok(())
 }

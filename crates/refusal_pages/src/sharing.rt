@@ -6,7 +6,6 @@ pub static TOO_MANY_NODES: Page = Page {
     number: 14,
     field: "",
     name: "too large",
-    line: "the system has over 16384 nodes, or a command inside over 1024 others",
     meaning: "\
 Once each call is replaced by the body of its procedure there are more than
 16,384 nodes, or a command inside more than 1,024 others. The number does not
@@ -25,7 +24,6 @@ pub static SHARED_VARIABLE: Page = Page {
     number: 15,
     field: "byte",
     name: "a variable in two branches",
-    line: "this variable is written in one parallel branch and used in another",
     meaning: "\
 A variable that is not declared shared is written in one branch of `||` and
 read or written in another. The byte is the first use that takes part.",
@@ -43,7 +41,6 @@ pub static SHARED_CHANNEL: Page = Page {
     number: 16,
     field: "byte",
     name: "a shared channel",
-    line: "this channel has two senders, two receivers or three syncs at a time",
     meaning: "\
 Two senders, two receivers, or three syncs use a channel at one time. A port's
 environment is one of them. The byte is that of the name in its declaration.",

@@ -7,16 +7,17 @@ use Rattle.debug_session.specs.declared.fault.Fault.{Fault}
 use Rattle.debug_session.specs.declared.fault.Fault.TheVariants.{Refused}
 use Rattle.questions.specs.declared.why.Why.{Why}
 use Rattle.picture.specs.declared.Pictured.{Pictured}
-use Rattle.command_line.specs.Answering.{Holding, FilesGive, FilesRefuse, NotHad}
+use Rattle.command_line.specs.Answering.{Holding, FilesDescribe, FilesGive, FilesRefuse, NotHad}
 use Rattle.command_line.specs.Used.{Outcome, Used, IsUntouched, Tells}
 
 -- the file of this name holds a source that describes this system without a stimulus
 abbrev pub SourceGives : Holding → List ℕ → List ℕ → System → Type 0
 SourceGives holds file source system = holds file (Some source) × AcceptedAs source [] system
 
--- the files describe this system, and the trace has this text
-abbrev pub RunHad : Holding → List ℕ → List ℕ → List ℕ → System → List ℕ → Type 0
-RunHad holds file stimulus trace system text = FilesGive holds file stimulus system × holds trace (Some text)
+-- the files describe this system by this source, and the trace has this text
+abbrev pub RunHad : Holding → List ℕ → List ℕ → List ℕ → List ℕ → System → List ℕ → Type 0
+RunHad holds file stimulus trace source system text =
+    FilesDescribe holds file stimulus source system × holds trace (Some text)
 
 -- they describe none, or else the trace was not had
 abbrev pub RunNotHad : Holding → List ℕ → List ℕ → List ℕ → Fault → Type 0

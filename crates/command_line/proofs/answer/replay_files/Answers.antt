@@ -19,7 +19,8 @@ pub returns-in_err-events : goal.returns-in_err-events
 returns-in_err-events g c = inl (
   c.in_err-events.field-0.0,
   run-refused (g.F.Files.holds c.args.from.now.files.now) c.args.names.now.file.now c.args.names.now.stimulus.now
-      c.args.names.now.trace.now c.in_ok-checked.checked c.read_run.new.texts.trace.items c.as_slice.result.now
+      c.args.names.now.trace.now c.read_run.new.texts.source.items c.in_ok-checked.checked
+      c.read_run.new.texts.trace.items c.as_slice.result.now
       c.in_err-events.field-0.0 c.in_ok-checked.ensures c.as_slice.ensures.value
       c.in_err-events.ensures,
   handed-on c.from_residual-in_err-events.result c.in_err-events.field-0.0 c.from_residual-in_err-events.ensures.1,
@@ -32,7 +33,7 @@ returns g c = inr (
   (
     c.in_ok-checked.checked,
     c.read_run.new.texts.trace.items,
-    c.in_ok-checked.ensures.0,
+    (c.read_run.new.texts.source.items, c.in_ok-checked.ensures.0),
     c.in_ok-checked.ensures.1,
     subst (λ (t : List ℕ). Replays c.in_ok-checked.checked t c.in_ok-events.events.items) c.as_slice.ensures.value
         c.in_ok-events.ensures,

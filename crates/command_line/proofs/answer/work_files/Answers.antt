@@ -15,7 +15,7 @@ returns-in_err-checked g c = inl (
 pub returns-in_err-done : goal.returns-in_err-done
 returns-in_err-done g c = inl (
   Memory,
-  inr (c.in_ok-checked.checked, c.in_ok-checked.ensures, refl),
+  inr (c.in_ok-checked.checked, (c.read_system.new.texts.source.items, c.in_ok-checked.ensures), refl),
   handed-on c.from_residual-in_err-done.result Memory c.from_residual-in_err-done.ensures.1,
   refl,
 )
@@ -27,7 +27,7 @@ returns g c = inr (
     c.in_ok-checked.checked,
     c.in_ok-done.done.stepped,
     c.in_ok-done.done.live,
-    c.in_ok-checked.ensures,
+    (c.read_system.new.texts.source.items, c.in_ok-checked.ensures),
     c.in_ok-done.ensures,
     refl,
   ),

@@ -20,7 +20,8 @@ pub returns-in_err-text : goal.returns-in_err-text
 returns-in_err-text g c = inl (
   (of_trace c.in_err-text.field-0.0),
   run-refused (g.F.Files.holds c.args.from.now.files.now) c.args.names.now.file.now c.args.names.now.stimulus.now
-      c.args.names.now.trace.now c.in_ok-checked.checked c.read_run.new.texts.trace.items c.as_slice.result.now
+      c.args.names.now.trace.now c.read_run.new.texts.source.items c.in_ok-checked.checked
+      c.read_run.new.texts.trace.items c.as_slice.result.now
       (of_trace c.in_err-text.field-0.0) c.in_ok-checked.ensures c.as_slice.ensures.value
       (trace-refused c.in_ok-checked.checked c.as_slice.result.now c.in_err-text.field-0.0 c.in_err-text.ensures),
   handed-on c.from_residual-in_err-text.result (of_trace c.in_err-text.field-0.0) c.from_residual-in_err-text.ensures.1,
@@ -33,7 +34,7 @@ returns g c = inr (
   (
     c.in_ok-checked.checked,
     c.read_run.new.texts.trace.items,
-    c.in_ok-checked.ensures.0,
+    (c.read_run.new.texts.source.items, c.in_ok-checked.ensures.0),
     c.in_ok-checked.ensures.1,
     subst (λ (t : List ℕ). IsWaitingText c.in_ok-checked.checked t c.in_ok-text.text.items) c.as_slice.ensures.value
         c.in_ok-text.ensures,

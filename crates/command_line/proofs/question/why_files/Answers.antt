@@ -19,7 +19,8 @@ pub returns-in_err-why : goal.returns-in_err-why
 returns-in_err-why g c = inl (
   (of_trace c.in_err-why.field-0.0),
   inl (run-refused (g.F.Files.holds c.args.from.now.files.now) c.args.names.now.file.now c.args.names.now.stimulus.now
-      c.args.names.now.trace.now c.in_ok-checked.checked c.read_run.new.texts.trace.items c.as_slice.result.now
+      c.args.names.now.trace.now c.read_run.new.texts.source.items c.in_ok-checked.checked
+      c.read_run.new.texts.trace.items c.as_slice.result.now
       (of_trace c.in_err-why.field-0.0) c.in_ok-checked.ensures c.as_slice.ensures.value
       (trace-refused c.in_ok-checked.checked c.as_slice.result.now c.in_err-why.field-0.0
       c.in_err-why.ensures.answered)),
@@ -30,6 +31,7 @@ returns-in_err-why g c = inl (
 pub returns : goal.returns
 returns g c =
     why-answered (g.F.Files.holds c.args.from.now.files.now) c.args.names.now.file.now c.args.names.now.stimulus.now
-    c.args.names.now.trace.now c.args.asked.now.subject.now c.in_ok-checked.checked c.read_run.new.texts.trace.items
-    c.as_slice.result.now c.in_ok-why.why (used g.O.Write.contents c.args.out.now c.tell_why.new.out)
-    c.tell_why.result c.in_ok-checked.ensures c.as_slice.ensures.value c.in_ok-why.ensures.answered c.tell_why.ensures
+    c.args.names.now.trace.now c.args.asked.now.subject.now c.args.asked.now.all c.read_run.new.texts.source.items
+    c.in_ok-checked.checked c.read_run.new.texts.trace.items c.as_slice.result.now c.in_ok-why.why
+    (used g.O.Write.contents c.args.out.now c.tell_why.new.out) c.tell_why.result c.in_ok-checked.ensures
+    c.as_slice.ensures.value c.in_ok-why.ensures.answered c.in_ok-why.ensures.text c.tell_why.ensures

@@ -1,4 +1,7 @@
-use Rattle.std.proofs.Common.{inl, inr}
+use Rattle.std.proofs.Common.{inl, inr, subst, sym, ℕ}
+use Rattle.std.specs.Prelude.{Vec}
+use Rattle.std.specs.Global.{Global}
+use Rattle.command_line.specs.Answering.{FilesDescribe}
 use Rattle.command_line.proofs.Handing.{refused}
 use Rattle.command_line.proofs.reading.read_run.Goals as goal
 
@@ -10,8 +13,17 @@ returns-in_err-checked g c =
 pub returns-in_err-read_trace : goal.returns-in_err-read_trace
 returns-in_err-read_trace g c =
     refused c.from_residual-in_err-read_trace.result c.in_err-read_trace.field-0.0 _ _
-    (inr (c.in_ok-checked.checked, c.in_ok-checked.ensures, c.in_err-read_trace.ensures))
+    (inr (
+      c.in_ok-checked.checked,
+      (c.read_system.new.texts.source.items, c.in_ok-checked.ensures),
+      c.in_err-read_trace.ensures,
+    ))
     c.from_residual-in_err-read_trace.ensures.1
 
 pub returns : goal.returns
-returns g c = (c.in_ok-checked.ensures, c.in_ok-read_trace.ensures.0)
+returns g c = (
+  subst (λ (source : Vec ℕ Global). FilesDescribe (g.F.Files.holds c.args.from.now.files.now) c.args.names.now.file.now
+      c.args.names.now.stimulus.now source.items c.in_ok-checked.checked) (sym c.in_ok-read_trace.ensures.1)
+      c.in_ok-checked.ensures,
+  c.in_ok-read_trace.ensures.0,
+)
