@@ -1,5 +1,5 @@
 -- What a search for a ring has gone through: what is left to go to, and which places are on the way.
-use Rattle.std.proofs.Common.{◌≡◌, ◌⊎◌, inl, inr, ℕ, ◌+◌, ◌<◌, ◌≤◌, List, [], ◌∷◌, ◌++◌, length, Bool, true, false, ◌&&◌, Option, Some, None, option_map, slice_get, slice_set, refl, sym, ◌∙◌, ap, subst, arith, true≢false}
+use Rattle.std.proofs.Common.{◌≡◌, ◌⊎◌, inl, inr, ℕ, ◌<◌, ◌≤◌, List, [], ◌∷◌, ◌++◌, length, Bool, true, false, Option, Some, None, option_map, slice_get, slice_set, refl, sym, ◌∙◌, ap, subst, arith, true≢false}
 use Rattle.std.proofs.lemmas.Bool.{and_from, and_parts, cases_Bool}
 use Rattle.std.proofs.lemmas.List.{length-set}
 use Rattle.std.specs.Prelude.{◌↔◌}
@@ -20,7 +20,7 @@ use Rattle.rings.specs.declared.ring.Seen.TheVariants.{OnWay, Done}
 use Rattle.rings.specs.declared.ring.Trail.{Trail}
 use Rattle.rings.specs.declared.tables.Tables.{Tables}
 use Rattle.rings.specs.internal.Loosened.{is_marked}
-use Rattle.rings.specs.internal.Search.{Apart, NextOpen, Test, behind_at, comes_behind, is_open, may_wait, place_at, same_at, same_places, waits}
+use Rattle.rings.specs.internal.Search.{Apart, NextOpen, Test, behind_at, comes_behind, is_open, may_wait, same_at, same_places, waits}
 use Rattle.rings.specs.internal.Standing.{HasActions, HasTables, HasUnder, HasWaiters, Sound, StandsUnder, group_of, row_at, row_of}
 use Rattle.rings.specs.internal.Trails.{Entered, Fewer, HoldsWay, Left, NextIn, Opens, SetAt, SoundTrail, holds}
 use Rattle.rings.proofs.Edging.{place-within}

@@ -1,6 +1,6 @@
 -- Which numbers stand at which place, and who waits behind which place, as the code keeps them.
 -- No reader has to believe it: the contract of `deadlocked_among` ties it to `TellsDeadlocked`.
-use Rattle.std.specs.Prelude.{◌≡◌, ◌↔◌, ◌<◌, ◌≤◌, ℕ, List, Option, Some, None, Vec, slice_get}
+use Rattle.std.specs.Prelude.{◌≡◌, ◌↔◌, ◌<◌, ℕ, List, Option, Some, None, Vec, slice_get}
 use Rattle.std.specs.Global.{Global}
 use Rattle.std.specs.Map.{lookup}
 use Rattle.std.specs.Ordering.{is_eq}

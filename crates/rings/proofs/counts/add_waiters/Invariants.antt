@@ -1,4 +1,3 @@
-use Rattle.std.proofs.Common.{◌≤◌}
 use Rattle.rings.proofs.Tallied.{AddsFrom}
 use Rattle.rings.proofs.counts.add_waiters.Given as goal
 

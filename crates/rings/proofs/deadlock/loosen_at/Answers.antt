@@ -1,4 +1,4 @@
-use Rattle.std.proofs.Common.{◌≡◌, ◌∙◌, ℕ, Some, sym, subst, OnOk}
+use Rattle.std.proofs.Common.{◌≡◌, ◌∙◌, ℕ, sym, subst, OnOk}
 use Rattle.runs.proofs.public.Options.{none-some, some-injective}
 use Rattle.rings.specs.internal.Tally.{Loosens}
 use Rattle.rings.proofs.deadlock.loosen_at.Goals as goal

@@ -8,7 +8,7 @@ use Rattle.rings.specs.declared.ring.Seen.{Seen}
 use Rattle.rings.specs.declared.ring.Seen.TheVariants.{Done, New, OnWay}
 use Rattle.rings.specs.internal.Search.{Apart, NextOpen, Test, count_new, is_open, same_at, waits}
 use Rattle.rings.specs.internal.Trails.{SoundTrail}
-use Rattle.rings.proofs.Marked.{begins-as, count-kept, count-less, ends, goes-back-as, goes-on-as, mark-within, next-is-new, told-from, top-within}
+use Rattle.rings.proofs.Marked.{begins-as, count-kept, count-less, goes-back-as, goes-on-as, mark-within, next-is-new, told-from, top-within}
 use Rattle.rings.proofs.Places.{alike, itself}
 use Rattle.rings.proofs.Trailing.{sound-entered, sound-left, sound-next, sound-none}
 use Rattle.rings.proofs.ring.ring_from.Goals as goal
