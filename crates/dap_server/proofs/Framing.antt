@@ -111,7 +111,7 @@ pub record IsWhole (bytes : List ℕ) (from to : ℕ) : Type 0 where
 
 whole_at : (bytes : List ℕ) (start from to : ℕ) → header_length bytes ≡ Some start → from ≡ start → Tells (take start bytes) (to - from)
     → from ≤ to → to ≤ length bytes → to ≤ start + MOST_BODY → IsWhole bytes from to
-whole_at bytes start from to found body.0 body.1 body.2 body.3 body.4 =
+whole_at bytes start from to found same tells rises within reach =
     let size : length (slice_range bytes from to) ≡ to - from = length-range bytes from to rises within in record {
       rises = rises;
       within = within;
