@@ -33,10 +33,10 @@ session-is-led a b next (Some request ∷ heard) sent led session =
 session-is-led a b next (None ∷ heard) sent led session = session-is-led a b (next + 1) heard session.1 led session.3
 
 -- a session with a client that has just come, which ends well
-pub served : {X E : Type 0} (r : Result X E) (a b : Face) (u v left : Option (List ℕ)) → a.launched ≡ None → a.over ≡ false →
-    OnOk r ((after : ℕ) × Serves Comes is_over a 1 b after u v) → OnOk r ((b.over ≡ true) ⊎ IsAtEnd left) →
+pub served : {X E : Type 0} (r : Result X E) (a b : Face) (came left u v : Option (List ℕ)) → a.launched ≡ None → a.over ≡ false →
+    OnOk r ((after : ℕ) × Serves Comes is_over a 1 b after came left u v) → OnOk r ((b.over ≡ true) ⊎ IsAtEnd left) →
     OnOk r
-    ((first : Face) × (last : Face) × (after : ℕ) × (first.launched ≡ None) × (first.over ≡ false) × Serves Comes is_over first 1 last after u v
-    × ((last.over ≡ true) ⊎ IsAtEnd left))
-served (Ok x) a b u v left none running h k = (a, b, h.0, none, running, h.1, k)
-served (Err e) a b u v left none running h k = tt
+    ((first : Face) × (last : Face) × (after : ℕ) × (first.launched ≡ None) × (first.over ≡ false)
+    × Serves Comes is_over first 1 last after came left u v × ((last.over ≡ true) ⊎ IsAtEnd left))
+served (Ok x) a b came left u v none running h k = (a, b, h.0, none, running, h.1, k)
+served (Err e) a b came left u v none running h k = tt

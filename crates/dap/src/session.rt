@@ -45,7 +45,8 @@ pub fn serve<R: Read, W: Write, F: Sources>(
 ) -> Result<(), Fault>
     ensures { OnOk result ((first : Facing) × (last : Facing) × (after : ℕ) × (first.launched ≡ None)
         × (first.over ≡ false)
-        × Serves Comes is_over first 1 last after (W.contents writer.old) (W.contents writer.new)
+        × Serves Comes is_over first 1 last after (R.remaining reader.old) (R.remaining reader.new)
+        (W.contents writer.old) (W.contents writer.new)
         × ((last.over ≡ true) ⊎ IsAtEnd (R.remaining reader.new))) }
 {
     let mut face = Face::new(alloc);

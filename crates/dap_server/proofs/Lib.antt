@@ -1,2 +1,3 @@
+mod Framing
 mod Sending
 mod Sessions

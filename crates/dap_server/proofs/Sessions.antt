@@ -1,11 +1,19 @@
 -- Parts of a session, one after another.
-use Rattle.std.proofs.Common.{◌≡◌, ◌+◌, ℕ, Bool, true, false, List, [], ◌∷◌, ◌++◌, length, Option, Some, None, refl, sym, ap, ◌∙◌, subst, append_assoc, append-nil, arith, length-append}
-use Rattle.std.specs.Io.KnownBytes.{Appends}
+use Rattle.std.proofs.Common.{◌≡◌, ◌⊎◌, ◌+◌, ◌<◌, ◌≤◌, ℕ, Bool, true, false, List, [], ◌∷◌, ◌++◌, length, slice_range, Option, Some, None, inl, inr, refl, sym, ap, ◌∙◌, subst, append_assoc, append-nil, arith, length-append}
+use Rattle.std.specs.Prelude.{Ok, Err, OnOk, Result}
+use Rattle.std.specs.Io.KnownBytes.{Appends, Consumes, IsAtEnd}
+use Rattle.dap_messages.specs.Requests.{IsReadAs}
 use Rattle.dap_messages.specs.declared.answer.Answer.{Answer}
 use Rattle.dap_messages.specs.declared.request.Request.{Request}
+use Rattle.dap_messages.specs.declared.request.Unread.{Unread}
+use Rattle.dap_server.specs.Heard.{AreFramed, AreHeard, IsHeard, StandsFirst}
 use Rattle.dap_server.specs.Sent.{Sends, frames}
 use Rattle.dap_server.specs.Short.{short_line}
 use Rattle.dap_server.specs.Session.{Exchange, Session, Serves}
+use Rattle.dap_server.specs.declared.input.Input.{Input}
+use Rattle.dap_server.specs.declared.input.Next.{Next}
+use Rattle.dap_server.specs.internal.Reading.{IsNext, held}
+use Rattle.dap_server.specs.internal.Serving.{Hears, ServesFrom}
 use Rattle.dap_server.proofs.Sending.{frames_join}
 
 -- nothing is written
@@ -63,47 +71,198 @@ session_then answers over a m b next after (None ∷ heard) more sent rest at h 
 pub goes_on : {P : Type 0} (more : Bool) → more ≡ true → more ≡ false → P
 goes_on more on off = let both : true ≡ false = sym on ∙ off in absurd (cc)
 
--- nothing came
-pub serves_nothing : {A : Type 0} (answers : A → Request → Answer → A → Type 0) (over : A → Bool) (a : A) (next : ℕ) (u : Option (List ℕ))
-    → Serves answers over a next a next u u
-serves_nothing answers over a next u = record { heard = []; sent = []; sends = sends_none u next; session = (refl, refl) }
+-- bodies that stand behind one another
+framed_then : (xs ys : List (List ℕ)) (bytes mid left : List ℕ) → AreFramed xs bytes mid → AreFramed ys mid left → AreFramed (xs ++ ys) bytes left
+framed_then [] ys bytes mid left h k = subst (λ (b : List ℕ). AreFramed ys b left) (sym h) k
+framed_then (x ∷ xs) ys bytes mid left h k = (h.0, h.1, framed_then xs ys h.0 mid left h.2 k)
 
--- some came, and then others
-pub serves_then : {A : Type 0} (answers : A → Request → Answer → A → Type 0) (over : A → Bool) (a m b : A) (l n k : ℕ) (u v w : Option (List ℕ))
-    → Serves answers over a l m n u v → Serves answers over m n b k v w → Serves answers over a l b k u w
-serves_then answers over a m b l n k u v w x y = record {
+-- more bytes come behind
+first_more : (bytes body rest more : List ℕ) → StandsFirst bytes body rest → StandsFirst (bytes ++ more) body (rest ++ more)
+first_more bytes body rest more h = record {
+  header = h.header;
+  ends = h.ends;
+  tells = h.tells;
+  whole = ap (λ (t : List ℕ). t ++ more) h.whole ∙ append_assoc h.header (body ++ rest) more
+      ∙ ap (λ (t : List ℕ). h.header ++ t) (append_assoc body rest more);
+}
+
+framed_more : (xs : List (List ℕ)) (bytes left more : List ℕ) → AreFramed xs bytes left → AreFramed xs (bytes ++ more) (left ++ more)
+framed_more [] bytes left more h = ap (λ (t : List ℕ). t ++ more) h
+framed_more (x ∷ xs) bytes left more h = (h.0 ++ more, first_more bytes x h.0 more h.1, framed_more xs h.0 left more h.2)
+
+heard_then : (xs ys : List (List ℕ)) (hs ks : List (Option Request)) → AreHeard xs hs → AreHeard ys ks → AreHeard (xs ++ ys) (hs ++ ks)
+heard_then [] ys [] ks h k = k
+heard_then [] ys (x ∷ hs) ks h k = absurd h
+heard_then (x ∷ xs) ys [] ks h k = absurd h
+heard_then (x ∷ xs) ys (y ∷ hs) ks h k = (h.0, heard_then xs ys hs ks h.1 k)
+
+-- nothing is read
+pub consumes_none : (u : Option (List ℕ)) → Consumes u u []
+consumes_none None = tt
+consumes_none (Some xs) = refl
+
+-- some bytes are read, and then others
+pub consumes_then : (u v w : Option (List ℕ)) (a b : List ℕ) → Consumes u v a → Consumes v w b → Consumes u w (a ++ b)
+consumes_then None v w a b x y = tt
+consumes_then (Some xs) None w a b x y = absurd x
+consumes_then (Some xs) (Some ys) None a b x y = y
+consumes_then (Some xs) (Some ys) (Some zs) a b x y = x ∙ ap (λ (t : List ℕ). a ++ t) y ∙ sym (append_assoc a b zs)
+
+-- nothing is heard
+pub hears_nothing : {A : Type 0} (answers : A → Request → Answer → A → Type 0) (over : A → Bool) (a : A) (next : ℕ) (bytes left : List ℕ)
+    (u : Option (List ℕ)) → bytes ≡ left → Hears answers over a next a next bytes left u u
+hears_nothing answers over a next bytes left u is = record {
+  bodies = [];
+  framed = is;
+  heard = [];
+  hears = tt;
+  sent = [];
+  sends = sends_none u next;
+  session = (refl, refl);
+}
+
+-- one body is heard
+hears_one : {A : Type 0} (answers : A → Request → Answer → A → Type 0) (over : A → Bool) (a b : A) (l n : ℕ) (bytes body left : List ℕ)
+    (heard : Option Request) (u v : Option (List ℕ)) → StandsFirst bytes body left → IsHeard body heard
+    → (sent : List (List ℕ)) → Sends sent u v l n → Session answers over a l (heard ∷ []) sent b → Hears answers over a l b n bytes left u v
+hears_one answers over a b l n bytes body left heard u v first is sent sends session = record {
+  bodies = body ∷ [];
+  framed = (left, first, refl);
+  heard = heard ∷ [];
+  hears = (is, tt);
+  sent = sent;
+  sends = sends;
+  session = session;
+}
+
+-- what came is a request
+pub hears_request : {A : Type 0} (answers : A → Request → Answer → A → Type 0) (over : A → Bool) (a b : A) (request : Request) (l n : ℕ)
+    (from to : ℕ) (input : Input) (body : List ℕ) (u v : Option (List ℕ)) → over a ≡ false
+    → (from ≤ to → to ≤ length input.bytes.items → body ≡ slice_range input.bytes.items from to) → IsReadAs body (Ok request)
+    → (sent : List (List ℕ)) × Exchange answers a request l sent b × Sends sent u v l n
+    → (bytes : List ℕ) → IsNext (Next.Body from to) input bytes → Hears answers over a l b n bytes (held input) u v
+hears_request answers over a b request l n from to input body u v on at read h bytes next =
+    let same : body ≡ slice_range input.bytes.items from to = at next.rises next.within in
+    hears_one answers over a b l n bytes (slice_range input.bytes.items from to) (held input) (Some request) u v next.first
+    (next.small, subst (λ (t : List ℕ). IsReadAs t (Ok request)) same read) h.0 h.2
+    (b, h.0, [], on, h.1, (refl, refl), sym (append-nil h.0))
+
+-- what came is no request
+pub hears_other : {A : Type 0} (answers : A → Request → Answer → A → Type 0) (over : A → Bool) (a : A) (unread : Unread) (l n : ℕ)
+    (from to : ℕ) (input : Input) (body line : List ℕ) (u v : Option (List ℕ)) → over a ≡ false
+    → (from ≤ to → to ≤ length input.bytes.items → body ≡ slice_range input.bytes.items from to) → IsReadAs body (Err unread)
+    → Sends (short_line line l ∷ []) u v l n → (bytes : List ℕ) → IsNext (Next.Body from to) input bytes
+    → Hears answers over a l a n bytes (held input) u v
+hears_other answers over a unread l n from to input body line u v on at read sends bytes next =
+    let same : body ≡ slice_range input.bytes.items from to = at next.rises next.within in
+    hears_one answers over a a l n bytes (slice_range input.bytes.items from to) (held input) None u v next.first
+    (inr (unread, subst (λ (t : List ℕ). IsReadAs t (Err unread)) same read)) (short_line line l ∷ []) sends
+    (line, [], on, (refl, refl), refl)
+
+-- what came is too large
+pub hears_large : {A : Type 0} (answers : A → Request → Answer → A → Type 0) (over : A → Bool) (a : A) (l n : ℕ) (input : Input)
+    (u v : Option (List ℕ)) → over a ≡ false → (line : List ℕ) × Sends (short_line line l ∷ []) u v l n
+    → (bytes : List ℕ) → IsNext Next.Large input bytes → Hears answers over a l a n bytes (held input) u v
+hears_large answers over a l n input u v on h bytes next =
+    hears_one answers over a a l n bytes next.0 (held input) None u v next.2 (inl next.1) (short_line h.0 l ∷ []) h.1
+    (h.0, [], on, (refl, refl), refl)
+
+-- nothing came
+pub hears_end : {A : Type 0} (answers : A → Request → Answer → A → Type 0) (over : A → Bool) (a : A) (next : ℕ) (input : Input)
+    (u : Option (List ℕ)) (bytes : List ℕ) → IsNext Next.End input bytes → Hears answers over a next a next bytes (held input) u u
+hears_end answers over a next input u bytes h = hears_nothing answers over a next bytes (held input) u (h.0 ∙ sym h.1)
+
+-- some are heard, and then others
+hears_then : {A : Type 0} (answers : A → Request → Answer → A → Type 0) (over : A → Bool) (a m b : A) (l n k : ℕ) (bytes mid left : List ℕ)
+    (u v w : Option (List ℕ)) → Hears answers over a l m n bytes mid u v → Hears answers over m n b k mid left v w
+    → Hears answers over a l b k bytes left u w
+hears_then answers over a m b l n k bytes mid left u v w x y = record {
+  bodies = x.bodies ++ y.bodies;
+  framed = framed_then x.bodies y.bodies bytes mid left x.framed y.framed;
   heard = x.heard ++ y.heard;
+  hears = heard_then x.bodies y.bodies x.heard y.heard x.hears y.hears;
   sent = x.sent ++ y.sent;
   sends = sends_then x.sent y.sent u v w l n k x.sends y.sends;
   session = session_then answers over a m b l n x.heard y.heard x.sent y.sent x.sends.numbers x.session y.session;
 }
 
--- a request came
-pub serves_request : {A : Type 0} (answers : A → Request → Answer → A → Type 0) (over : A → Bool) (a b : A) (request : Request) (l n : ℕ)
-    (u v : Option (List ℕ)) → over a ≡ false → (sent : List (List ℕ)) × Exchange answers a request l sent b × Sends sent u v l n
-    → Serves answers over a l b n u v
-serves_request answers over a b request l n u v on h = record {
-  heard = Some request ∷ [];
-  sent = h.0;
-  sends = h.2;
-  session = (b, h.0, [], on, h.1, (refl, refl), sym (append-nil h.0));
+hears_more : {A : Type 0} (answers : A → Request → Answer → A → Type 0) (over : A → Bool) (a b : A) (l n : ℕ) (bytes left more : List ℕ)
+    (u v : Option (List ℕ)) → Hears answers over a l b n bytes left u v → Hears answers over a l b n (bytes ++ more) (left ++ more) u v
+hears_more answers over a b l n bytes left more u v x = record {
+  bodies = x.bodies;
+  framed = framed_more x.bodies bytes left more x.framed;
+  heard = x.heard;
+  hears = x.hears;
+  sent = x.sent;
+  sends = x.sends;
+  session = x.session;
 }
 
--- what came is no request
-pub serves_other : {A : Type 0} (answers : A → Request → Answer → A → Type 0) (over : A → Bool) (a : A) (l n : ℕ) (u v : Option (List ℕ))
-    → over a ≡ false → (line : List ℕ) × Sends (short_line line l ∷ []) u v l n → Serves answers over a l a n u v
-serves_other answers over a l n u v on h = record {
-  heard = None ∷ [];
-  sent = short_line h.0 l ∷ [];
-  sends = h.1;
-  session = (h.0, [], on, (refl, refl), refl);
-}
+-- at first nothing is read and nothing heard
+pub serves_nothing : {A : Type 0} (answers : A → Request → Answer → A → Type 0) (over : A → Bool) (a : A) (next : ℕ) (held : List ℕ)
+    (r u : Option (List ℕ)) → ServesFrom answers over a next a next held held r r u u
+serves_nothing answers over a next held r u = ([], consumes_none r, hears_nothing answers over a next (held ++ []) held u (append-nil held))
 
-pub serves_line : {A : Type 0} (answers : A → Request → Answer → A → Type 0) (over : A → Bool) (a : A) (l n : ℕ) (u v : Option (List ℕ))
-    (line : List ℕ) → over a ≡ false → Sends (short_line line l ∷ []) u v l n → Serves answers over a l a n u v
-serves_line answers over a l n u v line on h = serves_other answers over a l n u v on (line, h)
+-- some came, and then others
+pub serves_then : {A : Type 0} (answers : A → Request → Answer → A → Type 0) (over : A → Bool) (a m b : A) (l n k : ℕ)
+    (before mid left : List ℕ) (r s t u v w : Option (List ℕ)) → ServesFrom answers over a l m n before mid r s u v
+    → ServesFrom answers over m n b k mid left s t v w → ServesFrom answers over a l b k before left r t u w
+serves_then answers over a m b l n k before mid left r s t u v w x y =
+    let first : Hears answers over a l m n ((before ++ x.0) ++ y.0) (mid ++ y.0) u v =
+    hears_more answers over a m l n (before ++ x.0) mid y.0 u v x.2 in
+    let both : Hears answers over a l b k ((before ++ x.0) ++ y.0) left u w =
+    hears_then answers over a m b l n k ((before ++ x.0) ++ y.0) (mid ++ y.0) left u v w first y.2 in (
+      x.0 ++ y.0,
+      consumes_then r s t x.0 y.0 x.1 y.1,
+      subst (λ (bytes : List ℕ). Hears answers over a l b k bytes left u w) (append_assoc before x.0 y.0) both,
+    )
 
--- the first number is known
-pub serves_from : {A : Type 0} (answers : A → Request → Answer → A → Type 0) (over : A → Bool) (a b : A) (next first after : ℕ)
-    (u v : Option (List ℕ)) → next ≡ first → Serves answers over a next b after u v → (n : ℕ) × Serves answers over a first b n u v
-serves_from answers over a b next first after u v is h = (after, subst (λ (n : ℕ). Serves answers over a n b after u v) is h)
+-- one message is read, and served
+pub serves_next : {A : Type 0} (answers : A → Request → Answer → A → Type 0) (over : A → Bool) (a b : A) (l n : ℕ) (before : List ℕ)
+    (next : Next) (input after : Input) (r s u v : Option (List ℕ))
+    → (came : List ℕ) × Consumes r s came × IsNext next input (before ++ came) → after ≡ input
+    → ((bytes : List ℕ) → IsNext next input bytes → Hears answers over a l b n bytes (held input) u v)
+    → ServesFrom answers over a l b n before (held after) r s u v
+serves_next answers over a b l n before next input after r s u v h same hears =
+    subst (λ (i : Input). ServesFrom answers over a l b n before (held i) r s u v) (sym same) (h.0, h.1, hears (before ++ h.0) h.2)
+
+-- at the end of the reader nothing is left
+pub ends_empty : (next : Next) (input after : Input) (bytes : List ℕ) (t : Option (List ℕ)) → IsNext next input bytes → after ≡ input
+    → (next ≡ Next.End → IsAtEnd t) → next ≡ Next.End → IsAtEnd t × (held after ≡ [])
+ends_empty next input after bytes t h same ends is =
+    let end : IsNext Next.End input bytes = subst (λ (x : Next). IsNext x input bytes) is h in
+    (ends is, ap held same ∙ end.1)
+
+-- a whole session, which begins with nothing read
+pub serves_all : {A : Type 0} (answers : A → Request → Answer → A → Type 0) (over : A → Bool) (a b : A) (next after : ℕ) (before left : List ℕ)
+    (r t u v : Option (List ℕ)) → next ≡ 1 → before ≡ [] → (over b ≡ true) ⊎ (IsAtEnd t × (left ≡ []))
+    → ServesFrom answers over a next b after before left r t u v → (n : ℕ) × Serves answers over a 1 b n r t u v
+serves_all answers over a b next after before left r t u v first none ends h =
+    let empty : ServesFrom answers over a next b after [] left r t u v =
+    subst (λ (held : List ℕ). ServesFrom answers over a next b after held left r t u v) none h in
+    let from : ServesFrom answers over a 1 b after [] left r t u v =
+    subst (λ (n : ℕ). ServesFrom answers over a n b after [] left r t u v) first empty in (
+      after,
+      record {
+        came = from.0;
+        read = from.1;
+        bodies = from.2.bodies;
+        left = left;
+        framed = from.2.framed;
+        all = elim ends [ inl over' ↦ inl over' | inr end ↦ inr end.1 ];
+        heard = from.2.heard;
+        hears = from.2.hears;
+        sent = from.2.sent;
+        sends = from.2.sends;
+        session = from.2.session;
+      },
+    )
+
+pub ends_well : {P : Type 0} (t : Option (List ℕ)) (left : List ℕ) → P ⊎ (IsAtEnd t × (left ≡ [])) → P ⊎ IsAtEnd t
+ends_well t left (inl p) = inl p
+ends_well t left (inr end) = inr end.0
+
+-- where it ends well, two things hold, and a third follows
+pub on_ok_and : {X E P Q S : Type 0} (r : Result X E) → (P → Q → S) → OnOk r P → OnOk r Q → OnOk r S
+on_ok_and (Ok x) f p q = f p q
+on_ok_and (Err e) f p q = tt

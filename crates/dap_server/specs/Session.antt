@@ -1,7 +1,9 @@
 -- What comes in a session, and what is sent for it.
-use Rattle.std.specs.Prelude.{ℕ, ◌≡◌, ◌+◌, Bool, false, List, [], ◌∷◌, ◌++◌, length, Option, None, Some}
+use Rattle.std.specs.Prelude.{ℕ, ◌≡◌, ◌⊎◌, ◌+◌, Bool, false, true, List, [], ◌∷◌, ◌++◌, length, Option, None, Some}
+use Rattle.std.specs.Io.KnownBytes.{Consumes}
 use Rattle.dap_messages.specs.declared.answer.Answer.{Answer}
 use Rattle.dap_messages.specs.declared.request.Request.{Request}
+use Rattle.dap_server.specs.Heard.{AreFramed, AreHeard}
 use Rattle.dap_server.specs.Sent.{AnswerRequest, Sends}
 use Rattle.dap_server.specs.Short.{short_line}
 
@@ -26,11 +28,18 @@ Session answers over a next (None ∷ heard) sent b =
     (line : List ℕ) × (rest : List (List ℕ)) × (over a ≡ false) × Session answers over a (next + 1) heard rest b
     × (sent ≡ short_line line next ∷ rest)
 
--- some messages came, and the adapter became `b`; what was sent is written, and `after` is the number of the next
--- message
+-- some bytes came, and the adapter became `b`; what was sent is written, and `after` is the number of the next message.
+-- Each message that stands in the bytes is heard as what it is, but for those that come behind the end
 pub record Serves {A : Type 0} (answers : A → Request → Answer → A → Type 0) (over : A → Bool) (a : A) (next : ℕ) (b : A)
-    (after : ℕ) (old new : Option (List ℕ)) : Type 0 where
+    (after : ℕ) (first last old new : Option (List ℕ)) : Type 0 where
+  pub came : List ℕ
+  pub read : Consumes first last came
+  pub bodies : List (List ℕ)
+  pub left : List ℕ
+  pub framed : AreFramed bodies came left
+  pub all : (over b ≡ true) ⊎ (left ≡ [])
   pub heard : List (Option Request)
+  pub hears : AreHeard bodies heard
   pub sent : List (List ℕ)
   pub sends : Sends sent old new next after
   pub session : Session answers over a next heard sent b

@@ -1,6 +1,9 @@
 // The messages of a reader, one after another.
-ghost use Rattle.std.specs.Prelude.{◌≡◌, ◌≢◌, ◌<◌, IfOk, IfSome, false, length};
-ghost use Rattle.std.specs.Io.KnownBytes.{IsAtEnd};
+ghost use Rattle.std.specs.Prelude.{ℕ, ◌≡◌, ◌≢◌, ◌≤◌, ◌<◌, List, [], ◌++◌, ◌+◌, IfOk, OnOk, drop, false, length, slice_range, take};
+ghost use Rattle.std.specs.Io.KnownBytes.{Consumes, IsAtEnd};
+ghost use Rattle.dap_frames.specs.Unframing.{Unframes};
+ghost use Rattle.dap_frames.specs.declared.body.Unframed.{Unframed as stands};
+ghost use Rattle.dap_server.specs.internal.Reading.{IsNext, held};
 ghost use Rattle.dap_server.specs.declared.input.Next as comes;
 
 use crate::Fault;
@@ -17,8 +20,6 @@ pub(crate) struct Input {
     bytes: Vec<u8>,
     /// where what was not looked at begins
     start: usize,
-    /// how many bytes are to be passed over
-    skip: u64,
 }
 
 /// What comes next.
@@ -26,7 +27,7 @@ pub(crate) struct Input {
 pub(crate) enum Next {
     /// a body, from the first index to before the second
     Body(usize, usize),
-    /// a body that is larger than it may be; it is passed over
+    /// a body that is larger than it may be; it was passed over
     Large,
     /// nothing
     End,
@@ -34,22 +35,28 @@ pub(crate) enum Next {
 
 impl Input {
     /// Nothing has been read.
-    pub(crate) fn new(alloc: Global) -> Input {
+    pub(crate) fn new(alloc: Global) -> Input
+        ensures { held result ≡ [] }
+    {
         Input {
             bytes: Vec::new(alloc),
             start: 0,
-            skip: 0,
         }
     }
 
     /// The next message.
     pub(crate) fn next<R: Read>(&mut self, reader: &mut R) -> Result<Next, Fault>
-        ensures { IfOk result (λ next. next ≡ comes.Next.End → IsAtEnd (R.remaining reader.new)) }
+        ensures next { IfOk result (λ next. (came : List ℕ)
+            × Consumes (R.remaining reader.old) (R.remaining reader.new) came
+            × IsNext next self.new (held self.old ++ came)) }
+        ensures ends { IfOk result (λ next. next ≡ comes.Next.End → IsAtEnd (R.remaining reader.new)) }
     {
         for _ in 0..u64::MAX {
-            self.pass_over();
-            if let Some(next) = self.at_hand()? {
-                return Ok(next);
+            match self.at_hand() {
+                Unframed::Whole(from, to) => return Ok(self.whole(from, to)),
+                Unframed::Large(from, length) => return self.large(reader, from, length),
+                Unframed::Broken => return Err(Fault::NoHeader),
+                Unframed::Begun => {}
             }
             if !self.read_more(reader)? {
                 return self.ended();
@@ -59,60 +66,129 @@ impl Input {
     }
 
     /// The bytes between two indexes; none where they are not there.
-    pub(crate) fn body(&self, from: usize, to: usize) -> &[u8] {
-        self.bytes.as_slice().get(from..to).unwrap_or(&[])
-    }
-
-    /// Passes over what is to be passed over, as far as it is there.
-    fn pass_over(&mut self) {
-        let there = self.bytes.len().saturating_sub(self.start);
-        let passed = (there as u64).min(self.skip);
-        self.start = self.start.saturating_add(passed as usize);
-        self.skip = self.skip.saturating_sub(passed);
-    }
-
-    /// The message that is there whole.
-    fn at_hand(&mut self) -> Result<Option<Next>, Fault>
-        ensures { IfOk result (λ found. IfSome found (λ next. next ≢ comes.Next.End)) }
+    pub(crate) fn body(&self, from: usize, to: usize) -> &[u8]
+        ensures { from ≤ to → to ≤ length self.now.bytes.items → result.now ≡ slice_range self.now.bytes.items from to }
     {
-        if self.skip > 0 {
-            return Ok(None);
-        }
-        let start = self.start;
-        let rest = self.bytes.as_slice().get(start..).unwrap_or(&[]);
-        match unframe(rest) {
-            Unframed::Whole(from, to) => {
-                self.start = start.saturating_add(to);
-                Ok(Some(Next::Body(start.saturating_add(from), start.saturating_add(to))))
-            }
-            Unframed::Begun => Ok(None),
-            Unframed::Large(from, length) => {
-                self.start = start.saturating_add(from);
-                self.skip = length;
-                Ok(Some(Next::Large))
-            }
-            Unframed::Broken => Err(Fault::NoHeader),
+        if from <= to && to <= self.bytes.len() {
+            &self.bytes[from..to]
+        } else {
+            &[]
         }
     }
 
-    /// Reads some bytes more, behind those that were not looked at; whether there were any.
+    /// What was read and not looked at.
+    fn rest(&self) -> &[u8]
+        ensures { result.now ≡ held self.now }
+    {
+        if self.start < self.bytes.len() {
+            &self.bytes[self.start..]
+        } else {
+            &[]
+        }
+    }
+
+    /// What stands first in that.
+    fn at_hand(&self) -> Unframed
+        ensures { Unframes (held self.now) result }
+    {
+        unframe(self.rest())
+    }
+
+    /// Passes over so many bytes of it.
+    fn pass(&mut self, count: usize)
+        requires { count ≤ length (held self.old) }
+        ensures held { held self.new ≡ drop count (held self.old) }
+        ensures start { self.new.start ≡ self.old.start + count }
+        ensures bytes { self.new.bytes.items ≡ self.old.bytes.items }
+    {
+        self.start += count;
+    }
+
+    /// Takes the body that is there whole, between these indexes of what was not looked at.
+    fn whole(&mut self, from: usize, to: usize) -> Next
+        requires whole { Unframes (held self.old) (stands.Whole from to) }
+        requires rises { from ≤ to }
+        ensures next { IsNext result self.new (held self.old) }
+        ensures more { result ≢ comes.Next.End }
+    {
+        self.pass(to);
+        Next::Body(self.start - (to - from), self.start)
+    }
+
+    /// Passes over a body of so many bytes, which is larger than it may be, and begins at this index of what was not
+    /// looked at.
+    fn large<R: Read>(&mut self, reader: &mut R, from: usize, length: u64) -> Result<Next, Fault>
+        requires { Unframes (held self.old) (stands.Large from length) }
+        ensures next { IfOk result (λ next. (came : List ℕ)
+            × Consumes (R.remaining reader.old) (R.remaining reader.new) came
+            × IsNext next self.new (held self.old ++ came)) }
+        ensures more { IfOk result (λ next. next ≢ comes.Next.End) }
+    {
+        self.pass(from);
+        match self.pass_over(reader, length) {
+            Ok(()) => Ok(Next::Large),
+            Err(fault) => Err(fault),
+        }
+    }
+
+    /// Passes over so many bytes, and reads them as far as they are not there.
+    fn pass_over<R: Read>(&mut self, reader: &mut R, count: u64) -> Result<(), Fault>
+        ensures { OnOk result ((came : List ℕ) × (passed : List ℕ)
+            × Consumes (R.remaining reader.old) (R.remaining reader.new) came
+            × (held self.old ++ came ≡ passed ++ held self.new) × (length passed ≡ count)) }
+    {
+        let mut left = count;
+        for _ in 0..u64::MAX {
+            let there = self.rest().len() as u64;
+            if left <= there {
+                self.pass(left as usize);
+                return Ok(());
+            }
+            left -= there;
+            self.pass(there as usize);
+            if !self.read_more(reader)? {
+                return Err(Fault::ReadFailed);
+            }
+        }
+        Err(Fault::ReadFailed)
+    }
+
+    /// Reads some bytes more; whether there were any.
     fn read_more<R: Read>(&mut self, reader: &mut R) -> Result<bool, Fault>
-        ensures { IfOk result (λ more. more ≡ false → IsAtEnd (R.remaining reader.new)) }
+        ensures reads { IfOk result (λ more. (came : List ℕ)
+            × Consumes (R.remaining reader.old) (R.remaining reader.new) came
+            × (held self.new ≡ held self.old ++ came)) }
+        ensures ends { IfOk result (λ more. more ≡ false → IsAtEnd (R.remaining reader.new)) }
     {
         self.drop_looked_at();
         let mut chunk = [0; CHUNK];
-        let count = read_some(reader, &mut chunk)?;
-        let read = chunk.get(..count).unwrap_or(&[]);
-        self.bytes.extend_from_slice(read)?;
-        Ok(count > 0)
+        match read_some(reader, &mut chunk) {
+            Ok(count) => self.keep(&chunk[..count]),
+            Err(fault) => Err(fault),
+        }
+    }
+
+    /// Keeps bytes that were read, behind the others; whether there were any.
+    fn keep(&mut self, read: &[u8]) -> Result<bool, Fault>
+        requires { self.old.start ≡ 0 }
+        ensures held { OnOk result (held self.new ≡ held self.old ++ read.now) }
+        ensures any { IfOk result (λ more. more ≡ false → read.now ≡ []) }
+    {
+        match self.bytes.extend_from_slice(read) {
+            Ok(()) => Ok(!read.is_empty()),
+            Err(_) => Err(Fault::Memory),
+        }
     }
 
     /// Takes what was looked at off the front.
-    fn drop_looked_at(&mut self) {
+    fn drop_looked_at(&mut self)
+        ensures held { held self.new ≡ held self.old }
+        ensures start { self.new.start ≡ 0 }
+    {
         if self.start >= self.bytes.len() {
             self.bytes.clear();
-        } else if self.start > 0 {
-            let left = self.bytes.len().saturating_sub(self.start);
+        } else {
+            let left = self.bytes.len() - self.start;
             self.bytes.as_mut_slice().rotate_left(self.start);
             self.bytes.truncate(left);
         }
@@ -120,8 +196,10 @@ impl Input {
     }
 
     /// What comes where the reader is at its end: nothing, unless it ended inside a message.
-    fn ended(&self) -> Result<Next, Fault> {
-        if self.bytes.is_empty() && self.skip == 0 {
+    fn ended(&self) -> Result<Next, Fault>
+        ensures { IfOk result (λ next. (next ≡ comes.Next.End) × (held self.now ≡ [])) }
+    {
+        if self.rest().is_empty() {
             Ok(Next::End)
         } else {
             Err(Fault::ReadFailed)
@@ -132,7 +210,10 @@ impl Input {
 /// Reads some bytes; how many they are.
 fn read_some<R: Read>(reader: &mut R, chunk: &mut [u8]) -> Result<usize, Fault>
     requires { 0 < length chunk.old }
-    ensures { IfOk result (λ count. count ≡ 0 → IsAtEnd (R.remaining reader.new)) }
+    ensures within { IfOk result (λ count. count ≤ length chunk.new) }
+    ensures reads { IfOk result (λ count.
+        Consumes (R.remaining reader.old) (R.remaining reader.new) (take count chunk.new)) }
+    ensures ends { IfOk result (λ count. count ≡ 0 → IsAtEnd (R.remaining reader.new)) }
 {
     for _ in 0..u64::MAX {
         match reader.read(chunk) {

@@ -5,6 +5,8 @@ ghost use Rattle.dap_server.specs.Sent.{Sends};
 ghost use Rattle.dap_server.specs.Session.{Exchange, Serves};
 ghost use Rattle.dap_server.specs.Short.{short_bodies, short_line};
 ghost use Rattle.dap_server.specs.declared.input.Next as comes;
+ghost use Rattle.dap_server.specs.internal.Reading.{IsNext, held};
+ghost use Rattle.dap_server.specs.internal.Serving.{Hears, ServesFrom};
 
 use crate::adapter::Adapter;
 use crate::batch::batch_of;
@@ -37,7 +39,8 @@ pub fn serve<R: Read, W: Write, C, A: Adapter<C>>(
     adapter: &mut A,
 ) -> Result<(), Fault>
     ensures serves { OnOk result ((after : ℕ)
-        × Serves A.answers A.over adapter.old 1 adapter.new after (W.contents writer.old) (W.contents writer.new)) }
+        × Serves A.answers A.over adapter.old 1 adapter.new after (R.remaining reader.old) (R.remaining reader.new)
+        (W.contents writer.old) (W.contents writer.new)) }
     ensures ends { OnOk result ((A.over adapter.new ≡ true) ⊎ IsAtEnd (R.remaining reader.new)) }
 {
     match Server::new(alloc) {
@@ -58,7 +61,8 @@ struct Server {
 impl Server {
     /// Nothing has been read. It is an error if there is no memory.
     fn new(alloc: Global) -> Result<Server, AllocError>
-        ensures { IfOk result (λ server. server.next ≡ 1) }
+        ensures next { IfOk result (λ server. server.next ≡ 1) }
+        ensures held { IfOk result (λ server. held server.input ≡ []) }
     {
         let room = Room::new(alloc)?;
         Ok(Server {
@@ -77,9 +81,11 @@ impl Server {
         context: &C,
         adapter: &mut A,
     ) -> Result<(), Fault>
-        ensures serves { OnOk result (Serves A.answers A.over adapter.old self.old.next adapter.new self.new.next
+        ensures serves { OnOk result (ServesFrom A.answers A.over adapter.old self.old.next adapter.new self.new.next
+            (held self.old.input) (held self.new.input) (R.remaining reader.old) (R.remaining reader.new)
             (W.contents writer.old) (W.contents writer.new)) }
-        ensures ends { OnOk result ((A.over adapter.new ≡ true) ⊎ IsAtEnd (R.remaining reader.new)) }
+        ensures ends { OnOk result ((A.over adapter.new ≡ true)
+            ⊎ (IsAtEnd (R.remaining reader.new) × (held self.new.input ≡ []))) }
     {
         for turn in 0..u64::MAX {
             if adapter.is_over() {
@@ -104,9 +110,12 @@ impl Server {
         adapter: &mut A,
     ) -> Result<bool, Fault>
         requires { A.over adapter.old ≡ false }
-        ensures serves { IfOk result (λ more. Serves A.answers A.over adapter.old self.old.next adapter.new self.new.next
+        ensures serves { IfOk result (λ more.
+            ServesFrom A.answers A.over adapter.old self.old.next adapter.new self.new.next
+            (held self.old.input) (held self.new.input) (R.remaining reader.old) (R.remaining reader.new)
             (W.contents writer.old) (W.contents writer.new)) }
-        ensures ends { IfOk result (λ more. more ≡ false → IsAtEnd (R.remaining reader.new)) }
+        ensures ends { IfOk result (λ more. more ≡ false
+            → IsAtEnd (R.remaining reader.new) × (held self.new.input ≡ [])) }
     {
         match self.input.next(reader) {
             Ok(next) => self.serve_message(writer, context, adapter, next),
@@ -123,9 +132,11 @@ impl Server {
         next: Next,
     ) -> Result<bool, Fault>
         requires { A.over adapter.old ≡ false }
-        ensures serves { IfOk result (λ more. Serves A.answers A.over adapter.old self.old.next adapter.new self.new.next
+        ensures serves { IfOk result (λ more. (bytes : List ℕ) → IsNext next self.old.input bytes →
+            Hears A.answers A.over adapter.old self.old.next adapter.new self.new.next bytes (held self.old.input)
             (W.contents writer.old) (W.contents writer.new)) }
         ensures ends { IfOk result (λ more. more ≡ false → next ≡ comes.Next.End) }
+        ensures input { self.new.input ≡ self.old.input }
     {
         match next {
             Next::Body(from, to) => self.hear(writer, context, adapter, from, to),
@@ -140,6 +151,7 @@ impl Server {
             × Sends (short_line line self.old.next ∷ []) (W.contents writer.old) (W.contents writer.new) self.old.next
             self.new.next) }
         ensures on { IfOk result (λ more. more ≡ true) }
+        ensures input { self.new.input ≡ self.old.input }
     {
         match self.tell(writer, "a message of more than 4 MB is passed over") {
             Ok(()) => Ok(true),
@@ -157,9 +169,11 @@ impl Server {
         to: usize,
     ) -> Result<bool, Fault>
         requires { A.over adapter.old ≡ false }
-        ensures serves { IfOk result (λ more. Serves A.answers A.over adapter.old self.old.next adapter.new self.new.next
+        ensures serves { IfOk result (λ more. (bytes : List ℕ) → IsNext (comes.Next.Body from to) self.old.input bytes →
+            Hears A.answers A.over adapter.old self.old.next adapter.new self.new.next bytes (held self.old.input)
             (W.contents writer.old) (W.contents writer.new)) }
         ensures on { IfOk result (λ more. more ≡ true) }
+        ensures input { self.new.input ≡ self.old.input }
     {
         match self.take(writer, context, adapter, from, to) {
             Ok(()) => Ok(true),
@@ -177,8 +191,10 @@ impl Server {
         to: usize,
     ) -> Result<(), Fault>
         requires { A.over adapter.old ≡ false }
-        ensures { OnOk result (Serves A.answers A.over adapter.old self.old.next adapter.new self.new.next
+        ensures serves { OnOk result ((bytes : List ℕ) → IsNext (comes.Next.Body from to) self.old.input bytes →
+            Hears A.answers A.over adapter.old self.old.next adapter.new self.new.next bytes (held self.old.input)
             (W.contents writer.old) (W.contents writer.new)) }
+        ensures input { self.new.input ≡ self.old.input }
     {
         match read_request(self.alloc, self.input.body(from, to)) {
             Ok(request) => self.answer(writer, context, adapter, &request),
@@ -194,9 +210,10 @@ impl Server {
         adapter: &mut A,
         request: &Request,
     ) -> Result<(), Fault>
-        ensures { OnOk result ((sent : List (List ℕ))
+        ensures answers { OnOk result ((sent : List (List ℕ))
             × Exchange A.answers adapter.old request.now self.old.next sent adapter.new
             × Sends sent (W.contents writer.old) (W.contents writer.new) self.old.next self.new.next) }
+        ensures input { self.new.input ≡ self.old.input }
     {
         let answer = adapter.answer(context, request);
         let gist = gist_of(&answer);
@@ -213,9 +230,10 @@ impl Server {
         request: &Request,
         gist: Gist,
     ) -> Result<(), Fault>
-        ensures { OnOk result
+        ensures sends { OnOk result
             (Sends (short_bodies request.now gist self.old.next) (W.contents writer.old) (W.contents writer.new)
             self.old.next self.new.next) }
+        ensures input { self.new.input ≡ self.old.input }
     {
         match self.room.answer(request, gist, self.next) {
             Ok(()) => send(writer, &self.room.batch, &mut self.next),
@@ -225,9 +243,10 @@ impl Server {
 
     /// Tells a line.
     fn tell<W: Write>(&mut self, writer: &mut W, line: &str) -> Result<(), Fault>
-        ensures { OnOk result
+        ensures sends { OnOk result
             (Sends (short_line line.now self.old.next ∷ []) (W.contents writer.old) (W.contents writer.new)
             self.old.next self.new.next) }
+        ensures input { self.new.input ≡ self.old.input }
     {
         match self.room.tell(line, self.next) {
             Ok(()) => send(writer, &self.room.batch, &mut self.next),

@@ -4,8 +4,8 @@ use Rattle.dap_server.specs.Short.{short_line}
 use Rattle.dap_server.proofs.Sending.{sends_all}
 use Rattle.dap_server.proofs.server.Server.tell.Goals as goal
 
-pub returns-in-Ok : goal.returns-in-Ok
-returns-in-Ok g c =
+pub returns-in-Ok-clause-sends : goal.returns-in-Ok-clause-sends
+returns-in-Ok-clause-sends g c =
     on_ok_weaker c.send.result
     (sends_all (short_line c.args.line.now c.args.self.now.next ∷ []) c.tell.new.self.batch (g.W.Write.contents c.args.writer.now)
     (g.W.Write.contents c.send.new.writer) c.args.self.now.next c.send.new.next c.in-Ok.ensures) c.send.ensures
