@@ -4,6 +4,6 @@ use Rattle.shell_desk.proofs.bench.Bench.ask.Goals as goal
 
 pub returns-clause-asked : goal.returns-clause-asked
 returns-clause-asked g c =
-    asked-noted c.args.self.now c.note.new.self c.answered.new.desk c.args.command.now c.answered.result.0
-    (made_of c.answered.result.1) c.answered.ensures.answers c.answered.ensures.system c.answered.ensures.numbers
+    asked-noted c.args.self.now c.note.new.self c.answered-reply.new.desk c.args.command.now c.answered-reply.result.0
+    (made_of c.answered-reply.result.1) c.answered-reply.ensures.answers c.answered-reply.ensures.system c.answered-reply.ensures.numbers
     c.note.ensures.desk c.note.ensures.session c.note.ensures.numbered c.note.ensures.branch c.note.ensures.stopped

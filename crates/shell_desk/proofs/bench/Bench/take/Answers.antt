@@ -9,7 +9,7 @@ returns-in_default g c = take-none c.args.self.now c.args.step c.if-step-eq0.fal
 
 pub returns : goal.returns
 returns g c =
-    take-asked c.args.self.now c.note.new.self c.args.step c.in-Some.command.now c.answered.result.0 c.if-step-eq0.false (search rules)
-    (asked-noted c.args.self.now c.note.new.self c.answered.new.desk c.in-Some.command.now c.answered.result.0
-    (made_of c.answered.result.1) c.answered.ensures.answers c.answered.ensures.system c.answered.ensures.numbers
+    take-asked c.args.self.now c.note.new.self c.args.step c.in-Some.command.now c.answered-reply.result.0 c.if-step-eq0.false (search rules)
+    (asked-noted c.args.self.now c.note.new.self c.answered-reply.new.desk c.in-Some.command.now c.answered-reply.result.0
+    (made_of c.answered-reply.result.1) c.answered-reply.ensures.answers c.answered-reply.ensures.system c.answered-reply.ensures.numbers
     c.note.ensures.desk c.note.ensures.session c.note.ensures.numbered c.note.ensures.branch c.note.ensures.stopped)

@@ -1,6 +1,0 @@
-use Rattle.std.proofs.Common.{◌≡◌, map, take}
-use Rattle.shell_desk.specs.Does.{step_of}
-use Rattle.shell_desk.proofs.ask.number_all.Given as goal
-
-abbrev pub invariant-loop-event : goal.invariant-loop-event
-invariant-loop-event l = l.numbered.items ≡ map step_of (take l.event-index l.events)
