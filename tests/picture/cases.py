@@ -91,7 +91,8 @@ def waiting(lanes: int, turns: int) -> Case:
     """So many branches that wait from the start on for nobody, beside one that counts, so often; where it does not, it is not there."""
     names = ", ".join(f"s{number}" for number in range(lanes))
     branches = ["loop x := (x + 1 as byte) end"] * bool(turns) + [f"sync s{number}" for number in range(lanes)]
-    source = (f"type byte is 8 bits\nprocedure waiting is\n  sync {names}\n  variable x : byte\nbegin\n  " + " || ".join(branches) + "\nend\n")
+    source = (f"type byte is 8 bits\nprocedure waiting is\n  sync {names}\n  variable x : byte\nbegin\n  "
+              + " || ".join(branches) + "\nend\n")
     lines = "".join(f"step /0/0.{turn} 0\n" for turn in range(turns))
     return Case(f"waiting_{lanes}_beside_{turns}", source.encode(), b"", HEADER + lines.encode())
 

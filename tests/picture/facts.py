@@ -79,7 +79,9 @@ class End:
         for number, tree in enumerate(machine.state.trees):
             for move in moves_of(tree, branch((), number), machine.state.store):
                 offered.setdefault(move.place, []).append(move)
-        self.waiting = {place: [(move, partner(machine, move)) for move in offered[place]] for place in sorted(offered) if place not in taken}
+        self.waiting = {
+            place: [(move, partner(machine, move)) for move in offered[place]] for place in sorted(offered) if place not in taken
+        }
         self.standing = [*self.waiting, *taken]
 
     def places(self) -> list[list]:
@@ -183,8 +185,8 @@ def told(data: dict) -> dict:
     rows = []
     for row in data["events"]:
         shown = lanes(row)
-        made = {"kind": row[0].split()[0], "text": row[0], "lanes": shown, "lines": row[3:3 + len(shown)], "depth": row[5], "written": row[6], "reads": row[7],
-                "followers": row[8]}
+        made = {"kind": row[0].split()[0], "text": row[0], "lanes": shown, "lines": row[3:3 + len(shown)], "depth": row[5],
+                "written": row[6], "reads": row[7], "followers": row[8]}
         if len(shown) == 2:
             made["since"] = row[9]
         rows.append(made)
@@ -317,6 +319,8 @@ def data_faults(case: Case, drawer: object) -> list[str]:
     data = json.loads(text)
     if data["picture"] != 1 or data["tickets"] != 1 or data["source"] != case.source.decode("utf-8", "replace"):
         return ["version, tickets or source"]
+    if data["files"] != ["c.balsa", "c.stimulus", "c.trace"]:
+        return [f"files {data['files']}"]
     if found := faults_of(data):
         return found
     if len(data["events"]) >= 4000:

@@ -40,10 +40,11 @@ class Ground:
         root = description.root.procedure
         self.enter(root, "", -1, root.body.line, "", {port.channel.name: port.channel.number for port in system.environment})
         self.walk(root.body, (0,), 0)
-        ports = [[f"/{number}", -1, 0, PORTS[port.channel.kind][0], port.channel.number] for number, port in enumerate(system.environment, 1)]
+        outside = [(f"/{number}", port.channel) for number, port in enumerate(system.environment, 1)]
+        ports = [[lane, -1, 0, PORTS[channel.kind][0], channel.number] for lane, channel in outside]
         body = [[text_of(path), block, line, "body", -1] for path, (block, line) in sorted(self.first.items())]
         self.lanes = [lane for lane in ports if lane[3] != "out"] + body + [lane for lane in ports if lane[3] == "out"]
-        self.uses += [(port.channel.number, PORTS[port.channel.kind][1], f"/{number}") for number, port in enumerate(system.environment, 1)]
+        self.uses += [(channel.number, PORTS[channel.kind][1], lane) for lane, channel in outside]
 
     def enter(self, procedure: object, prefix: str, parent: int, line: int, arguments: str, names: dict[str, int]) -> int:
         """A block of its own, with the channels that its names stand for."""

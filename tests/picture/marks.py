@@ -119,9 +119,8 @@ class Drawn:
         return self.pieces[self.at].kind()
 
     def is_frame(self) -> bool:
-        """Whether a frame around a mark comes next: an area over which a mark is drawn."""
-        return self.kind() == "area" and self.at + 1 < len(self.pieces) and self.pieces[self.at + 1].kind() not in BEFORE \
-            and self.pieces[self.at].words["height"] == "20"
+        """Whether a frame around a mark comes next: an area wider than any bar, over which a mark is drawn."""
+        return self.kind() == "area" and self.pieces[self.at + 1].kind() not in BEFORE and Decimal(self.pieces[self.at].words["width"]) > 15
 
     def mark(self, number: int, kind: str) -> Mark:
         frame = None
@@ -229,7 +228,8 @@ def marked_faults(facts: Facts, plain: Drawn, drawing: bytes, at: int, quiet: bo
             rest |= told
     if len(rest) > 1 or rest & {own, *map(bytes.decode, named.groups())} or len({own, *map(bytes.decode, named.groups())}) != 3:
         found.append(f"the rest is in {rest}, the event in {own}, causes and consequences in {named.groups()}")
-    pieces = [piece.shape() for piece in drawn.pieces[:-1] if piece not in [mark.frame for mark in drawn.marks]]
+    frames = [mark.frame for mark in drawn.marks if mark.frame is not None]
+    pieces = [piece.shape() for piece in drawn.pieces[:-1] if piece not in frames]
     if pieces != [piece.shape() for piece in plain.pieces[:-1]]:
         found.append("more than colours differ")
     return found + lane_faults(drawn, events_of(facts, quiet), at, causes, named[1].decode()) \
