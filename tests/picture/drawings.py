@@ -11,6 +11,7 @@ from pathlib import Path
 
 from cases import Case
 from facts import Facts
+from marks import marked_faults, plain_faults, quiet_faults, race_faults, taken_apart
 from reference.debugger import accept
 from reference.traces import load
 
@@ -116,18 +117,36 @@ def drawing_faults(case: Case, drawer: Drawer, small: bool) -> list[str]:
     drawing = drawer.draw("--svg")
     if drawer.draw("--svg") != drawing:
         return ["two calls differ"]
-    found = well_formed(drawer, drawing) + well_formed(drawer, drawer.draw("--svg", "--quiet"))
+    quiet = drawer.draw("--svg", "--quiet")
+    found = well_formed(drawer, drawing) + well_formed(drawer, quiet)
     if found or not small:
         return found
-    count = len(drawer.facts.events)
-    for ticket in sorted({1, count // 2, count} & set(range(1, count + 1))):
-        marked = drawer.draw("--svg", "--event", str(ticket))
-        told = STATE.search(marked)
-        wanted = drawer.facts.cone_sizes(ticket - 1)
-        if told is None or (int(told[1]), int(told[2])) != wanted:
-            return [f"--event {ticket}: told {told and told[0]}, wanted {wanted}"]
-        found += well_formed(drawer, marked)
+    try:
+        return shown_faults(drawer, drawing, quiet)
+    except ValueError as fault:
+        return [str(fault)]
+
+
+def shown_faults(drawer: Drawer, drawing: bytes, quiet: bytes) -> list[str]:
+    """Whether the events are drawn and marked as they have to be, without turns and tests too."""
+    facts = drawer.facts
+    whole, less = taken_apart(facts, drawing, False), taken_apart(facts, quiet, True)
+    found = plain_faults(whole) + plain_faults(less) + quiet_faults(facts, whole, less) + race_faults(facts, whole)
+    for ticket in tickets(len(facts.events), drawer.case.name):
+        for plain, words in ((whole, ()), (less, ("--quiet",))):
+            marked = drawer.draw("--svg", "--event", str(ticket), *words)
+            told, wanted = STATE.search(marked), facts.cone_sizes(ticket - 1)
+            if told is None or (int(told[1]), int(told[2])) != wanted:
+                return [f"--event {ticket}: told {told and told[0]}, wanted {wanted}"]
+            faults = marked_faults(facts, plain, marked, ticket - 1, bool(words))
+            found += [f"--event {ticket} {' '.join(words)}: {fault}" for fault in faults] + well_formed(drawer, marked)
     return found
+
+
+def tickets(count: int, name: str) -> list[int]:
+    """The tickets of the events that are asked for: the first, the last, and one or three between."""
+    step = max(1, count // 2 if name.startswith("random_") else count // 4)
+    return sorted({1, *range(step, count, step), count} & set(range(1, count + 1)))
 
 
 # --- the page, and refusals

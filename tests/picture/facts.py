@@ -73,6 +73,13 @@ def race(earlier: Event, later: Event) -> bool:
     return earlier.channel is None or earlier.channel != later.channel
 
 
+def orders_by(earlier: Event, later: Event) -> int:
+    """The number of the variable that orders the two: where the later reads what the earlier wrote, that one."""
+    if earlier.writes is not None and earlier.writes in later.reads:
+        return earlier.writes.number
+    return later.writes.number
+
+
 def lines_of(event: Event) -> list[int]:
     return [move.command.line if move.command is not None else 0 for move in event.moves]
 
@@ -120,6 +127,7 @@ def facts(case: Case) -> dict:
     for at, event in enumerate(events):
         lanes, lines = [lane_of(place) for place in event.places], lines_of(event)
         row = {
+            "kind": event.text.split()[0],
             "text": event.text,
             "lanes": lanes,
             "lines": lines,
@@ -140,7 +148,8 @@ def facts(case: Case) -> dict:
         ),
         "lanes": sorted(lanes_of(system)),
         "events": rows,
-        "races": [[one, at] for at, kept in enumerate(causes) for one in kept if race(events[one], events[at])],
+        "races": [[one, at, orders_by(events[one], events[at])] for at, kept in enumerate(causes) for one in kept
+                  if race(events[one], events[at])],
         "ready": [[event.text, [lane_of(place) for place in event.places], lines_of(event), step_line(event)] for event in machine.ready()],
         "places": stands(machine),
     }
@@ -156,7 +165,7 @@ def told(data: dict) -> dict:
     rows = []
     for row in data["events"]:
         shown = lanes(row)
-        made = {"text": row[0], "lanes": shown, "lines": row[3:3 + len(shown)], "depth": row[5], "written": row[6], "reads": row[7],
+        made = {"kind": row[0].split()[0], "text": row[0], "lanes": shown, "lines": row[3:3 + len(shown)], "depth": row[5], "written": row[6], "reads": row[7],
                 "followers": row[8]}
         if len(shown) == 2:
             made["since"] = row[9]
@@ -167,7 +176,7 @@ def told(data: dict) -> dict:
         "feeds": sorted([paths[lane], count] for lane, count in data["feeds"]),
         "lanes": sorted(paths),
         "events": rows,
-        "races": [race[:2] for race in data["races"]],
+        "races": data["races"],
         "ready": [[row[0], lanes(row), row[3:3 + len(lanes(row))], row[5]] for row in data["ready"]],
         "places": [[paths[row[0]], *row[1:4], [channel for channel, _, _ in row[4]], row[5]] for row in data["places"]],
     }

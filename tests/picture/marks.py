@@ -1,0 +1,280 @@
+"""What a drawing shows of each event, read from its text: its mark, and in which colour it is drawn.
+
+The text names no event. But events are drawn one behind the other in the order of the trace, each as a mark of its kind with its words
+behind it, and these end or begin with its number (the end of an enclosed command is a dashed line without one). So the marks are read
+in that order, and one too many, one too few or one with another number is a fault.
+"""
+
+from __future__ import annotations
+
+import re
+from dataclasses import dataclass, field
+from decimal import Decimal
+from xml.etree import ElementTree
+
+from facts import Facts
+
+PAPER = "#ffffff"
+NUMBERS = {"assign": r"(\d+)", "turn": r"(\d+)", "test": r"(\d+)", "meet": r"#(\d+)", "open": r"#(\d+)", "sync": r"#(\d+)"}
+QUIET = ("turn", "test")
+
+
+@dataclass(frozen=True)
+class Piece:
+    """A shape, or a text with the paper under it."""
+
+    tag: str
+    words: dict[str, str]
+    text: str = ""
+    under: str = ""
+
+    def kind(self) -> str:
+        words, path = self.words, self.words.get("d", "")
+        if self.tag == "line":
+            return "line " + words["stroke-width"] + (" broken" if "stroke-dasharray" in words else "")
+        if self.tag == "circle":
+            return "circle " + words["r"]
+        if self.tag == "rect":
+            return "area" if "rx" in words else "square"
+        if self.tag == "path":
+            return "curve" if words["fill"] == "none" else "diamond" if path.endswith("l4 4l-4 4l-4 -4z") else "arrow"
+        return self.tag
+
+    def colours(self) -> set[str]:
+        return {self.words[name] for name in ("fill", "stroke") if name in self.words} - {PAPER, "none"}
+
+    def shape(self) -> tuple:
+        """All of it but its colours."""
+        return self.tag, sorted((name, word) for name, word in self.words.items() if name not in ("fill", "stroke")), self.text
+
+
+# the pieces of the mark of each kind of event; the head of an arrow where a value passes, a second dot where none does
+PAIR = ("line 1.7", "circle 3.2", "circle 3.2"), ("line 1.7", "circle 3.2", "arrow")
+MARKS = {"assign": (("square",),), "turn": (("circle 3",),), "test": (("diamond",),), "close": (("line 1 broken",),),
+         "meet": PAIR, "open": PAIR, "sync": PAIR[:1]}
+# what is drawn before the events and behind them
+BEFORE = {"line 2", "line 2 broken", "area", "curve", "text"}
+
+
+@dataclass
+class Mark:
+    """An event as it is drawn: the frame around it, its pieces, and its words, the number first."""
+
+    kind: str
+    frame: Piece | None
+    pieces: list[Piece]
+    words: list[Piece] = field(default_factory=list)
+
+    def colours(self) -> set[str]:
+        return set().union(*(piece.colours() for piece in self.pieces))
+
+    def points(self) -> list[tuple[Decimal, Decimal]]:
+        """Where it stands in each of its columns."""
+        words = self.pieces[0].words
+        match self.kind:
+            case "assign":
+                return [(Decimal(words["x"]) + 4, Decimal(words["y"]) + 4)]
+            case "turn":
+                return [(Decimal(words["cx"]), Decimal(words["cy"]))]
+            case "test":
+                x, y = words["d"].partition("l")[0][1:].split()
+                return [(Decimal(x), Decimal(y) + 4)]
+        return ends_of(words)
+
+
+def ends_of(words: dict[str, str]) -> list[tuple[Decimal, Decimal]]:
+    """The ends of a line."""
+    return [(Decimal(words["x" + end]), Decimal(words["y" + end])) for end in "12"]
+
+
+def pieces_of(drawing: bytes) -> list[Piece]:
+    """What is drawn, in order. The paper under a text is taken together with it."""
+    found, under = [], None
+    for one in list(ElementTree.fromstring(drawing))[2:]:
+        tag, words = one.tag.rpartition("}")[2], dict(one.attrib)
+        if "opacity" in words:
+            under = words["fill"]
+        else:
+            text = "".join(one.itertext()) if tag == "text" else ""
+            found.append(Piece(tag, words, text, under or ""))
+            under = None
+    return found
+
+
+class Drawn:
+    """A drawing, taken apart: what is under the events, the events of these kinds, what is behind them, and the line over all."""
+
+    def __init__(self, drawing: bytes, kinds: list[str]) -> None:
+        self.pieces = pieces_of(drawing)
+        self.title, self.at = self.pieces[-1], 0
+        while self.at < len(self.pieces) - 1 and self.kind() in BEFORE and not self.is_frame():
+            self.at += 1
+        self.under = self.pieces[:self.at]
+        self.marks = [self.mark(number, kind) for number, kind in enumerate(kinds)]
+        self.behind = self.pieces[self.at:-1]
+        if any(piece.kind() in ("circle 3", "circle 3.2", "line 1.7", "line 1 broken", "diamond") for piece in self.behind):
+            raise ValueError("there are marks of more events")
+
+    def kind(self) -> str:
+        return self.pieces[self.at].kind()
+
+    def is_frame(self) -> bool:
+        """Whether a frame around a mark comes next: an area over which a mark is drawn."""
+        return self.kind() == "area" and self.at + 1 < len(self.pieces) and self.pieces[self.at + 1].kind() not in BEFORE \
+            and self.pieces[self.at].words["height"] == "20"
+
+    def mark(self, number: int, kind: str) -> Mark:
+        frame = None
+        if self.is_frame():
+            frame, self.at = self.pieces[self.at], self.at + 1
+        for pieces in MARKS[kind]:
+            taken = self.pieces[self.at:self.at + len(pieces)]
+            if tuple(piece.kind() for piece in taken) == pieces:
+                self.at += len(pieces)
+                break
+        else:
+            raise ValueError(f"where the mark of the {number + 1}. event, {kind}, is wanted: {[piece.kind() for piece in taken]}")
+        mark = Mark(kind, frame, taken)
+        while self.pieces[self.at].tag == "text" and self.pieces[self.at].under:
+            if self.pieces[self.at].text == "now" and self.pieces[self.at].words["x"] == "30":
+                break
+            mark.words.append(self.pieces[self.at])
+            self.at += 1
+        return mark
+
+    # --- what is drawn beside the marks
+
+    def bars(self) -> int:
+        return sum(piece.kind() == "area" for piece in self.under)
+
+    def races(self) -> list[str]:
+        """The variables that stand beside the curves."""
+        return sorted(piece.text for piece in self.under if piece.tag == "text")
+
+    def end(self) -> list[tuple[str, str]]:
+        """What stands under the rows: the pieces of it, with their texts."""
+        edge = [at for at, piece in enumerate(self.behind) if piece.text == "now"]
+        behind = [at for at, piece in enumerate(self.behind) if piece.tag == "text" and not piece.under]
+        return [(piece.kind(), piece.text) for piece in self.behind[edge[0] - 1:behind[0]]] if edge else []
+
+    def heads(self) -> list[str]:
+        """What stands over the columns, but for the numbers of rows."""
+        return [piece.text for piece in self.behind if piece.tag == "text" and not piece.under and piece.words["x"] != "30"]
+
+
+def numbers(drawn: Drawn) -> list[int | None]:
+    """The numbers of the events that are drawn, or None where none stands beside the mark."""
+    found = []
+    for mark in drawn.marks:
+        form = NUMBERS.get(mark.kind)
+        if form is None:
+            found.append(None if not mark.words else -1)
+            continue
+        text = mark.words[-1 if mark.kind in ("assign", "turn", "test") else 0].text if mark.words else ""
+        number = re.fullmatch(form, text)
+        found.append(int(number[1]) if number else -1)
+    return found
+
+
+def fits(text: str, whole: str) -> bool:
+    """Whether the text is the whole, or a beginning of it with three dots."""
+    return text == whole or text.endswith("...") and whole.startswith(text[:-3])
+
+
+# --- what has to be so
+
+COLOURS = re.compile(rb'<tspan fill="([^"]+)"[^>]*>\d+ causes</tspan> and <tspan fill="([^"]+)"[^>]*>\d+ consequences</tspan>')
+
+
+def events_of(facts: Facts, quiet: bool) -> list[int]:
+    """The indexes of the events that are to be drawn."""
+    return [at for at, event in enumerate(facts.events) if not (quiet and event["kind"] in QUIET)]
+
+
+def taken_apart(facts: Facts, drawing: bytes, quiet: bool) -> Drawn:
+    """The drawing, in which exactly the events that are wanted are drawn, each under its number."""
+    wanted = events_of(facts, quiet)
+    drawn = Drawn(drawing, [facts.events[at]["kind"] for at in wanted])
+    told = [None if facts.events[at]["kind"] == "close" else at + 1 for at in wanted]
+    if numbers(drawn) != told:
+        raise ValueError(f"the numbers are {numbers(drawn)}, wanted {told}")
+    return drawn
+
+
+def plain_faults(drawn: Drawn) -> list[str]:
+    """Where none is asked for, all marks are in one colour, and none has a frame."""
+    found = {colour for mark in drawn.marks for colour in mark.colours()}
+    if len(found) > 1 or any(mark.frame for mark in drawn.marks):
+        return [f"colours {found}, frames {[mark.frame for mark in drawn.marks if mark.frame]}"]
+    return []
+
+
+def marked_faults(facts: Facts, plain: Drawn, drawing: bytes, at: int, quiet: bool) -> list[str]:
+    """Whether exactly the causes of an event are in the causes' colour, exactly the consequences in theirs, the event itself in its own
+    and in a frame, and the rest in a fourth; and whether all else is as in the drawing in which none is asked for."""
+    drawn, named = taken_apart(facts, drawing, quiet), COLOURS.search(drawing)
+    causes, consequences = set(facts.causes(at)), set(facts.consequences(at))
+    wanted = {**dict.fromkeys(causes, named[1].decode()), **dict.fromkeys(consequences, named[2].decode())}
+    own = plain.marks[0].pieces[0].words["stroke"] if plain.marks else ""
+    rest, found = set(), []
+    for index, mark in zip(events_of(facts, quiet), drawn.marks):
+        told = mark.colours()
+        words = {colour for word in mark.words for colour in word.colours()}
+        if index == at:
+            if told != {own} or mark.frame is None or words & set(wanted.values()):
+                found.append(f"event {index + 1} itself: {told}, words {words}, frame {mark.frame}")
+        elif mark.frame is not None or words | told != {wanted.get(index, "")} and index in wanted or len(words | told) != 1:
+            found.append(f"event {index + 1}: {told}, words {words}, frame {mark.frame}, wanted {wanted.get(index, 'the rest')}")
+        elif index not in wanted:
+            rest |= told
+    if len(rest) > 1 or rest & {own, *map(bytes.decode, named.groups())} or len({own, *map(bytes.decode, named.groups())}) != 3:
+        found.append(f"the rest is in {rest}, the event in {own}, causes and consequences in {named.groups()}")
+    pieces = [piece.shape() for piece in drawn.pieces[:-1] if piece not in [mark.frame for mark in drawn.marks]]
+    if pieces != [piece.shape() for piece in plain.pieces[:-1]]:
+        found.append("more than colours differ")
+    return found + lane_faults(drawn, events_of(facts, quiet), at, causes, named[1].decode()) \
+        + lane_faults(drawn, events_of(facts, quiet), at, consequences, named[2].decode())
+
+
+def lane_faults(drawn: Drawn, shown: list[int], at: int, cone: set[int], colour: str) -> list[str]:
+    """The line of a lane between two events is in a colour exactly where both are, or one of them and the event itself."""
+    found: dict[tuple[Decimal, Decimal], set[int]] = {}
+    for index, mark in zip(shown, drawn.marks):
+        for point in mark.points():
+            found.setdefault(point, set()).add(index)
+    faults = []
+    for piece in drawn.under:
+        ends = [found.get(end, set()) for end in ends_of(piece.words)] if piece.tag == "line" else []
+        if [len(end) for end in ends] != [1, 1]:
+            continue
+        both = ends[0] | ends[1]
+        if (piece.words["stroke"] == colour) != (bool(both & cone) and both <= cone | {at}):
+            faults.append(f"the lane between {sorted(one + 1 for one in both)} is in {piece.words['stroke']}")
+    return faults
+
+
+def race_faults(facts: Facts, drawn: Drawn) -> list[str]:
+    """Whether beside a curve each variable stands that alone makes an order, of events that have no lane in common."""
+    wanted = sorted(facts.all["variables"][variable][0] for cause, event, variable in facts.all["races"]
+                    if not set(facts.events[cause]["lanes"]) & set(facts.events[event]["lanes"]))
+    return [] if drawn.races() == wanted else [f"orders that only a variable makes: {drawn.races()}, wanted {wanted}"]
+
+
+def quiet_faults(facts: Facts, whole: Drawn, quiet: Drawn) -> list[str]:
+    """Whether all but turns and tests is as in the whole drawing: the events' words, bars, what stands at the end, heads and title."""
+    found = []
+    kept = [mark for mark in whole.marks if mark.kind not in QUIET]
+    for one, other in zip(quiet.marks, kept):
+        told, wanted = [word.text for word in one.words], [word.text for word in other.words]
+        if told != wanted and not (len(told) == len(wanted) and all(fits(a, b) or fits(b, a) for a, b in zip(told, wanted))):
+            found.append(f"words {told}, with turns and tests {wanted}")
+    for name in ("bars", "end"):
+        one, other = getattr(quiet, name)(), getattr(whole, name)()
+        if one != other:
+            found.append(f"{name}: {one}, with turns and tests {other}")
+    one, other = quiet.heads(), whole.heads()
+    if len(one) != len(other) or not all(fits(a, b) or fits(b, a) for a, b in zip(one, other)):
+        found.append(f"heads: {one}, with turns and tests {other}")
+    if quiet.title.text != whole.title.text:
+        found.append(f"title {quiet.title.text!r}, with turns and tests {whole.title.text!r}")
+    return found
