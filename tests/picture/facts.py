@@ -8,14 +8,14 @@ from dataclasses import replace
 from random import Random
 
 from cases import Case
+from ground import Ground
 from reference.debugger import accept
-from reference.elaboration import System
 from reference.events import Event, depends_directly
 from reference.machine import Machine
 from reference.places import Address, branch, is_before, text_of
-from reference.residuals import Move, moves_of
-from reference.syntax import Parallel, children_of
+from reference.residuals import DONE, Move, moves_of
 from reference.traces import load, step_line
+from waits import NOWHERE, PARTNERS, Standing, has_ring, is_under, links, partner
 
 
 def lane_of(place: Address) -> str:
@@ -24,24 +24,6 @@ def lane_of(place: Address) -> str:
     while len(numbers) > 1 and numbers[-1] == 0:
         numbers.pop()
     return "".join(f"/{number}" for number in numbers)
-
-
-def lanes_of(system: System) -> set[str]:
-    """The lanes of the commands of the body in which something stands, and those of the ports."""
-    found = {f"/{number}" for number in range(1, len(system.environment) + 1)}
-    work = [(system.body, (0,))]
-    while work:
-        command, path = work.pop()
-        if isinstance(command, Parallel):
-            work += [(child, path + (number,)) for number, child in enumerate(command.children)]
-            continue
-        if type(command).__name__ != "Continue":
-            numbers = list(path)
-            while len(numbers) > 1 and numbers[-1] == 0:
-                numbers.pop()
-            found.add("".join(f"/{number}" for number in numbers))
-        work += [(child, path) for child in children_of(command)]
-    return found
 
 
 def direct_causes(events: list[Event]) -> list[list[int]]:
@@ -87,35 +69,67 @@ def lines_of(event: Event) -> list[int]:
 ROLES = {"release": "held"} | dict.fromkeys(("assign", "turn", "test"), "go")
 
 
-def shown_place(moves: list[Move], is_ready: bool) -> list:
-    """What is shown of a place where these moves are offered: its lane, its text, its line, what stands there, and the channels."""
-    first = moves[0]
-    line = first.command.line if first.command is not None else 0
-    channels = [move.channel.number for move in moves if move.channel is not None]
-    return [lane_of(first.place), text_of(first.place), line, ROLES.get(first.kind, first.kind), channels, int(is_ready)]
+class End:
+    """What stands at the end of a run."""
 
+    def __init__(self, machine: Machine, ground: Ground) -> None:
+        self.machine, self.ground, self.ready = machine, ground, machine.ready()
+        taken = {place for event in self.ready for place in event.places}
+        offered: dict[Address, list[Move]] = {}
+        for number, tree in enumerate(machine.state.trees):
+            for move in moves_of(tree, branch((), number), machine.state.store):
+                offered.setdefault(move.place, []).append(move)
+        self.waiting = {place: [(move, partner(machine, move)) for move in offered[place]] for place in sorted(offered) if place not in taken}
+        self.standing = [*self.waiting, *taken]
 
-def stands(machine: Machine) -> list[list]:
-    """The places that wait, in order, and behind them those of the events that can be taken, each once, on the channel of each."""
-    ready, state = machine.ready(), machine.state
-    taken = {place for event in ready for place in event.places}
-    offered: dict[Address, list[Move]] = {}
-    for number, tree in enumerate(state.trees):
-        for move in moves_of(tree, branch((), number), state.store):
-            offered.setdefault(move.place, []).append(move)
-    waiting = [shown_place(offered[place], False) for place in sorted(offered) if place not in taken]
-    met: dict[Address, list[Move]] = {}
-    for event in ready:
-        for move in event.moves:
-            met.setdefault(move.place, []).append(move)
-    return waiting + [shown_place(moves, True) for moves in met.values()]
+    def places(self) -> list[list]:
+        """The places that wait, in order, and behind them those of the events that can be taken, each once, on the channel of each."""
+        waiting = [
+            self.shown([move for move, _ in moves], False, [self.want(*one) for one in moves if one[0].channel is not None])
+            for moves in self.waiting.values()
+        ]
+        met: dict[Address, list[Move]] = {}
+        for event in self.ready:
+            for move in event.moves:
+                met.setdefault(move.place, []).append(move)
+        return waiting + [
+            self.shown(moves, True, [[move.channel.number, [], 1] for move in moves if move.channel is not None]) for moves in met.values()
+        ]
+
+    def shown(self, moves: list[Move], is_ready: bool, wanted: list[list]) -> list:
+        """A place where these moves are offered: its lane, its text, its line, what stands there, and on which channels, for whom."""
+        first = moves[0]
+        line = first.command.line if first.command is not None else 0
+        return [lane_of(first.place), text_of(first.place), line, ROLES.get(first.kind, first.kind), wanted, int(is_ready)]
+
+    def want(self, move: Move, standing: Standing) -> list:
+        """The channel, the lanes of what stands where the other end is behind, or else of all that could be it, and whether it can come."""
+        own, lanes = lane_of(move.place), set()
+        if isinstance(standing, tuple):
+            lanes = {lane_of(place) for place in self.standing if is_under(standing, place)}
+        if not lanes:
+            ways = PARTNERS.get(move.kind, ())
+            lanes = {lane for channel, way, lane in self.ground.uses if channel == move.channel.number and way in ways and lane != own}
+        return [move.channel.number, sorted(lanes), int(standing != NOWHERE)]
+
+    def progress(self) -> str:
+        return "goes on" if self.ready else "done" if self.machine.state.trees[0] == DONE else "stuck"
+
+    def links(self) -> dict[str, list[str]]:
+        """For which places those of a deadlock wait."""
+        found = links(self.machine, self.waiting)
+        return {text_of(place): sorted(map(text_of, others)) for place, others in found.items()}
+
+    def has_ring(self) -> bool:
+        return has_ring(links(self.machine, self.waiting))
 
 
 def facts(case: Case) -> dict:
     """The parts of the data that follow from the rules alone."""
     system = accept(case.source, case.stimulus)
     machine: Machine = load(system, case.trace)
-    events = [entry.event for entry in machine.live]
+    ground, events = Ground(case.source, system), [entry.event for entry in machine.live]
+    end = End(machine, ground)
     causes, depth = direct_causes(events), []
     for kept in causes:
         depth.append(1 + max((depth[one] for one in kept), default=-1))
@@ -146,12 +160,16 @@ def facts(case: Case) -> dict:
             [f"/{number}", len(one.values) if one.channel.width else one.count]
             for number, one in enumerate(system.environment, 1) if one.channel.kind != "output"
         ),
-        "lanes": sorted(lanes_of(system)),
+        "lanes": ground.lanes,
+        "instances": ground.blocks,
         "events": rows,
         "races": [[one, at, orders_by(events[one], events[at])] for at, kept in enumerate(causes) for one in kept
                   if race(events[one], events[at])],
         "ready": [[event.text, [lane_of(place) for place in event.places], lines_of(event), step_line(event)] for event in machine.ready()],
-        "places": stands(machine),
+        "places": end.places(),
+        "progress": end.progress(),
+        "links": end.links(),
+        "has_ring": end.has_ring(),
     }
 
 
@@ -174,11 +192,16 @@ def told(data: dict) -> dict:
         "variables": data["variables"],
         "channels": data["channels"],
         "feeds": sorted([paths[lane], count] for lane, count in data["feeds"]),
-        "lanes": sorted(paths),
+        "lanes": data["lanes"],
+        "instances": data["instances"],
         "events": rows,
         "races": data["races"],
         "ready": [[row[0], lanes(row), row[3:3 + len(lanes(row))], row[5]] for row in data["ready"]],
-        "places": [[paths[row[0]], *row[1:4], [channel for channel, _, _ in row[4]], row[5]] for row in data["places"]],
+        "places": [
+            [paths[row[0]], *row[1:4], [[channel, sorted(paths[lane] for lane in wanted), can] for channel, wanted, can in row[4]], row[5]]
+            for row in data["places"]
+        ],
+        "progress": data["progress"],
     }
 
 
@@ -199,6 +222,21 @@ def faults_of(data: dict) -> list[str]:
         if any(not 0 <= one < places for one in ring):
             found.append(f"ring {ring}")
     return found
+
+
+def ring_faults(data: dict, wanted: dict) -> list[str]:
+    """Whether a ring is told exactly where there is one, of which each place waits for the next, and the last for the first."""
+    rings = data["rings"]
+    if len(rings) != int(wanted["has_ring"]):
+        return [f"{len(rings)} rings are told, and there is {'one' if wanted['has_ring'] else 'none'}"]
+    for ring in rings:
+        places = [data["places"][one][1] for one in ring]
+        if len(set(places)) != len(places):
+            return [f"a place is twice in the ring {places}"]
+        for place, other in zip(places, places[1:] + places[:1]):
+            if other not in wanted["links"].get(place, []):
+                return [f"of the ring {places} {place} does not wait for {other}"]
+    return []
 
 
 class Facts:
@@ -283,8 +321,9 @@ def data_faults(case: Case, drawer: object) -> list[str]:
         return found
     if len(data["events"]) >= 4000:
         return []
-    shown = told(data)
-    return [] if shown == drawer.facts.all else [difference(shown, drawer.facts.all)]
+    shown, known = told(data), drawer.facts.all
+    wanted = {name: part for name, part in known.items() if name in shown}
+    return ring_faults(data, known) if shown == wanted else [difference(shown, wanted)]
 
 
 def by_event(data: dict) -> dict:
