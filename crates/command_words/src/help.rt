@@ -261,13 +261,13 @@ pub const WAITING: &str = "Tell who waits behind a trace, on what and for whom";
 pub const WAITING_LONG: &str = "\
 Take the steps of a trace again, and tell who waits behind them: `goes on` where
 a step can be taken, which are told as `ready` does; `done` where none can and
-nothing waits but an output port for more to come; `out of input` where what
-waits does so for want of more in the stimulus; `stuck` where something else
-waits. Then comes each end of a channel that waits, with its place, its line,
-and the place behind which the end that it waits for stands. Where each of some
-waits for the next, they are told as a ring. Before each place stands its
-branch, by the number that `branch` takes; `outline` names them. A refusal is
-told in words too.
+nothing of the circuit is left; `out of input` where what is left waits for want
+of more in the stimulus; `stuck` where it waits for something else, or halts.
+Then comes each end of a channel that waits, with its place, its line, and the
+place behind which the end that it waits for stands. Where each of some waits
+for the next, they are told as a ring. Before each place stands its branch, by
+the number that `branch` takes; `outline` names them. A refusal is told in words
+too.
 
 A trace is a file with the steps of a run, as the script line `trace` answers.
 This takes up to 100 steps, and writes one:
