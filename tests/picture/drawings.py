@@ -100,7 +100,9 @@ def wave_faults(case: Case, drawer: Drawer, small: bool) -> list[str]:
 
 # --- drawings
 
-STATE = re.compile(rb">(\d+) causes</tspan> and <tspan [^>]*>(\d+) consequences</tspan>")
+STATE = re.compile(rb">(\d+) causes</text>.*>(\d+) consequences</text>", re.S)
+GROUP = re.compile(rb'<g class="(\w+) e(\d+)" color="(#[0-9a-f]{6})">')
+COLOURS = {b"step": b"#1b2228", b"asked": b"#1b2228", b"cause": b"#0067b1", b"consequence": b"#c24a00", b"other": b"#c4cad0"}
 
 
 def well_formed(drawer: Drawer, drawing: bytes) -> list[str]:
@@ -112,6 +114,27 @@ def well_formed(drawer: Drawer, drawing: bytes) -> list[str]:
     return [done.stderr.decode()[:200]] if done.returncode or done.stderr else []
 
 
+def marks(facts: Facts, ticket: int | None, quiet: bool) -> list[tuple[bytes, int]]:
+    """How each event that is drawn is marked, with its ticket."""
+    marks = [b"step" if ticket is None else b"other"] * len(facts.events)
+    if ticket is not None:
+        for at in facts.causes(ticket - 1):
+            marks[at] = b"cause"
+        for at in facts.consequences(ticket - 1):
+            marks[at] = b"consequence"
+        marks[ticket - 1] = b"asked"
+    return [(mark, at + 1) for at, mark in enumerate(marks) if not (quiet and facts.is_quiet(at))]
+
+
+def mark_faults(drawing: bytes, facts: Facts, ticket: int | None, quiet: bool) -> list[str]:
+    told = GROUP.findall(drawing)
+    if any(COLOURS.get(mark) != colour for mark, _, colour in told):
+        return ["a mark has another colour"]
+    if [(mark, int(number)) for mark, number, _ in told] != marks(facts, ticket, quiet):
+        return [f"--event {ticket}, quiet {quiet}: other marks"]
+    return []
+
+
 def drawing_faults(case: Case, drawer: Drawer, small: bool) -> list[str]:
     drawing = drawer.draw("--svg")
     if drawer.draw("--svg") != drawing:
@@ -119,6 +142,8 @@ def drawing_faults(case: Case, drawer: Drawer, small: bool) -> list[str]:
     found = well_formed(drawer, drawing) + well_formed(drawer, drawer.draw("--svg", "--quiet"))
     if found or not small:
         return found
+    found += mark_faults(drawing, drawer.facts, None, False)
+    found += mark_faults(drawer.draw("--svg", "--quiet"), drawer.facts, None, True)
     count = len(drawer.facts.events)
     for ticket in sorted({1, count // 2, count} & set(range(1, count + 1))):
         marked = drawer.draw("--svg", "--event", str(ticket))
@@ -126,7 +151,8 @@ def drawing_faults(case: Case, drawer: Drawer, small: bool) -> list[str]:
         wanted = drawer.facts.cone_sizes(ticket - 1)
         if told is None or (int(told[1]), int(told[2])) != wanted:
             return [f"--event {ticket}: told {told and told[0]}, wanted {wanted}"]
-        found += well_formed(drawer, marked)
+        found += well_formed(drawer, marked) + mark_faults(marked, drawer.facts, ticket, False)
+        found += mark_faults(drawer.draw("--svg", "--quiet", "--event", str(ticket)), drawer.facts, ticket, True)
     return found
 
 

@@ -229,6 +229,10 @@ class Facts:
         """The indexes of the events on which this one depends, but for itself."""
         return [one for one in range(at) if at in self.consequences(one)]
 
+    def is_quiet(self, at: int) -> bool:
+        """Whether the event is a turn or a test."""
+        return self.events[at]["text"].split()[0] in ("turn", "test")
+
     def values_behind(self, indexes: list[int]) -> list[int]:
         """The values of the variables where these events are taken, and no others."""
         system = accept(self.case.source, self.case.stimulus)

@@ -1,9 +1,8 @@
 // What handshakes enclose: a bar on both sides, from the opening to the end.
 use crate::figure::{Ends, Figure, ends_of};
-use crate::ink::{Dash, Ink};
-use crate::sheet::{Area, Sheet};
 use runs::{Event, Kind};
 use std::alloc::{AllocError, Global};
+use svg_shapes::{Area, Dash, Ink, Shapes};
 
 /// An enclosed command.
 #[derive(Clone, Copy)]
@@ -22,13 +21,13 @@ struct Bar {
 /// Draws the bars, those around others first.
 pub(crate) fn draw_bars(
     alloc: Global,
-    sheet: &mut Sheet,
+    shapes: &mut Shapes,
     figure: &Figure<'_>,
 ) -> Result<(), AllocError> {
     let bars = bars_of(alloc, figure)?;
     for bar in bars.as_slice() {
-        draw_action(sheet, figure, *bar, bar.opened, bar.opened_level, true)?;
-        draw_action(sheet, figure, *bar, bar.held, bar.held_level, false)?;
+        draw_action(shapes, figure, *bar, bar.opened, bar.opened_level, true)?;
+        draw_action(shapes, figure, *bar, bar.held, bar.held_level, false)?;
     }
     Ok(())
 }
@@ -132,7 +131,7 @@ fn close_bar(
 
 /// Draws the bar in one of its columns.
 fn draw_action(
-    sheet: &mut Sheet,
+    shapes: &mut Shapes,
     figure: &Figure<'_>,
     bar: Bar,
     column: usize,
@@ -162,5 +161,5 @@ fn draw_action(
         Ink::Held
     };
     let dash = if is_opened { Dash::Whole } else { Dash::Short };
-    sheet.area(area, fill, ink.or(Ink::Enclosed), dash)
+    shapes.area(area, fill, ink.or(Ink::Enclosed), dash)
 }

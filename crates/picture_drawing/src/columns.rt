@@ -1,10 +1,10 @@
 // The columns: a lane each, so far apart that the labels fit.
 use crate::figure::{Ends, Scene, ends_of, is_quiet};
 use crate::labels::{Words, group_title};
-use crate::sheet::{LETTER, SMALL_LETTER};
 use picture_data::{Actions, Lane, LaneKind, Picture, Place};
 use runs::Event;
 use std::alloc::{AllocError, Global};
+use svg_shapes::{LETTER, SMALL_LETTER};
 
 /// Where the first column stands, in tenths of a pixel.
 const LEFT: u64 = 620;

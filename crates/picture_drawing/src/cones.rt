@@ -6,6 +6,7 @@ ghost use Rattle.picture_drawing.specs.Asked.{AreCones, IsAnswered};
 use dependence::Live;
 use past::{Past, PastEvent, past_of_event};
 use std::alloc::{AllocError, Global};
+use svg_shapes::Standing;
 
 /// The tickets of the causes and of the consequences of a live event, ascending, its own among both.
 #[derive(Drop)]
@@ -65,4 +66,25 @@ fn tickets_of(alloc: Global, events: &[PastEvent]) -> Result<Vec<u64>, AllocErro
     ensures { IfOk result (λ made. made.items ≡ tickets_of events.now) }
 {
     events.iter().map(|event| event.ticket).collect(alloc)
+}
+
+/// How the live event of this ticket stands to the one that is asked for.
+pub(crate) fn standing_of(cones: Option<&Cones>, ticket: u64) -> Standing {
+    match cones {
+        Some(cones) => standing_in(cones, ticket),
+        None => Standing::Plain,
+    }
+}
+
+/// The same where one is asked for.
+fn standing_in(cones: &Cones, ticket: u64) -> Standing {
+    if ticket == cones.ticket {
+        Standing::Asked
+    } else if cones.consequences.as_slice().binary_search(&ticket).is_ok() {
+        Standing::Consequence
+    } else if cones.causes.as_slice().binary_search(&ticket).is_ok() {
+        Standing::Cause
+    } else {
+        Standing::Other
+    }
 }

@@ -11,11 +11,11 @@ use crate::heads::{draw_axis, draw_heads, draw_title};
 use crate::links::draw_links;
 use crate::marks::draw_marks;
 use crate::now::{bottom_of, draw_now};
-use crate::sheet::Sheet;
 use crate::trails::draw_trails;
 use machine::Machine;
 use picture_data::Picture;
 use std::alloc::{AllocError, Global};
+use svg_shapes::{Drawing, Shapes};
 
 /// The drawing of the run of the machine, under the name of its trace. Where an event is asked for, its causes and its
 /// consequences are marked, and `None` comes where no live event has that ticket. With `quiet` turns and tests are left
@@ -67,44 +67,41 @@ fn drawn(
         inks: inks.as_slice(),
         bottom: bottom_of(scene, rows.bottom),
     };
-    let mut sheet = Sheet::new(alloc);
-    draw_all(alloc, &mut sheet, &figure, trace.as_bytes(), cones)?;
-    Ok(sheet.into_bytes())
+    let mut drawing = begun(alloc, &figure, trace.as_bytes())?;
+    draw_under(alloc, &mut drawing, &figure)?;
+    draw_marks(alloc, &mut drawing, &figure, cones)?;
+    draw_over(alloc, &mut drawing, &figure, trace.as_bytes(), cones)?;
+    drawing.into_bytes()
 }
 
-/// Draws all parts, what lies under others first.
-fn draw_all(
+/// A drawing of this size.
+fn begun(alloc: Global, figure: &Figure<'_>, trace: &[u8]) -> Result<Drawing, AllocError> {
+    let width = figure.columns.right().saturating_add(160) / 10;
+    let height = figure.bottom.saturating_add(80) / 10;
+    Drawing::new(alloc, width, height, trace)
+}
+
+/// Draws what lies under the events.
+fn draw_under(alloc: Global, drawing: &mut Drawing, figure: &Figure<'_>) -> Result<(), AllocError> {
+    let mut shapes = Shapes::new(alloc);
+    draw_trails(alloc, &mut shapes, figure)?;
+    draw_bars(alloc, &mut shapes, figure)?;
+    draw_links(alloc, &mut shapes, figure)?;
+    drawing.add_shapes(&shapes)
+}
+
+/// Draws what lies over them, and stands around.
+fn draw_over(
     alloc: Global,
-    sheet: &mut Sheet,
+    drawing: &mut Drawing,
     figure: &Figure<'_>,
     trace: &[u8],
     cones: Option<&Cones>,
 ) -> Result<(), AllocError> {
-    begin(sheet, figure, trace)?;
-    draw_trails(alloc, sheet, figure)?;
-    draw_bars(alloc, sheet, figure)?;
-    draw_links(alloc, sheet, figure)?;
-    draw_marks(alloc, sheet, figure)?;
-    draw_now(alloc, sheet, figure)?;
-    draw_axis(sheet, figure)?;
-    draw_heads(alloc, sheet, figure)?;
-    draw_title(sheet, figure, trace, cones)?;
-    sheet.add("</svg>\n")
-}
-
-/// Begins the drawing: its size, its title and what lies under all.
-fn begin(sheet: &mut Sheet, figure: &Figure<'_>, trace: &[u8]) -> Result<(), AllocError> {
-    let width = figure.columns.right().saturating_add(160) / 10;
-    let height = figure.bottom.saturating_add(80) / 10;
-    sheet.add("<svg xmlns=\"http://www.w3.org/2000/svg\" width=\"")?;
-    sheet.add_number(width)?;
-    sheet.add("\" height=\"")?;
-    sheet.add_number(height)?;
-    sheet.add("\" viewBox=\"0 0 ")?;
-    sheet.add_number(width)?;
-    sheet.add(" ")?;
-    sheet.add_number(height)?;
-    sheet.add("\" font-family=\"'DejaVu Sans Mono',Menlo,Consolas,monospace\">\n<title>")?;
-    sheet.add_text(trace)?;
-    sheet.add("</title>\n<rect width=\"100%\" height=\"100%\" fill=\"#ffffff\"/>\n")
+    let mut shapes = Shapes::new(alloc);
+    draw_now(alloc, &mut shapes, figure)?;
+    draw_axis(alloc, &mut shapes, figure)?;
+    draw_heads(alloc, &mut shapes, figure)?;
+    draw_title(alloc, &mut shapes, figure, trace, cones)?;
+    drawing.add_shapes(&shapes)
 }

@@ -1,13 +1,12 @@
 // What the parts of the drawing are drawn of.
 use crate::columns::Columns;
-use crate::cones::Cones;
+use crate::cones::{Cones, standing_of};
 use crate::depth_rows::Rows;
-use crate::ink::Ink;
-use crate::sheet::Point;
 use dependence::Live;
 use picture_data::{Actions, Picture};
 use runs::{Event, Kind};
 use std::alloc::{AllocError, Global};
+use svg_shapes::{Ink, Point};
 use system::System;
 
 /// A run, and what of it is to be drawn.
@@ -129,32 +128,11 @@ impl Figure<'_> {
     }
 }
 
-/// How each event stands to the one that is asked for.
+/// The colour of each event, where one is asked for.
 pub(crate) fn inks_of(alloc: Global, live: &Live, cones: &Cones) -> Result<Vec<Ink>, AllocError> {
-    let mut inks = vec![in alloc; Ink::Faint; live.len()]?;
-    paint(
-        live,
-        inks.as_mut_slice(),
-        cones.causes.as_slice(),
-        Ink::Cause,
-    );
-    paint(
-        live,
-        inks.as_mut_slice(),
-        cones.consequences.as_slice(),
-        Ink::Consequence,
-    );
-    paint(live, inks.as_mut_slice(), &[cones.ticket], Ink::Dark);
-    Ok(inks)
-}
-
-/// Gives the events of these tickets a colour.
-fn paint(live: &Live, inks: &mut [Ink], tickets: &[u64], colour: Ink) {
-    for ticket in tickets {
-        if let Some(index) = live.index_of(*ticket) {
-            if index < inks.len() {
-                inks[index] = colour;
-            }
-        }
+    let mut inks = Vec::with_capacity(alloc, live.len())?;
+    for (ticket, _) in live.iter() {
+        inks.push(standing_of(Some(cones), ticket).ink())?;
     }
+    Ok(inks)
 }

@@ -1,12 +1,11 @@
 // What stands over and beside the rows.
-use crate::columns::{block_of, ends_group};
+use crate::columns::{block_of, ends_group, text_width};
 use crate::cones::Cones;
 use crate::figure::Figure;
-use crate::ink::{Dash, Ink};
 use crate::labels::{add_cut, add_number, group_title};
-use crate::sheet::{Anchor, Area, LETTER, Point, Sheet, Style};
 use picture_data::{Lane, LaneKind};
 use std::alloc::{AllocError, Global};
+use svg_shapes::{Anchor, Area, Dash, Ink, LETTER, Point, Shapes, Style};
 
 /// Words over the columns.
 fn head_style(ink: Ink, is_small: bool) -> Style {
@@ -19,37 +18,49 @@ fn head_style(ink: Ink, is_small: bool) -> Style {
 }
 
 /// Writes the number of each row, or of each fifth where there are many.
-pub(crate) fn draw_axis(sheet: &mut Sheet, figure: &Figure<'_>) -> Result<(), AllocError> {
+pub(crate) fn draw_axis(
+    alloc: Global,
+    shapes: &mut Shapes,
+    figure: &Figure<'_>,
+) -> Result<(), AllocError> {
     let few = figure.rows.tops.len() < 12;
+    let mut number = Vec::new(alloc);
     for top in figure.rows.tops.as_slice() {
         if few || top.0 % 5 == 0 {
-            draw_row_number(sheet, top.0 as u64, top.1)?;
+            number.clear();
+            add_number(&mut number, top.0 as u64)?;
+            draw_row_number(shapes, number.as_slice(), top.1)?;
         }
     }
     Ok(())
 }
 
 /// Writes the number of a row that begins there.
-fn draw_row_number(sheet: &mut Sheet, row: u64, top: u64) -> Result<(), AllocError> {
-    sheet.add("<text")?;
-    sheet.add_measure("x", 300)?;
-    sheet.add_measure("y", top.saturating_add(130))?;
-    sheet.add(" font-size=\"9\" fill=\"#5d6872\" text-anchor=\"end\">")?;
-    sheet.add_number(row)?;
-    sheet.add("</text>\n")
+fn draw_row_number(shapes: &mut Shapes, number: &[u8], top: u64) -> Result<(), AllocError> {
+    let at = Point {
+        x: 300,
+        y: top.saturating_add(130),
+    };
+    let style = Style {
+        ink: Ink::Soft,
+        is_small: true,
+        anchor: Anchor::End,
+        under: Ink::White,
+    };
+    shapes.words(at, number, style, false)
 }
 
 /// Writes the names of blocks, and of lanes.
 pub(crate) fn draw_heads(
     alloc: Global,
-    sheet: &mut Sheet,
+    shapes: &mut Shapes,
     figure: &Figure<'_>,
 ) -> Result<(), AllocError> {
     let mut title = Vec::new(alloc);
     let mut text = Vec::new(alloc);
     let mut first = 0;
     for column in 0..figure.columns.len() {
-        draw_lane_head(sheet, figure, &mut text, column, column == first)?;
+        draw_lane_head(shapes, figure, &mut text, column, column == first)?;
         if ends_group(figure.columns, &figure.scene.picture.lanes, column) {
             title.clear();
             text.clear();
@@ -62,7 +73,7 @@ pub(crate) fn draw_heads(
                 area.width.saturating_sub(80),
                 LETTER,
             )?;
-            draw_group(sheet, figure, area, lane, text.as_slice())?;
+            draw_group(shapes, figure, area, lane, text.as_slice())?;
             first = column.saturating_add(1);
         }
     }
@@ -86,7 +97,7 @@ fn group_area(figure: &Figure<'_>, first: usize, last: usize) -> Area {
 
 /// Draws the title of the columns of a block, or of a port, which the lane is one of.
 fn draw_group(
-    sheet: &mut Sheet,
+    shapes: &mut Shapes,
     figure: &Figure<'_>,
     area: Area,
     lane: Option<usize>,
@@ -95,7 +106,7 @@ fn draw_group(
     if let Some(lane) = lane {
         if let Some(lane) = figure.scene.picture.lanes.get(lane) {
             if block_of(lane).is_some() {
-                sheet.area(area, Ink::White, Ink::Faint, Dash::Whole)?;
+                shapes.area(area, Ink::White, Ink::Faint, Dash::Whole)?;
             }
         }
     }
@@ -103,12 +114,12 @@ fn draw_group(
         x: area.x.saturating_add(50),
         y: 300,
     };
-    sheet.words(at, title, head_style(Ink::Dark, false), true)
+    shapes.words(at, title, head_style(Ink::Dark, false), true)
 }
 
 /// Writes what the lane of a column is.
 fn draw_lane_head(
-    sheet: &mut Sheet,
+    shapes: &mut Shapes,
     figure: &Figure<'_>,
     text: &mut Vec<u8>,
     column: usize,
@@ -124,7 +135,7 @@ fn draw_lane_head(
         x: figure.columns.at(column).saturating_sub(140),
         y: 480,
     };
-    sheet.words(at, text.as_slice(), head_style(Ink::Soft, true), false)
+    shapes.words(at, text.as_slice(), head_style(Ink::Soft, true), false)
 }
 
 /// Adds what the lane is.
@@ -142,43 +153,83 @@ fn tell_lane(lane: &Lane, is_first: bool, text: &mut Vec<u8>) -> Result<(), Allo
 
 /// Writes the line over all: the trace, how many events it has, how it stands, and what is marked.
 pub(crate) fn draw_title(
-    sheet: &mut Sheet,
+    alloc: Global,
+    shapes: &mut Shapes,
     figure: &Figure<'_>,
     trace: &[u8],
     cones: Option<&Cones>,
 ) -> Result<(), AllocError> {
-    sheet.add("<text x=\"8\" y=\"11\" font-size=\"9\" fill=\"#5d6872\">")?;
-    sheet.add_text(trace)?;
-    sheet.add(": ")?;
-    sheet.add_number(figure.scene.live.len() as u64)?;
-    sheet.add(" events, ")?;
-    add_state(sheet, figure)?;
+    let mut line = Line {
+        text: Vec::new(alloc),
+        x: 80,
+    };
+    line.text.extend_from_slice(trace)?;
+    line.text.extend_from_slice(b": ")?;
+    add_number(&mut line.text, figure.scene.live.len() as u64)?;
+    line.text.extend_from_slice(b" events, ")?;
+    add_state(&mut line.text, figure)?;
     if let Some(cones) = cones {
-        add_cones(sheet, cones)?;
+        write_cones(shapes, &mut line, cones)?;
     }
-    sheet.add("</text>\n")
+    write_run(shapes, &mut line, Ink::Soft, false)
+}
+
+/// A line that is written run by run.
+#[derive(Drop)]
+struct Line {
+    /// the words of the run
+    text: Vec<u8>,
+    /// where it begins
+    x: u64,
+}
+
+/// Writes the run, and goes behind it.
+fn write_run(
+    shapes: &mut Shapes,
+    line: &mut Line,
+    ink: Ink,
+    is_bold: bool,
+) -> Result<(), AllocError> {
+    let at = Point { x: line.x, y: 110 };
+    shapes.words(at, line.text.as_slice(), head_style(ink, true), is_bold)?;
+    line.x = line
+        .x
+        .saturating_add(text_width(line.text.as_slice(), true));
+    line.text.clear();
+    Ok(())
 }
 
 /// Adds how the run stands.
-fn add_state(sheet: &mut Sheet, figure: &Figure<'_>) -> Result<(), AllocError> {
+fn add_state(text: &mut Vec<u8>, figure: &Figure<'_>) -> Result<(), AllocError> {
     let end = &figure.scene.picture.end;
     if !end.ring.is_empty() {
-        return sheet.add("deadlock");
+        return text.extend_from_slice(b"deadlock");
     }
     if end.ready.is_empty() {
-        return sheet.add("no step left");
+        return text.extend_from_slice(b"no step left");
     }
-    sheet.add_number(end.ready.len() as u64)?;
-    sheet.add(" ready")
+    add_number(text, end.ready.len() as u64)?;
+    text.extend_from_slice(b" ready")
 }
 
-/// Adds what is marked.
-fn add_cones(sheet: &mut Sheet, cones: &Cones) -> Result<(), AllocError> {
-    sheet.add("; step ")?;
-    sheet.add_number(cones.ticket)?;
-    sheet.add(", its <tspan fill=\"#0067b1\" font-weight=\"bold\">")?;
-    sheet.add_number((cones.causes.len() as u64).saturating_sub(1))?;
-    sheet.add(" causes</tspan> and <tspan fill=\"#c24a00\" font-weight=\"bold\">")?;
-    sheet.add_number((cones.consequences.len() as u64).saturating_sub(1))?;
-    sheet.add(" consequences</tspan>")
+/// Writes what is marked, each in its colour.
+fn write_cones(shapes: &mut Shapes, line: &mut Line, cones: &Cones) -> Result<(), AllocError> {
+    line.text.extend_from_slice(b"; step ")?;
+    add_number(&mut line.text, cones.ticket)?;
+    line.text.extend_from_slice(b", its ")?;
+    write_run(shapes, line, Ink::Soft, false)?;
+    add_number(
+        &mut line.text,
+        (cones.causes.len() as u64).saturating_sub(1),
+    )?;
+    line.text.extend_from_slice(b" causes")?;
+    write_run(shapes, line, Ink::Cause, true)?;
+    line.text.extend_from_slice(b" and ")?;
+    write_run(shapes, line, Ink::Soft, false)?;
+    add_number(
+        &mut line.text,
+        (cones.consequences.len() as u64).saturating_sub(1),
+    )?;
+    line.text.extend_from_slice(b" consequences")?;
+    write_run(shapes, line, Ink::Consequence, true)
 }

@@ -9,12 +9,10 @@ mod depth_rows;
 mod draw;
 mod figure;
 mod heads;
-mod ink;
 mod labels;
 mod links;
 mod marks;
 mod now;
-mod sheet;
 mod tracks;
 mod trails;
 

@@ -1,11 +1,10 @@
 // Who needs whom from lane to lane: forks, joins, and orders that only a shared variable makes.
 use crate::figure::{Ends, Figure, ends_of};
-use crate::ink::{Dash, Ink};
-use crate::sheet::{Anchor, Bend, Point, Sheet, Style};
 use address::{Address, before};
 use picture_data::Race;
 use runs::Event;
 use std::alloc::{AllocError, Global};
+use svg_shapes::{Anchor, Bend, Dash, Ink, Point, Shapes, Style};
 
 /// Behind so many events that are left out it is not looked further for those that follow one.
 const MOST_HIDDEN: usize = 1000;
@@ -23,7 +22,7 @@ struct Joint {
 /// Draws what joins events of different lanes.
 pub(crate) fn draw_links(
     alloc: Global,
-    sheet: &mut Sheet,
+    shapes: &mut Shapes,
     figure: &Figure<'_>,
 ) -> Result<(), AllocError> {
     let mut seen = vec![in alloc; 0; figure.scene.live.len()]?;
@@ -32,11 +31,11 @@ pub(crate) fn draw_links(
     for (index, (_, event)) in figure.scene.live.iter().enumerate() {
         if figure.scene.shows(event) {
             find_followers(figure, index, seen.as_mut_slice(), &mut work, &mut found)?;
-            draw_found(sheet, figure, index, found.as_slice())?;
+            draw_found(shapes, figure, index, found.as_slice())?;
         }
     }
     for race in figure.scene.picture.steps.races.as_slice() {
-        draw_race(alloc, sheet, figure, *race)?;
+        draw_race(alloc, shapes, figure, *race)?;
     }
     Ok(())
 }
@@ -94,13 +93,13 @@ fn is_shown(figure: &Figure<'_>, index: usize) -> bool {
 
 /// Draws what joins the event at an index to those that follow it.
 fn draw_found(
-    sheet: &mut Sheet,
+    shapes: &mut Shapes,
     figure: &Figure<'_>,
     index: usize,
     found: &[usize],
 ) -> Result<(), AllocError> {
     for later in found {
-        draw_link(sheet, figure, index, *later)?;
+        draw_link(shapes, figure, index, *later)?;
     }
     Ok(())
 }
@@ -160,7 +159,7 @@ fn made_joint(
 
 /// Draws what joins two events, but for an order that only a shared variable makes between one and its direct follower.
 fn draw_link(
-    sheet: &mut Sheet,
+    shapes: &mut Shapes,
     figure: &Figure<'_>,
     earlier: usize,
     later: usize,
@@ -177,12 +176,12 @@ fn draw_link(
         } else {
             join(from, to)
         };
-        return sheet.bend(bend, ink.or(Ink::Soft), Dash::Whole);
+        return shapes.bend(bend, ink.or(Ink::Soft), Dash::Whole);
     }
     if is_race(figure, earlier, later) {
         return Ok(());
     }
-    sheet.bend(curve(from, to), ink.or(Ink::Race), Dash::Long)
+    shapes.bend(curve(from, to), ink.or(Ink::Race), Dash::Long)
 }
 
 /// Whether the later lane is one of branches of the earlier.
@@ -275,7 +274,7 @@ fn higher(point: Point, by: u64) -> Point {
 /// Draws an order that only a shared variable makes, with the name of the variable.
 fn draw_race(
     alloc: Global,
-    sheet: &mut Sheet,
+    shapes: &mut Shapes,
     figure: &Figure<'_>,
     race: Race,
 ) -> Result<(), AllocError> {
@@ -288,7 +287,7 @@ fn draw_race(
     let ink = figure.ink_between(race.cause, race.event).or(Ink::Race);
     let from = figure.point(joint.from, race.cause);
     let to = figure.point(joint.to, race.event);
-    sheet.bend(curve(from, to), ink, Dash::Long)?;
+    shapes.bend(curve(from, to), ink, Dash::Long)?;
     let mut name = Vec::new(alloc);
     if let Some(found) = figure.scene.system.variable_name(race.variable) {
         found.write_to(&mut name)?;
@@ -303,5 +302,5 @@ fn draw_race(
         anchor: Anchor::Middle,
         under: Ink::White,
     };
-    sheet.label(lower(at, 30), name.as_slice(), style)
+    shapes.label(lower(at, 30), name.as_slice(), style)
 }

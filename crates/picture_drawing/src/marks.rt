@@ -1,11 +1,13 @@
 // The mark of each event, with its words.
 use crate::columns::digits_width;
+use crate::cones::{Cones, standing_of};
 use crate::figure::{Ends, Figure, ends_of, is_quiet};
-use crate::ink::{Dash, Ink};
 use crate::labels::{Words, add_cut, add_number};
-use crate::sheet::{Anchor, Area, LETTER, Point, SMALL_LETTER, Sheet, Style};
 use runs::{Event, Kind};
 use std::alloc::{AllocError, Global};
+use svg_shapes::{
+    Anchor, Area, Dash, Drawing, Ink, LETTER, Point, SMALL_LETTER, Shapes, Step, Style,
+};
 
 /// What is used for one event after another.
 #[derive(Drop)]
@@ -25,20 +27,25 @@ struct Look {
     under: Ink,
 }
 
-/// Draws the events.
+/// Draws the events, each in a group of its own.
 pub(crate) fn draw_marks(
     alloc: Global,
-    sheet: &mut Sheet,
+    drawing: &mut Drawing,
     figure: &Figure<'_>,
+    cones: Option<&Cones>,
 ) -> Result<(), AllocError> {
     let mut scratch = Scratch {
         words: Words::new(alloc),
         number: Vec::new(alloc),
         text: Vec::new(alloc),
     };
+    let mut shapes = Shapes::new(alloc);
     for (index, (ticket, event)) in figure.scene.live.iter().enumerate() {
         if figure.scene.shows(event) {
-            draw_event(sheet, figure, &mut scratch, index, ticket, event)?;
+            shapes.clear();
+            draw_event(&mut shapes, figure, &mut scratch, index, ticket, event)?;
+            let standing = standing_of(cones, ticket);
+            drawing.add_step(Step { ticket, standing }, &shapes)?;
         }
     }
     Ok(())
@@ -46,7 +53,7 @@ pub(crate) fn draw_marks(
 
 /// Draws the event at an index, which has the ticket.
 fn draw_event(
-    sheet: &mut Sheet,
+    shapes: &mut Shapes,
     figure: &Figure<'_>,
     scratch: &mut Scratch,
     index: usize,
@@ -62,15 +69,15 @@ fn draw_event(
     add_number(&mut scratch.number, ticket)?;
     let look = look_of(figure, index);
     if look.under == Ink::Chosen {
-        draw_choice(sheet, figure, index)?;
+        draw_choice(shapes, figure, index)?;
     }
     let number = digits_width(ticket);
     match ends.second {
         Some(second) => draw_pair(
-            sheet, figure, scratch, index, event, ends, second, look, number,
+            shapes, figure, scratch, index, event, ends, second, look, number,
         ),
         None => draw_single(
-            sheet, figure, scratch, index, event, ends.first, look, number,
+            shapes, figure, scratch, index, event, ends.first, look, number,
         ),
     }
 }
@@ -80,14 +87,18 @@ fn look_of(figure: &Figure<'_>, index: usize) -> Look {
     let ink = figure.ink(index);
     let is_chosen = !figure.inks.is_empty() && ink == Ink::Dark;
     Look {
-        ink,
-        soft: ink.or(Ink::Soft),
+        ink: Ink::Own,
+        soft: if ink == Ink::Dark {
+            Ink::Soft
+        } else {
+            Ink::Own
+        },
         under: if is_chosen { Ink::Chosen } else { Ink::White },
     }
 }
 
 /// Draws what lies behind the event that is asked for.
-fn draw_choice(sheet: &mut Sheet, figure: &Figure<'_>, index: usize) -> Result<(), AllocError> {
+fn draw_choice(shapes: &mut Shapes, figure: &Figure<'_>, index: usize) -> Result<(), AllocError> {
     let (low, high) = figure.rows.reach(index);
     let area = Area {
         x: low.saturating_sub(20),
@@ -95,7 +106,7 @@ fn draw_choice(sheet: &mut Sheet, figure: &Figure<'_>, index: usize) -> Result<(
         width: high.saturating_sub(low).saturating_add(40),
         height: 200,
     };
-    sheet.area(area, Ink::Chosen, Ink::Dark, Dash::Whole)
+    shapes.area(area, Ink::Chosen, Ink::Dark, Dash::Whole)
 }
 
 /// A point beside another, to the right or to the left, and lower or higher.
@@ -126,7 +137,7 @@ fn words_style(ink: Ink, is_small: bool, right: bool, under: Ink) -> Style {
 
 /// Draws an event with one action, whose ticket is so wide.
 fn draw_single(
-    sheet: &mut Sheet,
+    shapes: &mut Shapes,
     figure: &Figure<'_>,
     scratch: &mut Scratch,
     index: usize,
@@ -137,9 +148,9 @@ fn draw_single(
 ) -> Result<(), AllocError> {
     let at = figure.point(column, index);
     match event.kind {
-        Kind::Assign => sheet.square(at, look.ink, look.ink)?,
-        Kind::Turn => sheet.circle(at, 30, Ink::White, look.ink)?,
-        _ => sheet.diamond(at, look.ink)?,
+        Kind::Assign => shapes.square(at, look.ink, look.ink)?,
+        Kind::Turn => shapes.circle(at, 30, Ink::White, look.ink)?,
+        _ => shapes.diamond(at, look.ink)?,
     }
     let quiet = is_quiet(event);
     let letter = if quiet { SMALL_LETTER } else { LETTER };
@@ -157,13 +168,13 @@ fn draw_single(
     )?;
     let ink = if quiet { look.soft } else { look.ink };
     let style = words_style(ink, quiet, true, look.under);
-    sheet.label(
+    shapes.label(
         beside(at, true, 90, true, 40),
         scratch.text.as_slice(),
         style,
     )?;
     let style = words_style(look.soft, true, false, look.under);
-    sheet.label(
+    shapes.label(
         beside(at, false, 100, true, 30),
         scratch.number.as_slice(),
         style,
@@ -172,7 +183,7 @@ fn draw_single(
 
 /// Draws an event with two actions, whose ticket is so wide.
 fn draw_pair(
-    sheet: &mut Sheet,
+    shapes: &mut Shapes,
     figure: &Figure<'_>,
     scratch: &mut Scratch,
     index: usize,
@@ -186,14 +197,14 @@ fn draw_pair(
     let to = figure.point(second, index);
     let to_right = to.x > from.x;
     if event.kind == Kind::Close {
-        return sheet.line(from, to, look.ink, 10, Dash::Short);
+        return shapes.line(from, to, look.ink, 10, Dash::Short);
     }
-    sheet.line(from, to, look.ink, 17, Dash::Whole)?;
-    sheet.circle(from, 32, look.ink, look.ink)?;
+    shapes.line(from, to, look.ink, 17, Dash::Whole)?;
+    shapes.circle(from, 32, look.ink, look.ink)?;
     if event.value.is_some() {
-        sheet.arrow(to, to_right, look.ink)?;
+        shapes.arrow(to, to_right, look.ink)?;
     } else {
-        sheet.circle(to, 32, look.ink, look.ink)?;
+        shapes.circle(to, 32, look.ink, look.ink)?;
     }
     let own = figure.point(ends.own, index);
     let right = own.x <= from.x.min(to.x);
@@ -201,7 +212,7 @@ fn draw_pair(
     scratch.text.extend_from_slice(b"#")?;
     scratch.text.extend_from_slice(scratch.number.as_slice())?;
     let style = words_style(look.soft, true, right, look.under);
-    sheet.label(
+    shapes.label(
         beside(own, right, 120, false, 40),
         scratch.text.as_slice(),
         style,
@@ -220,7 +231,7 @@ fn draw_pair(
     )?;
     let by = number.saturating_add(SMALL_LETTER).saturating_add(180);
     let style = words_style(look.ink, false, right, look.under);
-    sheet.label(
+    shapes.label(
         beside(own, right, by, false, 40),
         scratch.text.as_slice(),
         style,
@@ -233,7 +244,7 @@ fn draw_pair(
         SMALL_LETTER,
     )?;
     let style = words_style(look.soft, true, to_right, look.under);
-    sheet.label(
+    shapes.label(
         beside(to, to_right, 80, true, 30),
         scratch.text.as_slice(),
         style,

@@ -1,11 +1,10 @@
 // What stands at the end: the events that can be taken, and what waits for whom.
 use crate::figure::{Ends, Figure, Scene, ends_of};
-use crate::ink::{Dash, Ink};
 use crate::labels::{Words, add_cut};
-use crate::sheet::{Anchor, LETTER, Point, Sheet, Style};
 use picture_data::{LaneKind, Place, Role};
 use runs::{Event, Kind};
 use std::alloc::{AllocError, Global};
+use svg_shapes::{Anchor, Dash, Ink, LETTER, Point, Shapes, Style};
 
 /// How high a line of it is, and how far under the last row it begins, in tenths of a pixel.
 const LINE: u64 = 220;
@@ -49,39 +48,39 @@ pub(crate) fn bottom_of(scene: &Scene<'_>, rows_end: u64) -> u64 {
 /// Draws what stands at the end.
 pub(crate) fn draw_now(
     alloc: Global,
-    sheet: &mut Sheet,
+    shapes: &mut Shapes,
     figure: &Figure<'_>,
 ) -> Result<(), AllocError> {
     let start = figure.rows.bottom.saturating_add(GAP);
     if figure.bottom <= start {
         return Ok(());
     }
-    draw_edge(sheet, figure, start)?;
+    draw_edge(shapes, figure, start)?;
     let mut height = start.saturating_add(140);
     let mut words = Words::new(alloc);
     let mut text = Vec::new(alloc);
     for (index, event) in figure.scene.picture.end.ready.as_slice().iter().enumerate() {
         tell_ready(figure, &mut words, &mut text, index, event)?;
-        draw_ready(sheet, figure, text.as_slice(), index, event, height)?;
+        draw_ready(shapes, figure, text.as_slice(), index, event, height)?;
         height = height.saturating_add(LINE);
     }
-    draw_places(alloc, sheet, figure, height)
+    draw_places(alloc, shapes, figure, height)
 }
 
 /// Draws the line under the rows.
-fn draw_edge(sheet: &mut Sheet, figure: &Figure<'_>, start: u64) -> Result<(), AllocError> {
+fn draw_edge(shapes: &mut Shapes, figure: &Figure<'_>, start: u64) -> Result<(), AllocError> {
     let y = start.saturating_sub(80);
     let from = Point { x: 0, y };
     let to = Point {
         x: figure.columns.right().saturating_add(100),
         y,
     };
-    sheet.line(from, to, Ink::Faint, 10, Dash::Whole)?;
+    shapes.line(from, to, Ink::Faint, 10, Dash::Whole)?;
     let at = Point {
         x: 300,
         y: start.saturating_add(80),
     };
-    sheet.label(at, b"now", small(Ink::Soft, false))
+    shapes.label(at, b"now", small(Ink::Soft, false))
 }
 
 /// Small words to the right or to the left of their point.
@@ -130,7 +129,7 @@ fn ready_ends(figure: &Figure<'_>, index: usize, event: &Event) -> Option<Ends> 
 
 /// Draws an event that can be taken, at this height.
 fn draw_ready(
-    sheet: &mut Sheet,
+    shapes: &mut Shapes,
     figure: &Figure<'_>,
     text: &[u8],
     index: usize,
@@ -152,10 +151,10 @@ fn draw_ready(
         None => from,
     };
     if ends.second.is_some() {
-        sheet.line(from, to, Ink::Ready, 16, Dash::Short)?;
-        sheet.circle(to, 40, Ink::White, Ink::Ready)?;
+        shapes.line(from, to, Ink::Ready, 16, Dash::Short)?;
+        shapes.circle(to, 40, Ink::White, Ink::Ready)?;
     }
-    sheet.circle(from, 40, Ink::White, Ink::Ready)?;
+    shapes.circle(from, 40, Ink::White, Ink::Ready)?;
     let at = Point {
         x: from.x.min(to.x).saturating_add(90),
         y: if ends.second.is_some() {
@@ -170,13 +169,13 @@ fn draw_ready(
         anchor: Anchor::Start,
         under: Ink::White,
     };
-    sheet.label(at, text, style)
+    shapes.label(at, text, style)
 }
 
 /// Draws the places that wait, from this height on.
 fn draw_places(
     alloc: Global,
-    sheet: &mut Sheet,
+    shapes: &mut Shapes,
     figure: &Figure<'_>,
     from: u64,
 ) -> Result<(), AllocError> {
@@ -192,10 +191,10 @@ fn draw_places(
     for (index, place) in places.iter().enumerate() {
         if is_shown(&figure.scene, place) {
             let partner = partners.get(index).copied().unwrap_or(None);
-            let far = draw_arrows(sheet, figure, place, partner, y)?;
+            let far = draw_arrows(shapes, figure, place, partner, y)?;
             tell_place(figure, place, &mut whole, &mut text)?;
             draw_place(
-                sheet,
+                shapes,
                 figure,
                 place,
                 partner.is_some(),
@@ -239,7 +238,7 @@ fn place_point(figure: &Figure<'_>, place: &Place, y: u64) -> Option<Point> {
 
 /// Draws the arrows to those for which the place waits; how far to the right the furthest goes, or to the left.
 fn draw_arrows(
-    sheet: &mut Sheet,
+    shapes: &mut Shapes,
     figure: &Figure<'_>,
     place: &Place,
     partner: Option<usize>,
@@ -254,13 +253,13 @@ fn draw_arrows(
             Some(place) => place.lane,
             None => None,
         };
-        return draw_arrow(sheet, figure, at, lane, true);
+        return draw_arrow(shapes, figure, at, lane, true);
     }
     for wanted in place.wanted.as_slice() {
         far = further(
             at.x,
             far,
-            draw_wanted(sheet, figure, at, wanted.lanes.as_slice())?,
+            draw_wanted(shapes, figure, at, wanted.lanes.as_slice())?,
         );
     }
     Ok(far)
@@ -268,7 +267,7 @@ fn draw_arrows(
 
 /// Draws the arrows to these lanes; how far the furthest goes.
 fn draw_wanted(
-    sheet: &mut Sheet,
+    shapes: &mut Shapes,
     figure: &Figure<'_>,
     at: Point,
     lanes: &[usize],
@@ -278,7 +277,7 @@ fn draw_wanted(
         far = further(
             at.x,
             far,
-            draw_arrow(sheet, figure, at, Some(*lane), false)?,
+            draw_arrow(shapes, figure, at, Some(*lane), false)?,
         );
     }
     Ok(far)
@@ -295,7 +294,7 @@ fn further(from: u64, one: u64, other: u64) -> u64 {
 
 /// Draws the arrow to a lane; how far it goes.
 fn draw_arrow(
-    sheet: &mut Sheet,
+    shapes: &mut Shapes,
     figure: &Figure<'_>,
     at: Point,
     lane: Option<usize>,
@@ -312,12 +311,12 @@ fn draw_arrow(
         return Ok(at.x);
     }
     if is_ring {
-        sheet.line(at, to, Ink::Ring, 24, Dash::Whole)?;
+        shapes.line(at, to, Ink::Ring, 24, Dash::Whole)?;
     } else {
-        sheet.line(at, to, Ink::Soft, 13, Dash::Long)?;
+        shapes.line(at, to, Ink::Soft, 13, Dash::Long)?;
     }
     let ink = if is_ring { Ink::Ring } else { Ink::Soft };
-    sheet.arrow(to, to.x > at.x, ink)?;
+    shapes.arrow(to, to.x > at.x, ink)?;
     Ok(to.x)
 }
 
@@ -362,7 +361,7 @@ fn add_channel(
 
 /// Draws a place that waits, whose furthest arrow goes there.
 fn draw_place(
-    sheet: &mut Sheet,
+    shapes: &mut Shapes,
     figure: &Figure<'_>,
     place: &Place,
     is_ring: bool,
@@ -374,7 +373,7 @@ fn draw_place(
         return Ok(());
     };
     let ink = if is_ring { Ink::Ring } else { Ink::Soft };
-    sheet.square(at, Ink::White, ink)?;
+    shapes.square(at, Ink::White, ink)?;
     let right = far >= at.x;
     let style = Style {
         ink,
@@ -388,5 +387,5 @@ fn draw_place(
         at.x.saturating_sub(90)
     };
     let y = y.saturating_sub(50);
-    sheet.label(Point { x, y }, text, style)
+    shapes.label(Point { x, y }, text, style)
 }

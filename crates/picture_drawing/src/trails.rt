@@ -2,11 +2,10 @@
 ghost use Rattle.std.specs.Prelude.{◌≤◌, length};
 
 use crate::figure::{Figure, ends_of};
-use crate::ink::{Dash, Ink};
-use crate::sheet::{Point, Sheet};
 use address::{Address, Entry};
 use runs::Event;
 use std::alloc::{AllocError, Global};
+use svg_shapes::{Dash, Ink, Point, Shapes};
 
 /// How far down the lanes begin, in tenths of a pixel.
 pub(crate) const HEAD: u64 = 540;
@@ -25,7 +24,7 @@ struct Trail {
 /// Draws the lines of all lanes.
 pub(crate) fn draw_trails(
     alloc: Global,
-    sheet: &mut Sheet,
+    shapes: &mut Shapes,
     figure: &Figure<'_>,
 ) -> Result<(), AllocError> {
     let start = Trail {
@@ -37,7 +36,7 @@ pub(crate) fn draw_trails(
     for (index, (_, event)) in figure.scene.live.iter().enumerate() {
         if let Some(ends) = ends_of(figure.columns, figure.scene.actions(index), event) {
             follow(
-                sheet,
+                shapes,
                 figure,
                 trails.as_mut_slice(),
                 ends.first,
@@ -45,14 +44,14 @@ pub(crate) fn draw_trails(
                 false,
             )?;
             if let Some(second) = ends.second {
-                follow(sheet, figure, trails.as_mut_slice(), second, index, true)?;
+                follow(shapes, figure, trails.as_mut_slice(), second, index, true)?;
             }
         }
     }
     let waits = waiting_columns(alloc, figure, trails.as_slice())?;
     for (column, trail) in trails.as_slice().iter().enumerate() {
         if trail.last.is_none() || waits.get(column).copied().unwrap_or(false) {
-            draw_end(sheet, figure, column, *trail)?;
+            draw_end(shapes, figure, column, *trail)?;
         }
     }
     Ok(())
@@ -68,7 +67,7 @@ fn place_of(event: &Event, is_second: bool) -> &Address {
 
 /// Goes on with the line of a column to the event at an index.
 fn follow(
-    sheet: &mut Sheet,
+    shapes: &mut Shapes,
     figure: &Figure<'_>,
     trails: &mut [Trail],
     column: usize,
@@ -90,7 +89,7 @@ fn follow(
         is_joined: is_shown || is_joined,
     };
     if is_shown && is_joined {
-        return draw_part(sheet, figure, column, trail.drawn, index);
+        return draw_part(shapes, figure, column, trail.drawn, index);
     }
     Ok(())
 }
@@ -146,7 +145,7 @@ fn is_from_start(entries: &[Entry]) -> bool {
 
 /// Draws the line of a column from an event, or from its head, to a later one.
 fn draw_part(
-    sheet: &mut Sheet,
+    shapes: &mut Shapes,
     figure: &Figure<'_>,
     column: usize,
     earlier: Option<usize>,
@@ -160,12 +159,12 @@ fn draw_part(
             _ => Ink::Faint,
         };
         let dash = if row == 0 { Dash::Whole } else { Dash::Dots };
-        return sheet.line(head(figure, column), to, ink, 20, dash);
+        return shapes.line(head(figure, column), to, ink, 20, dash);
     };
     let ink = figure.ink_between(earlier, later).or(Ink::Faint);
     let far = row.saturating_sub(figure.rows.row(earlier));
     let dash = if far > 1 { Dash::Dots } else { Dash::Whole };
-    sheet.line(figure.point(column, earlier), to, ink, 20, dash)
+    shapes.line(figure.point(column, earlier), to, ink, 20, dash)
 }
 
 /// Where the line of the column begins.
@@ -211,7 +210,7 @@ fn stands_in(figure: &Figure<'_>, trails: &[Trail], column: usize, place: &Addre
 
 /// Draws that a branch waits: from the last event of the column, or from its head, to the end.
 fn draw_end(
-    sheet: &mut Sheet,
+    shapes: &mut Shapes,
     figure: &Figure<'_>,
     column: usize,
     trail: Trail,
@@ -224,5 +223,5 @@ fn draw_end(
         x: from.x,
         y: figure.bottom,
     };
-    sheet.line(from, to, Ink::Faint, 20, Dash::Dots)
+    shapes.line(from, to, Ink::Faint, 20, Dash::Dots)
 }
