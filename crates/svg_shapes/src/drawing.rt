@@ -27,7 +27,6 @@ pub struct Drawing {
 
 impl Drawing {
     /// A drawing of this size in pixels, with nothing in it yet.
-    #[tactic(auto, using(crate::proofs::Drawn::begins))]
     pub fn new(alloc: Global, width: u64, height: u64, title: &[u8]) -> Result<Drawing, AllocError>
         ensures { IfOk result (λ drawing. IsBegun [] drawing.bytes.items) }
     {
