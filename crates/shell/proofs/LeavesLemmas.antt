@@ -3,7 +3,6 @@ use Rattle.std.proofs.Common.{◌≡◌, ◌≢◌, ◌⊎◌, inl, inr, ℕ, Li
 use Rattle.std.proofs.lemmas.Bool.{false≢true}
 use Rattle.std.specs.Option.{IfSome}
 use Rattle.decimal.specs.Reading.{IsNoNumber, Reads}
-use Rattle.decimal.proofs.public.DigitLemmas.{no-number-empty}
 use Rattle.system.specs.declared.system.System.{System}
 use Rattle.locked_execution.specs.declared.command.Command.{Command}
 use Rattle.line_text.specs.Fields.{CutAtSpace}
@@ -26,8 +25,8 @@ use Rattle.shell_desk.specs.declared.word.Word.TheVariants.{R, N, Run, Next, Und
 use Rattle.shell.specs.Asking.{IsToldAlone, IsWordWith, LineAsks, ShellAsks, TextAsks, deed_of}
 use Rattle.shell.specs.Beginning.{BeginsAt}
 use Rattle.shell_files.specs.Files.{Files}
-use Rattle.shell.specs.Lines.{AnsweredAsNumber, AnsweredAsScript, AnsweredAsStep, AnsweredAsTidied, AnsweredAsTyped, IsNewOrOver, Leaves, LineLeaves, SaidAsScript, line_count}
-use Rattle.shell.specs.internal.Parts.{AsksNoDeedAtAll, Begun, IsNewUnless, LoadsTrace, Quits, RestsWith, SavesTrace, TakesNumber, WordMeans, WordsAsk, WritesFile, is_want}
+use Rattle.shell.specs.Lines.{AnsweredAsDeed, AnsweredAsScript, AnsweredAsTidied, AnsweredAsTyped, AnsweredIfDone, IsNewOrOver, Leaves, LineLeaves, SaidAsScript, command_of, line_count}
+use Rattle.shell.specs.internal.Parts.{AsksNoDeedAtAll, Begun, ComesOfWord, IsNewUnless, LoadsTrace, Quits, RestsWith, SavesTrace, TakesNumber, WordMeans, WordsAsk, WritesFile, is_want}
 use Rattle.shell.specs.declared.answer.Outcome.{Outcome}
 use Rattle.shell.proofs.OwnLemmas.{if-some, if-some-by}
 
@@ -259,31 +258,42 @@ word-other files source stimulus b b' word rest outcome none h =
     leaves-by (RestsWith word rest) (WordMeans word rest) (Begun word rest) (Begun word rest) files source stimulus b b' outcome
     (λ deed rests. inr (none, rests)) (λ w r begun. begun) h
 
--- what words ask names no session
-pub names-none : (word : Word) (rest : List ℕ) (deed : Deed) → AsksDeed word rest deed → NamesSession deed
-names-none R rest deed h = subst NamesSession (sym h.1) tt
-names-none N rest deed (inl h) = subst NamesSession (sym h.1) tt
-names-none N rest deed (inr h) = subst NamesSession (sym h.2) tt
-names-none Next rest deed (inl h) = subst NamesSession (sym h.1) tt
-names-none Next rest deed (inr h) = subst NamesSession (sym h.2) tt
-names-none Run rest deed (inl h) = subst NamesSession (sym h.1) tt
-names-none Run rest deed (inr h) = subst NamesSession (sym h.2) tt
-names-none Undo rest deed h = subst NamesSession (sym h.1) tt
-names-none Back rest deed (inl h) = subst NamesSession (sym h.1) tt
-names-none Back rest deed (inr h) = subst NamesSession (sym h.2) tt
-names-none Why rest deed h = absurd h
-names-none Waiting rest deed h = absurd h
-names-none Outline rest deed h = absurd h
-names-none Vars rest deed h = absurd h
-names-none ListWord rest deed h = absurd h
-names-none Show rest deed h = absurd h
-names-none Save rest deed h = absurd h
-names-none SaveOver rest deed h = absurd h
-names-none Load rest deed h = absurd h
-names-none Script rest deed h = absurd h
-names-none ScriptOver rest deed h = absurd h
-names-none Help rest deed h = absurd h
-names-none Quit rest deed h = absurd h
+-- what words ask comes of a word
+pub comes-of-word : (word : Word) (rest : List ℕ) (deed : Deed) → AsksDeed word rest deed → ComesOfWord deed
+comes-of-word R rest deed h = subst ComesOfWord (sym h.1) tt
+comes-of-word N rest deed (inl h) = subst ComesOfWord (sym h.1) tt
+comes-of-word N rest deed (inr h) = subst ComesOfWord (sym h.2) tt
+comes-of-word Next rest deed (inl h) = subst ComesOfWord (sym h.1) tt
+comes-of-word Next rest deed (inr h) = subst ComesOfWord (sym h.2) tt
+comes-of-word Run rest deed (inl h) = subst ComesOfWord (sym h.1) tt
+comes-of-word Run rest deed (inr h) = subst ComesOfWord (sym h.2) tt
+comes-of-word Undo rest deed h = subst ComesOfWord (sym h.1) tt
+comes-of-word Back rest deed (inl h) = subst ComesOfWord (sym h.1) tt
+comes-of-word Back rest deed (inr h) = subst ComesOfWord (sym h.2) tt
+comes-of-word Why rest deed h = absurd h
+comes-of-word Waiting rest deed h = absurd h
+comes-of-word Outline rest deed h = absurd h
+comes-of-word Vars rest deed h = absurd h
+comes-of-word ListWord rest deed h = absurd h
+comes-of-word Show rest deed h = absurd h
+comes-of-word Save rest deed h = absurd h
+comes-of-word SaveOver rest deed h = absurd h
+comes-of-word Load rest deed h = absurd h
+comes-of-word Script rest deed h = absurd h
+comes-of-word ScriptOver rest deed h = absurd h
+comes-of-word Help rest deed h = absurd h
+comes-of-word Quit rest deed h = absurd h
+
+-- what comes of a word names no session
+pub names-none : (deed : Deed) → ComesOfWord deed → NamesSession deed
+names-none Deed.Rest h = tt
+names-none (Deed.Turn k) h = absurd h
+names-none (Deed.Ask c) h = tt
+names-none (Deed.Take n) h = tt
+names-none (Deed.Next k) h = tt
+names-none Deed.NextAgain h = tt
+names-none (Deed.Run n) h = tt
+names-none (Deed.Back n) h = tt
 
 -- what a word means, part by part
 flat-means : (word : Word) (rest : List ℕ) (deed : Deed) → WordMeans word rest deed
@@ -371,70 +381,62 @@ own-lines items source b b' line said answer checked e one says h =
     if-some-by (λ v. SaidAsScript source b said (items v) b') (λ v. AnsweredAsScript source b line (items v) b') answer
     (λ v own. own-line source b b' line (items v) said one (subst (λ (s : System). Says s line said) e says) own) h
 
--- an empty text is no number
-empty-no-number : (text : List ℕ) → text ≡ [] → IsNoNumber text
-empty-no-number text e = no-number-empty text (ap length e)
-
 -- what a text says is answered as a tidied text is
-tidied-said : (source : List ℕ) (b b' : AtBench) (text own : List ℕ) (said : Line) → Says b.desk.machine.checked text said
-    → AnsweredAsScript source b text own b' → AnsweredAsTidied source b text own b'
-tidied-said source b b' text own said (inl asks) h = (h, λ nothing. absurd (nothing said asks))
-tidied-said source b b' text own said (inr empty) h = (h, λ nothing. inl (empty-no-number text empty.0))
+tidied-said : (source : List ℕ) (b b' : AtBench) (text own : List ℕ) (said : Line) (outcome : Outcome)
+    → Says b.desk.machine.checked text said → AnsweredAsScript source b text own b' → AnsweredAsTidied source b text outcome own b'
+tidied-said source b b' text own said outcome (inl asks) h = (h, λ none. absurd (none.1 said asks))
+tidied-said source b b' text own said outcome (inr empty) h = (h, λ none. absurd (none.0 empty.0))
 
 -- the same of what is answered, if something is
-pub tidied-says : {V : Type 0} (items : V → List ℕ) (source : List ℕ) (b b' : AtBench) (text : List ℕ) (said : Line)
+pub tidied-says : {V : Type 0} (items : V → List ℕ) (source : List ℕ) (b b' : AtBench) (text : List ℕ) (said : Line) (outcome : Outcome)
     (answer : Option V) (checked : System) → checked ≡ b.desk.machine.checked → Says checked text said
     → IfSome answer (λ v. AnsweredAsScript source b text (items v) b')
-    → IfSome answer (λ v. AnsweredAsTidied source b text (items v) b')
-tidied-says items source b b' text said answer checked e says h =
-    if-some-by (λ v. AnsweredAsScript source b text (items v) b') (λ v. AnsweredAsTidied source b text (items v) b') answer
-    (λ v own. tidied-said source b b' text (items v) said (subst (λ (s : System). Says s text said) e says) own) h
+    → IfSome answer (λ v. AnsweredAsTidied source b text outcome (items v) b')
+tidied-says items source b b' text said outcome answer checked e says h =
+    if-some-by (λ v. AnsweredAsScript source b text (items v) b') (λ v. AnsweredAsTidied source b text outcome (items v) b') answer
+    (λ v own. tidied-said source b b' text (items v) said outcome (subst (λ (s : System). Says s text said) e says) own) h
 
 -- what a line of a script is answered is what it is answered as typed
-pub typed-said : (source : List ℕ) (b b' : AtBench) (line own : List ℕ) (said : Line) → Says b.desk.machine.checked line said
-    → AnsweredAsScript source b line own b' → AnsweredAsTyped source b line own b'
-typed-said source b b' line own said (inl asks) h = (h, (λ nothing. absurd (nothing said asks)))
-typed-said source b b' line own said (inr empty) h =
-    let none : tidied line ≡ [] = ap tidied empty.0 in (
-      h,
-      (λ nothing. (
-        subst (λ (t : List ℕ). AnsweredAsScript source b t own b') (empty.0 ∙ sym none) h,
-        λ asks. inl (empty-no-number (tidied line) none),
-      )),
-    )
+pub typed-said : (source : List ℕ) (b b' : AtBench) (line own : List ℕ) (said : Line) (outcome : Outcome)
+    → Says b.desk.machine.checked line said → AnsweredAsScript source b line own b' → AnsweredAsTyped source b line outcome own b'
+typed-said source b b' line own said outcome (inl asks) h = (h, λ none. absurd (none.1 said asks))
+typed-said source b b' line own said outcome (inr empty) h = (h, λ none. absurd (none.0 empty.0))
 
 -- the same of what is answered, if something is
-pub typed-says : {V : Type 0} (items : V → List ℕ) (source : List ℕ) (b b' : AtBench) (line : List ℕ) (said : Line) (answer : Option V)
-    (checked : System) → checked ≡ b.desk.machine.checked → Says checked line said
-    → IfSome answer (λ v. AnsweredAsScript source b line (items v) b') → IfSome answer (λ v. AnsweredAsTyped source b line (items v) b')
-typed-says items source b b' line said answer checked e says h =
-    if-some-by (λ v. AnsweredAsScript source b line (items v) b') (λ v. AnsweredAsTyped source b line (items v) b') answer
-    (λ v own. typed-said source b b' line (items v) said (subst (λ (s : System). Says s line said) e says) own) h
+pub typed-says : {V : Type 0} (items : V → List ℕ) (source : List ℕ) (b b' : AtBench) (line : List ℕ) (said : Line) (outcome : Outcome)
+    (answer : Option V) (checked : System) → checked ≡ b.desk.machine.checked → Says checked line said
+    → IfSome answer (λ v. AnsweredAsScript source b line (items v) b')
+    → IfSome answer (λ v. AnsweredAsTyped source b line outcome (items v) b')
+typed-says items source b b' line said outcome answer checked e says h =
+    if-some-by (λ v. AnsweredAsScript source b line (items v) b') (λ v. AnsweredAsTyped source b line outcome (items v) b') answer
+    (λ v own. typed-said source b b' line (items v) said outcome (subst (λ (s : System). Says s line said) e says) own) h
 
--- a number is answered as a tidied text is, where that is no line of a script
-pub tidied-number : {V : Type 0} (items : V → List ℕ) (source : List ℕ) (b b' : AtBench) (text : List ℕ) (answer : Option V)
+-- a text is answered as a tidied text is, where that is no line of a script
+pub tidied-asked : {V : Type 0} (items : V → List ℕ) (source : List ℕ) (b b' : AtBench) (text : List ℕ) (outcome : Outcome) (answer : Option V)
     → AsksNothing b.desk.machine.checked text → text ≢ []
-    → IfSome answer (λ v. AnsweredAsNumber source b text (items v) b')
-    → IfSome answer (λ v. AnsweredAsTidied source b text (items v) b')
-tidied-number items source b b' text answer nothing filled h =
-    if-some-by (λ v. AnsweredAsNumber source b text (items v) b') (λ v. AnsweredAsTidied source b text (items v) b') answer
+    → IfSome answer (λ v. AnsweredIfDone (ShellAsks text) source b outcome (items v) b')
+    → IfSome answer (λ v. AnsweredAsTidied source b text outcome (items v) b')
+tidied-asked items source b b' text outcome answer nothing filled h =
+    if-some-by (λ v. AnsweredIfDone (ShellAsks text) source b outcome (items v) b')
+    (λ v. AnsweredAsTidied source b text outcome (items v) b') answer
     (λ v own. (unsaid-own source b b' text (items v) nothing filled, (λ none. own))) h
 
 -- what a line is answered once it is tidied is what it is answered as typed, where it is none of a script
-pub typed-loose : {V : Type 0} (items : V → List ℕ) (source : List ℕ) (b b' : AtBench) (line : List ℕ) (answer : Option V)
+pub typed-loose : {V : Type 0} (items : V → List ℕ) (source : List ℕ) (b b' : AtBench) (line : List ℕ) (outcome : Outcome) (answer : Option V)
     → AsksNothing b.desk.machine.checked line → line ≢ []
-    → IfSome answer (λ v. AnsweredAsTidied source b (tidied line) (items v) b')
-    → IfSome answer (λ v. AnsweredAsTyped source b line (items v) b')
-typed-loose items source b b' line answer nothing filled h =
-    if-some-by (λ v. AnsweredAsTidied source b (tidied line) (items v) b') (λ v. AnsweredAsTyped source b line (items v) b') answer
+    → IfSome answer (λ v. AnsweredAsTidied source b (tidied line) outcome (items v) b')
+    → IfSome answer (λ v. AnsweredAsTyped source b line outcome (items v) b')
+typed-loose items source b b' line outcome answer nothing filled h =
+    if-some-by (λ v. AnsweredAsTidied source b (tidied line) outcome (items v) b')
+    (λ v. AnsweredAsTyped source b line outcome (items v) b') answer
     (λ v own. (unsaid-own source b b' line (items v) nothing filled, (λ none. own))) h
 
 -- what a text is answered that is a tidied line is what the tidied line is answered
-pub owns-as : {V : Type 0} (items : V → List ℕ) (source : List ℕ) (b b' : AtBench) (text line : List ℕ) (answer : Option V)
-    → text ≡ tidied line → IfSome answer (λ v. AnsweredAsTidied source b text (items v) b')
-    → IfSome answer (λ v. AnsweredAsTidied source b (tidied line) (items v) b')
-owns-as items source b b' text line answer e h =
-    subst (λ (t : List ℕ). IfSome answer (λ v. AnsweredAsTidied source b t (items v) b')) e h
+pub owns-as : {V : Type 0} (items : V → List ℕ) (source : List ℕ) (b b' : AtBench) (text line : List ℕ) (outcome : Outcome) (answer : Option V)
+    → text ≡ tidied line → IfSome answer (λ v. AnsweredAsTidied source b text outcome (items v) b')
+    → IfSome answer (λ v. AnsweredAsTidied source b (tidied line) outcome (items v) b')
+owns-as items source b b' text line outcome answer e h =
+    subst (λ (t : List ℕ). IfSome answer (λ v. AnsweredAsTidied source b t outcome (items v) b')) e h
 
 -- a number takes a step, or there was no memory to read it
 pub number-leaves : (files : Files) (source stimulus text : List ℕ) (b b' : AtBench) (n : ℕ) (outcome : Outcome)
@@ -458,34 +460,58 @@ pub takes-none : (b : AtBench) (n : ℕ) (outcome : Outcome) → outcome ≡ Out
 takes-none b n outcome e at =
     inl (e, (Done.Unknown, subst (λ (o : Option Command). AsksIfAny b o Done.Unknown b) at (refl, refl)))
 
--- its own answer is that of the command which has the number
-pub step-owns : {V : Type 0} (items : V → List ℕ) (source : List ℕ) (b b' : AtBench) (n : ℕ) (c : Command) (answer : Option V)
-    → Some c ≡ numbered_as b.numbered n → IfSome answer (λ v. SaidAsScript source b (Line.Asked c) (items v) b')
-    → IfSome answer (λ v. AnsweredAsStep source b n (items v) b')
-step-owns items source b b' n c answer at h =
-    if-some-by (λ v. SaidAsScript source b (Line.Asked c) (items v) b') (λ v. AnsweredAsStep source b n (items v) b') answer
+-- a deed's own answer is that of the command which it asks
+pub deed-owns : {V : Type 0} (items : V → List ℕ) (source : List ℕ) (b b' : AtBench) (deed : Deed) (c : Command) (answer : Option V)
+    → Some c ≡ command_of b deed → IfSome answer (λ v. SaidAsScript source b (Line.Asked c) (items v) b')
+    → IfSome answer (λ v. AnsweredAsDeed source b deed (items v) b')
+deed-owns items source b b' deed c answer at h =
+    if-some-by (λ v. SaidAsScript source b (Line.Asked c) (items v) b') (λ v. AnsweredAsDeed source b deed (items v) b') answer
     (λ v own other is.
     let same : c ≡ other = cc in
     subst (λ (x : Command). SaidAsScript source b (Line.Asked x) (items v) b') same own) h
 
--- where none has it nothing is owed
-pub none-owns : {V : Type 0} (items : V → List ℕ) (source : List ℕ) (b b' : AtBench) (n : ℕ) (answer : Option V)
-    → None ≡ numbered_as b.numbered n → IfSome answer (λ v. AnsweredAsStep source b n (items v) b')
-none-owns items source b b' n answer at =
-    if-some (λ v. AnsweredAsStep source b n (items v) b') answer (λ v other is. absurd (cc))
+-- where it asks none nothing is owed
+none-owed : (source own : List ℕ) (b b' : AtBench) (deed : Deed) → None ≡ command_of b deed → AnsweredAsDeed source b deed own b'
+none-owed source own b b' deed at other is = absurd (cc)
 
--- what is owed to the number is owed to the text
-pub number-owns : {V : Type 0} (items : V → List ℕ) (source : List ℕ) (b b' : AtBench) (text : List ℕ) (n : ℕ) (answer : Option V)
-    → Reads text n → IfSome answer (λ v. AnsweredAsStep source b n (items v) b')
-    → IfSome answer (λ v. AnsweredAsNumber source b text (items v) b')
-number-owns items source b b' text n answer reads h =
-    if-some-by (λ v. AnsweredAsStep source b n (items v) b') (λ v. AnsweredAsNumber source b text (items v) b') answer
-    (λ v own. inr (n, reads, own)) h
+pub none-owns : {V : Type 0} (items : V → List ℕ) (source : List ℕ) (b b' : AtBench) (deed : Deed) (answer : Option V)
+    → None ≡ command_of b deed → IfSome answer (λ v. AnsweredAsDeed source b deed (items v) b')
+none-owns items source b b' deed answer at =
+    if-some (λ v. AnsweredAsDeed source b deed (items v) b') answer (λ v. none-owed source (items v) b b' deed at)
 
-pub words-owns : {V : Type 0} (items : V → List ℕ) (source : List ℕ) (b b' : AtBench) (text : List ℕ) (answer : Option V)
-    → IsNoNumber text → IfSome answer (λ v. AnsweredAsNumber source b text (items v) b')
-words-owns items source b b' text answer none =
-    if-some (λ v. AnsweredAsNumber source b text (items v) b') answer (λ v. inl none)
+-- what is owed to a deed is owed to what asks it
+pub asked-owns : {V : Type 0} (items : V → List ℕ) (A : Deed → Type 0) (source : List ℕ) (b b' : AtBench) (outcome : Outcome) (deed : Deed)
+    (answer : Option V) → A deed → IfSome answer (λ v. AnsweredAsDeed source b deed (items v) b')
+    → IfSome answer (λ v. AnsweredIfDone A source b outcome (items v) b')
+asked-owns items A source b b' outcome deed answer asks h =
+    if-some-by (λ v. AnsweredAsDeed source b deed (items v) b') (λ v. AnsweredIfDone A source b outcome (items v) b') answer
+    (λ v own done. (deed, asks, own)) h
+
+-- what asks in one way does so in another
+pub owns-by : {V : Type 0} (items : V → List ℕ) (A A' : Deed → Type 0) (source : List ℕ) (b b' : AtBench) (outcome : Outcome)
+    (answer : Option V) → ((deed : Deed) → A deed → A' deed) → IfSome answer (λ v. AnsweredIfDone A source b outcome (items v) b')
+    → IfSome answer (λ v. AnsweredIfDone A' source b outcome (items v) b')
+owns-by items A A' source b b' outcome answer f h =
+    if-some-by (λ v. AnsweredIfDone A source b outcome (items v) b') (λ v. AnsweredIfDone A' source b outcome (items v) b') answer
+    (λ v own done. let found = own done in (found.0, f found.0 found.1, found.2)) h
+
+-- what asks nothing is owed nothing
+pub rest-owns : {V : Type 0} (items : V → List ℕ) (A : Deed → Type 0) (source : List ℕ) (b b' : AtBench) (outcome : Outcome)
+    (answer : Option V) → A Deed.Rest → IfSome answer (λ v. AnsweredIfDone A source b outcome (items v) b')
+rest-owns items A source b b' outcome answer asks =
+    asked-owns items A source b b' outcome Deed.Rest answer asks (none-owns items source b b' Deed.Rest answer refl)
+
+-- nor is a word that asks nothing of the desk
+pub other-owns : {V : Type 0} (items : V → List ℕ) (files : Files) (source stimulus : List ℕ) (b b' : AtBench) (word : Word)
+    (rest : List ℕ) (outcome : Outcome) (answer : Option V) → AsksNoDeed word rest
+    → Leaves (RestsWith word rest) (Begun word rest) files source stimulus b outcome b'
+    → IfSome answer (λ v. AnsweredIfDone (WordMeans word rest) source b outcome (items v) b')
+other-owns items files source stimulus b b' word rest outcome answer none leaves =
+    if-some (λ v. AnsweredIfDone (WordMeans word rest) source b outcome (items v) b') answer
+    (λ v e.
+    let h : Leaves (RestsWith word rest) (Begun word rest) files source stimulus b Outcome.Done b' =
+    subst (λ (o : Outcome). Leaves (RestsWith word rest) (Begun word rest) files source stimulus b o b') e leaves in
+    (h.0, inr (none, h.2), none-owed source (items v) b b' h.0 (ap (λ (d : Deed). command_of b d) (sym h.2.1))))
 
 -- a line that is none of a script as it stands leaves what it leaves once it is tidied
 pub loose-line : (files : Files) (source stimulus line text : List ℕ) (b b' : AtBench) (outcome : Outcome) → text ≡ tidied line

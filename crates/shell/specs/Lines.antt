@@ -1,6 +1,5 @@
 -- What the lines of a session leave.
-use Rattle.std.specs.Prelude.{ℕ, ◌≡◌, ◌⊎◌, ◌+◌, ◌==◌, if◌then◌else◌, List, [], ◌∷◌, Some}
-use Rattle.decimal.specs.Reading.{IsNoNumber, Reads}
+use Rattle.std.specs.Prelude.{ℕ, ◌≡◌, ◌≢◌, ◌⊎◌, ◌+◌, ◌==◌, if◌then◌else◌, List, [], ◌∷◌, Option, None, Some, option_map}
 use Rattle.system.specs.declared.system.System.{System}
 use Rattle.runs.specs.Live.{events}
 use Rattle.machine.specs.AtMachine.{AtMachine}
@@ -17,7 +16,7 @@ use Rattle.shell_desk.specs.declared.deed.Deed.{Deed}
 use Rattle.shell_desk.specs.declared.deed.Done.{Done}
 use Rattle.shell_desk.specs.declared.word.Word.{Word}
 use Rattle.shell_desk.specs.declared.word.Word.TheVariants.{Load, Quit, Save, SaveOver, Script, ScriptOver}
-use Rattle.shell.specs.Asking.{LineAsks, IsWordWith}
+use Rattle.shell.specs.Asking.{LineAsks, IsWordWith, ShellAsks}
 use Rattle.shell.specs.Beginning.{BeginsAt}
 use Rattle.shell_files.specs.Files.{Files}
 use Rattle.shell.specs.declared.answer.Outcome.{Outcome}
@@ -92,27 +91,40 @@ abbrev pub AnsweredAsScript : List ℕ → AtBench → List ℕ → List ℕ →
 AnsweredAsScript source b line own b' =
     (said : Line) → Says b.desk.machine.checked line said → SaidAsScript source b said own b'
 
--- the step that has the number is answered as its line of a script is
-abbrev pub AnsweredAsStep : List ℕ → AtBench → ℕ → List ℕ → AtBench → Type 0
-AnsweredAsStep source b n own b' =
-    (c : Command) → numbered_as b.numbered n ≡ Some c → SaidAsScript source b (Line.Asked c) own b'
+-- the command that a deed asks alone, where it asks one
+abbrev pub command_of : AtBench → Deed → Option Command
+command_of b (Deed.Ask c) = Some c
+command_of b (Deed.Take number) = numbered_as b.numbered number
+command_of b (Deed.Next k) = Some (Command.Branch k)
+command_of b Deed.NextAgain = option_map Command.Branch b.branch
+command_of b _ = None
 
--- so is a text, where it is a number
-abbrev pub AnsweredAsNumber : List ℕ → AtBench → List ℕ → List ℕ → AtBench → Type 0
-AnsweredAsNumber source b text own b' =
-    IsNoNumber text ⊎ ((n : ℕ) × Reads text n × AnsweredAsStep source b n own b')
+-- a deed that asks one command alone is answered as the line of a script that asks it
+abbrev pub AnsweredAsDeed : List ℕ → AtBench → Deed → List ℕ → AtBench → Type 0
+AnsweredAsDeed source b deed own b' =
+    (c : Command) → command_of b deed ≡ Some c → SaidAsScript source b (Line.Asked c) own b'
 
--- a text that is tidied has its own answer: that of the line of a script that it is, or of the step that has its number
-abbrev pub AnsweredAsTidied : List ℕ → AtBench → List ℕ → List ℕ → AtBench → Type 0
-AnsweredAsTidied source b text own b' =
+-- what asks so, and became this, is answered as the deed that it asks, where that was done
+abbrev pub AnsweredIfDone : (Deed → Type 0) → List ℕ → AtBench → Outcome → List ℕ → AtBench → Type 0
+AnsweredIfDone Asks source b outcome own b' =
+    outcome ≡ Outcome.Done → (deed : Deed) × Asks deed × AnsweredAsDeed source b deed own b'
+
+-- a text is no line of a script
+abbrev pub IsNoLine : System → List ℕ → Type 0
+IsNoLine system text = (text ≢ []) × AsksNothing system text
+
+-- a text that is tidied, and became this, has its own answer: that of the line of a script that it is, or of the one
+-- command that it asks in a shell: the step that has its number, `r`, `n` and `next`
+abbrev pub AnsweredAsTidied : List ℕ → AtBench → List ℕ → Outcome → List ℕ → AtBench → Type 0
+AnsweredAsTidied source b text outcome own b' =
     AnsweredAsScript source b text own b'
-    × (AsksNothing b.desk.machine.checked text → AnsweredAsNumber source b text own b')
+    × (IsNoLine b.desk.machine.checked text → AnsweredIfDone (ShellAsks text) source b outcome own b')
 
 -- a line has its own answer: that of the line of a script that it is, or that of what it is once it is tidied
-abbrev pub AnsweredAsTyped : List ℕ → AtBench → List ℕ → List ℕ → AtBench → Type 0
-AnsweredAsTyped source b line own b' =
+abbrev pub AnsweredAsTyped : List ℕ → AtBench → List ℕ → Outcome → List ℕ → AtBench → Type 0
+AnsweredAsTyped source b line outcome own b' =
     AnsweredAsScript source b line own b'
-    × (AsksNothing b.desk.machine.checked line → AnsweredAsTidied source b (tidied line) own b')
+    × (IsNoLine b.desk.machine.checked line → AnsweredAsTidied source b (tidied line) outcome own b')
 
 -- a line for which there may be no memory to read it: it may be a step of a script, or it is no line of one
 abbrev pub MayGoUnread : System → List ℕ → Type 0

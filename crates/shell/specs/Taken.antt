@@ -4,6 +4,7 @@ use Rattle.std.specs.Prelude.{Err, MatchResult}
 use Rattle.std.specs.Io.KnownBytes.{Appends, Consumes, IsAtEnd}
 use Rattle.machine.specs.AtMachine.{AtMachine}
 use Rattle.machine.specs.Headline.{Headline}
+use Rattle.devices.specs.Counting.{IsBeginning}
 use Rattle.locked_execution.specs.AtDesk.{execution}
 use Rattle.debug_session.specs.Script.{AreLines}
 use Rattle.debug_session.specs.declared.fault.Fault.{Fault}
@@ -14,7 +15,7 @@ use Rattle.shell_desk.specs.declared.word.Word.TheVariants.{Quit}
 use Rattle.shell.specs.Asking.{IsWordWith}
 use Rattle.shell.specs.Beginning.{BeginsAt, RefusesToBegin}
 use Rattle.shell_files.specs.Files.{Files}
-use Rattle.shell.specs.Lines.{AnsweredAsTyped, IsLastIfOver, LineLeaves, LinesLeave, MayGoUnread}
+use Rattle.shell.specs.Lines.{AnsweredAsTyped, IsLastIfOver, LineLeaves, MayGoUnread}
 use Rattle.shell.specs.declared.answer.Outcome.{Outcome}
 
 -- before a line stands a prompt at a terminal, else nothing
@@ -46,7 +47,7 @@ TellsLost own = own ≡ codes "  the line was done, but there was no memory for 
 abbrev pub StandsFirst : List ℕ → AtBench → List ℕ → Outcome → List ℕ → AtBench → Type 0
 StandsFirst source b line outcome own b' =
     ((outcome ≡ Outcome.Unread) × MayGoUnread b.desk.machine.checked line × TellsUnread own)
-    ⊎ ((outcome ≢ Outcome.Unread) × (AnsweredAsTyped source b line own b' ⊎ TellsLost own))
+    ⊎ ((outcome ≢ Outcome.Unread) × (AnsweredAsTyped source b line outcome own b' ⊎ TellsLost own))
 
 -- so much is shown for the line that became this: the prompt, what stands first, and words behind what is said before
 -- them
@@ -81,21 +82,35 @@ AllShown files at_terminal source stimulus b lines before wrote contents b' =
     (output : List ℕ) × (prompt : List ℕ) × LinesShown files at_terminal source stimulus b lines output b'
     × ((prompt ≡ []) ⊎ (prompt ≡ prompt_of at_terminal)) × Appends wrote contents (before ++ (output ++ prompt))
 
--- the lines were done; so was the last behind them where the reader is at its end
-abbrev pub WereDone : Files → List ℕ → List ℕ → AtBench → List (List ℕ) → List ℕ → Type 0 → AtBench → Type 0
-WereDone files source stimulus b lines last at_end b' =
-    LinesLeave files source stimulus b lines b'
-    ⊎ (at_end × LinesLeave files source stimulus b (lines ++ last ∷ []) b')
+-- a beginning of the bytes was written on, and no more
+abbrev pub BeginsOn : List ℕ → Option (List ℕ) → Option (List ℕ) → Type 0
+BeginsOn bytes wrote contents = (given : List ℕ) × Appends wrote contents given × IsBeginning bytes given
+
+-- the lines were done, and a beginning of what is shown for them, behind what stands before them, is out; at most a
+-- prompt is due behind
+abbrev pub PartShown : Files → Bool → List ℕ → List ℕ → AtBench → List (List ℕ) → List ℕ → Option (List ℕ)
+    → Option (List ℕ) → AtBench → Type 0
+PartShown files at_terminal source stimulus b lines before wrote contents b' =
+    (output : List ℕ) × (prompt : List ℕ) × LinesShown files at_terminal source stimulus b lines output b'
+    × ((prompt ≡ []) ⊎ (prompt ≡ prompt_of at_terminal)) × BeginsOn (before ++ (output ++ prompt)) wrote contents
+
+-- the same of the lines; or also of the last behind them, where the reader is at its end
+abbrev pub WereDone : Files → Bool → List ℕ → List ℕ → AtBench → List (List ℕ) → List ℕ → Type 0 → List ℕ
+    → Option (List ℕ) → Option (List ℕ) → AtBench → Type 0
+WereDone files at_terminal source stimulus b lines last at_end before wrote contents b' =
+    PartShown files at_terminal source stimulus b lines before wrote contents b'
+    ⊎ (at_end × PartShown files at_terminal source stimulus b (lines ++ last ∷ []) before wrote contents b')
 
 -- the session stopped early for this reason: reading failed, or there was no memory, and the lines that were taken with
--- their ends were done and shown; or writing failed, and they were done
+-- their ends were done and shown; or writing failed, and they were done, and a beginning of what is shown for them is out
 abbrev pub Stopped : Files → Bool → List ℕ → List ℕ → AtBench → Option (List ℕ) → Option (List ℕ) → List ℕ
     → Option (List ℕ) → Option (List ℕ) → Fault → AtBench → Type 0
 Stopped files at_terminal source stimulus b read left before wrote contents fault b' =
     (taken : List ℕ) × (lines : List (List ℕ)) × (last : List ℕ) × Consumes read left taken × AreLines taken lines last
     × ((((fault ≡ Memory) ⊎ (fault ≡ ReadFailed))
     × AllShown files at_terminal source stimulus b lines before wrote contents b')
-    ⊎ ((fault ≡ WriteFailed) × WereDone files source stimulus b lines last (IfSome read (λ _. IsAtEnd left)) b'))
+    ⊎ ((fault ≡ WriteFailed)
+    × WereDone files at_terminal source stimulus b lines last (IfSome read (λ _. IsAtEnd left)) before wrote contents b'))
 
 -- a session that began at b ends so, with b'; it shows a greeting first
 abbrev pub EndsAt : Files → Bool → List ℕ → List ℕ → AtBench → Option (List ℕ) → Option (List ℕ) → Option (List ℕ)

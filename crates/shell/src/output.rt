@@ -1,11 +1,9 @@
 // What is written for people.
-ghost use Rattle.std.specs.Prelude.{◌≡◌, List, ℕ, MatchOption, MatchResult};
-ghost use Rattle.std.specs.Io.KnownBytes.{Appends};
+ghost use Rattle.std.specs.Prelude.{◌≡◌, List, ℕ, MatchOption};
 ghost use Rattle.devices.specs.Counting.{device, failures};
 ghost use Rattle.debug_session.specs.Counting.{after_writing};
-ghost use Rattle.debug_session.specs.declared.fault.Fault.TheVariants.{WriteFailed};
 ghost use Rattle.shell.specs.Taken.{TellsLost, TellsUnread};
-ghost use Rattle.shell.specs.internal.Next.{Answers, HeadedOn, Tells};
+ghost use Rattle.shell.specs.internal.Next.{Answers, HeadedOn, Tells, WritesOn};
 
 use crate::answer::head;
 use crate::{Answer, Outcome};
@@ -15,10 +13,8 @@ use std::io::Write;
 
 /// Writes an answer: that of a script first, and words behind it.
 pub(crate) fn write_answer<W: Write>(out: &mut Counted<W>, answer: Answer) -> Result<(), Fault>
-    ensures bytes { MatchResult result
-        (λ _. Answers answer.outcome answer.own (λ text. text.items) (W.contents (device out.old))
-        (W.contents (device out.new)))
-        (λ fault. fault ≡ WriteFailed) }
+    ensures bytes { Answers answer.outcome answer.own (λ text. text.items) (W.contents (device out.old))
+        (W.contents (device out.new)) result }
     ensures failures { failures out.new ≡ after_writing result (failures out.old) }
 {
     let Answer {
@@ -34,9 +30,7 @@ pub(crate) fn write_answer<W: Write>(out: &mut Counted<W>, answer: Answer) -> Re
 
 /// Writes words, and before them what is said first of a line that became this.
 fn write_headed<W: Write>(out: &mut Counted<W>, outcome: Outcome, words: Text) -> Result<(), Fault>
-    ensures bytes { MatchResult result
-        (λ _. HeadedOn outcome (W.contents (device out.old)) (W.contents (device out.new)))
-        (λ fault. fault ≡ WriteFailed) }
+    ensures bytes { HeadedOn outcome (W.contents (device out.old)) (W.contents (device out.new)) result }
     ensures failures { failures out.new ≡ after_writing result (failures out.old) }
 {
     match write_some(out, head(outcome)) {
@@ -51,10 +45,8 @@ fn write_own<W: Write>(
     own: &Option<Vec<u8>>,
     outcome: Outcome,
 ) -> Result<(), Fault>
-    ensures bytes { MatchResult result
-        (λ _. (told : List ℕ) × Appends (W.contents (device out.old)) (W.contents (device out.new)) told
-        × Tells outcome own.now (λ text. text.items) told)
-        (λ fault. fault ≡ WriteFailed) }
+    ensures bytes { (told : List ℕ) × Tells outcome own.now (λ text. text.items) told
+        × WritesOn told (W.contents (device out.old)) (W.contents (device out.new)) result }
     ensures failures { failures out.new ≡ after_writing result (failures out.old) }
 {
     match outcome {
@@ -65,10 +57,8 @@ fn write_own<W: Write>(
 
 /// Writes the answer of a script, or that there was no memory for it.
 fn write_read<W: Write>(out: &mut Counted<W>, own: &Option<Vec<u8>>) -> Result<(), Fault>
-    ensures bytes { MatchResult result
-        (λ _. (told : List ℕ) × Appends (W.contents (device out.old)) (W.contents (device out.new)) told
-        × MatchOption own.now (TellsLost told) (λ text. told ≡ text.items))
-        (λ fault. fault ≡ WriteFailed) }
+    ensures bytes { (told : List ℕ) × MatchOption own.now (TellsLost told) (λ text. told ≡ text.items)
+        × WritesOn told (W.contents (device out.old)) (W.contents (device out.new)) result }
     ensures failures { failures out.new ≡ after_writing result (failures out.old) }
 {
     match own {
@@ -93,9 +83,7 @@ fn lost_told() -> &'static [u8]
 
 /// Writes words, or that there was no memory for them.
 pub(crate) fn write_text<W: Write>(out: &mut Counted<W>, text: Text) -> Result<(), Fault>
-    ensures bytes { MatchResult result
-        (λ _. (words : List ℕ) × Appends (W.contents (device out.old)) (W.contents (device out.new)) words)
-        (λ fault. fault ≡ WriteFailed) }
+    ensures bytes { (words : List ℕ) × WritesOn words (W.contents (device out.old)) (W.contents (device out.new)) result }
     ensures failures { failures out.new ≡ after_writing result (failures out.old) }
 {
     match text.into_bytes() {
@@ -109,9 +97,7 @@ pub(crate) fn write_text<W: Write>(out: &mut Counted<W>, text: Text) -> Result<(
 
 /// Writes the bytes, where there are some.
 pub(crate) fn write_some<W: Write>(out: &mut Counted<W>, bytes: &[u8]) -> Result<(), Fault>
-    ensures bytes { MatchResult result
-        (λ _. Appends (W.contents (device out.old)) (W.contents (device out.new)) bytes.now)
-        (λ fault. fault ≡ WriteFailed) }
+    ensures bytes { WritesOn bytes.now (W.contents (device out.old)) (W.contents (device out.new)) result }
     ensures failures { failures out.new ≡ after_writing result (failures out.old) }
 {
     if bytes.is_empty() {

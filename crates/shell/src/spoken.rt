@@ -2,11 +2,12 @@
 ghost use Rattle.std.specs.Prelude.{◌≡◌, IfSome};
 ghost use Rattle.debug_session.specs.Lines.{AsksNothing};
 ghost use Rattle.shell_desk.specs.Does.{Does, NamesSession};
+ghost use Rattle.shell_desk.specs.declared.deed.Deed.TheVariants as deeds;
 ghost use Rattle.shell_desk.specs.declared.deed.Done.{Done as DoneAt};
 ghost use Rattle.shell_desk.specs.Tidied.{tidied};
 ghost use Rattle.shell.specs.Asking.{IsWordWith, ShellAsks, TextAsks};
-ghost use Rattle.shell.specs.Lines.{AnsweredAsNumber, AnsweredAsStep, AnsweredAsTidied, AnsweredAsTyped, LineLeaves, Leaves, MayGoUnread};
-ghost use Rattle.shell.specs.internal.Parts.{Begun, Quits, RestsWith, TakesNumber, WordMeans, WordsAsk, is_want};
+ghost use Rattle.shell.specs.Lines.{AnsweredAsDeed, AnsweredAsTidied, AnsweredAsTyped, AnsweredIfDone, LineLeaves, Leaves, MayGoUnread};
+ghost use Rattle.shell.specs.internal.Parts.{Begun, ComesOfWord, Quits, RestsWith, TakesNumber, WordMeans, WordsAsk, is_want};
 ghost use Rattle.shell.specs.declared.answer.Outcome.TheVariants as outcomes;
 
 use crate::answer::{spoken, unread};
@@ -18,7 +19,7 @@ use decimal::read_number;
 use line_text::cut_at_space;
 use locked_execution::Command;
 use plain_words::Text;
-use shell_answers::{mistake_text, question_text, reply_text, run_text, unknown_text, way_text};
+use shell_answers::{mistake_text, question_text, run_text, unknown_text, way_text};
 use shell_desk::{Deed, Done, Word, read_deed, tidied};
 
 impl Session {
@@ -27,7 +28,8 @@ impl Session {
         ensures leaves { LineLeaves (H.files host.now) setting.now.texts.source.now setting.now.texts.stimulus.now
             self.old.bench line.now result.outcome self.new.bench }
         ensures own { IfSome result.own (λ text.
-            AnsweredAsTyped setting.now.texts.source.now self.old.bench line.now text.items self.new.bench) }
+            AnsweredAsTyped setting.now.texts.source.now self.old.bench line.now result.outcome text.items
+            self.new.bench) }
         ensures unread { result.outcome ≡ outcomes.Unread → MayGoUnread self.old.bench.desk.machine.checked line.now }
     {
         line_laws();
@@ -49,7 +51,8 @@ impl Session {
         ensures leaves { LineLeaves (H.files host.now) setting.now.texts.source.now setting.now.texts.stimulus.now
             self.old.bench line.now result.outcome self.new.bench }
         ensures own { IfSome result.own (λ text.
-            AnsweredAsTidied setting.now.texts.source.now self.old.bench (tidied line.now) text.items self.new.bench) }
+            AnsweredAsTidied setting.now.texts.source.now self.old.bench (tidied line.now) result.outcome text.items
+            self.new.bench) }
     {
         match tidied(setting.alloc, line) {
             Ok(text) => self.answer_tidied(setting, host, text.as_slice()),
@@ -63,7 +66,8 @@ impl Session {
             (H.files host.now) setting.now.texts.source.now setting.now.texts.stimulus.now
             self.old.bench result.outcome self.new.bench }
         ensures own { IfSome result.own (λ own.
-            AnsweredAsTidied setting.now.texts.source.now self.old.bench text.now own.items self.new.bench) }
+            AnsweredAsTidied setting.now.texts.source.now self.old.bench text.now result.outcome own.items
+            self.new.bench) }
     {
         line_laws();
         let checked = self.bench.desk().machine().checked();
@@ -84,7 +88,8 @@ impl Session {
             setting.now.texts.source.now setting.now.texts.stimulus.now
             self.old.bench result.outcome self.new.bench }
         ensures own { IfSome result.own (λ own.
-            AnsweredAsNumber setting.now.texts.source.now self.old.bench text.now own.items self.new.bench) }
+            AnsweredIfDone (ShellAsks text.now) setting.now.texts.source.now self.old.bench result.outcome own.items
+            self.new.bench) }
     {
         match read_number(text) {
             Some(number) => self.answer_number(setting, number),
@@ -96,28 +101,23 @@ impl Session {
     fn answer_number(&mut self, setting: &Setting<'_>, number: u64) -> Answer
         ensures done { TakesNumber number self.old.bench result.outcome self.new.bench }
         ensures own { IfSome result.own (λ own.
-            AnsweredAsStep setting.now.texts.source.now self.old.bench number own.items self.new.bench) }
+            AnsweredAsDeed setting.now.texts.source.now self.old.bench (deeds.Take number) own.items self.new.bench) }
     {
         match self.bench.numbered(setting.alloc, number) {
             Ok(Some(command)) => self.answer_command(setting, &command),
-            Ok(None) => self.answer_no_step(setting, number),
+            Ok(None) => self.answer_unknown(setting, &Deed::Take(number)),
             Err(_) => unread(setting.alloc),
         }
     }
 
-    /// Tells that no step has the number.
-    fn answer_no_step(&self, setting: &Setting<'_>, number: u64) -> Answer
-        ensures { result.outcome ≡ outcomes.Done }
-    {
-        let words = unknown_text(&self.scene(setting), &Deed::Take(number));
-        spoken(setting.alloc, Outcome::Done, words)
-    }
-
     /// Answers a line that begins with a word, if that is one.
     fn answer_words<H: Host>(&mut self, setting: &Setting<'_>, host: &H, text: &[u8]) -> Answer
-        ensures { Leaves (WordsAsk text.now) (IsWordWith text.now) (H.files host.now)
+        ensures leaves { Leaves (WordsAsk text.now) (IsWordWith text.now) (H.files host.now)
             setting.now.texts.source.now setting.now.texts.stimulus.now
             self.old.bench result.outcome self.new.bench }
+        ensures own { IfSome result.own (λ own.
+            AnsweredIfDone (WordsAsk text.now) setting.now.texts.source.now self.old.bench result.outcome own.items
+            self.new.bench) }
     {
         let (spelled, rest) = cut_at_space(text);
         match Word::read(spelled) {
@@ -134,9 +134,12 @@ impl Session {
         word: Word,
         rest: &[u8],
     ) -> Answer
-        ensures { Leaves (WordMeans word rest.now) (Begun word rest.now) (H.files host.now)
+        ensures leaves { Leaves (WordMeans word rest.now) (Begun word rest.now) (H.files host.now)
             setting.now.texts.source.now setting.now.texts.stimulus.now
             self.old.bench result.outcome self.new.bench }
+        ensures own { IfSome result.own (λ own.
+            AnsweredIfDone (WordMeans word rest.now) setting.now.texts.source.now self.old.bench result.outcome
+            own.items self.new.bench) }
     {
         match read_deed(word, rest) {
             Some(deed) => self.answer_deed(setting, host, &deed),
@@ -194,8 +197,47 @@ impl Session {
         spoken(setting.alloc, Outcome::Done, words)
     }
 
-    /// Does what a line asks, and answers with the answers of a script to its commands, and words.
+    /// Does what a word asks. What asks one command alone is answered as a line of a script is that asks it.
     fn answer_deed<H: Host>(&mut self, setting: &Setting<'_>, host: &H, deed: &Deed) -> Answer
+        requires { ComesOfWord deed.now }
+        ensures outcome { result.outcome ≡ outcomes.Done }
+        ensures done { (done : DoneAt) × Does self.old.bench deed.now done self.new.bench }
+        ensures own { IfSome result.own (λ own.
+            AnsweredAsDeed setting.now.texts.source.now self.old.bench deed.now own.items self.new.bench) }
+    {
+        match deed {
+            Deed::Ask(command) => self.answer_command(setting, command),
+            Deed::Next(branch) => self.answer_command(setting, &Command::Branch(*branch)),
+            Deed::NextAgain => self.answer_again(setting),
+            Deed::Rest | Deed::Turn(_) | Deed::Take(_) | Deed::Run(_) | Deed::Back(_) => {
+                self.answer_many(setting, host, deed)
+            }
+        }
+    }
+
+    /// Takes the next step of the branch that was stepped last, or tells that none was.
+    fn answer_again(&mut self, setting: &Setting<'_>) -> Answer
+        ensures outcome { result.outcome ≡ outcomes.Done }
+        ensures done { (done : DoneAt) × Does self.old.bench deeds.NextAgain done self.new.bench }
+        ensures own { IfSome result.own (λ own.
+            AnsweredAsDeed setting.now.texts.source.now self.old.bench deeds.NextAgain own.items self.new.bench) }
+    {
+        match self.bench.branch() {
+            Some(branch) => self.answer_command(setting, &Command::Branch(branch)),
+            None => self.answer_unknown(setting, &Deed::NextAgain),
+        }
+    }
+
+    /// Tells that a deed names what is not there.
+    fn answer_unknown(&self, setting: &Setting<'_>, deed: &Deed) -> Answer
+        ensures { result.outcome ≡ outcomes.Done }
+    {
+        let words = unknown_text(&self.scene(setting), deed);
+        spoken(setting.alloc, Outcome::Done, words)
+    }
+
+    /// Does what asks many commands, and answers with the answers of a script to them, and words.
+    fn answer_many<H: Host>(&mut self, setting: &Setting<'_>, host: &H, deed: &Deed) -> Answer
         requires { NamesSession deed.now }
         ensures outcome { result.outcome ≡ outcomes.Done }
         ensures done { (done : DoneAt) × Does self.old.bench deed.now done self.new.bench }
@@ -205,7 +247,7 @@ impl Session {
         let done = self.bench.perform(deed, &mut progress);
         progress.end();
         let own = self.notes.take_shown();
-        let words = self.done_text(setting, deed, &done);
+        let words = self.done_text(setting, &done);
         Answer {
             outcome: Outcome::Done,
             own,
@@ -214,23 +256,12 @@ impl Session {
     }
 
     /// What is said behind what was done.
-    fn done_text(&self, setting: &Setting<'_>, deed: &Deed, done: &Done) -> Text {
+    fn done_text(&self, setting: &Setting<'_>, done: &Done) -> Text {
         let scene = self.scene(setting);
         match done {
-            Done::Rested => Text::new(setting.alloc),
-            Done::Told(reply) => reply_text(&scene, &self.asked_by(deed), reply),
-            Done::Unknown => unknown_text(&scene, deed),
+            Done::Rested | Done::Unknown | Done::Told(_) => Text::new(setting.alloc),
             Done::Ran(end) => run_text(&scene, *end, self.notes.steps()),
             Done::Back(last) => way_text(&scene, last, self.notes.steps()),
-        }
-    }
-
-    /// The command by which the reply to what was done is told in words.
-    fn asked_by(&self, deed: &Deed) -> Command {
-        match (deed, self.bench.branch()) {
-            (Deed::Next(branch), _) => Command::Branch(*branch),
-            (Deed::NextAgain, Some(branch)) => Command::Branch(branch),
-            _ => Command::Ready,
         }
     }
 }

@@ -1,7 +1,7 @@
 -- One line more of a session.
 -- No reader has to believe it: `proofs/TakenLemmas.antt` ties it to `Taken.antt`.
 use Rattle.std.specs.Prelude.{ℕ, ◌≡◌, ◌≢◌, ◌⊎◌, List, [], ◌++◌, Bool, true, false, Option, Result}
-use Rattle.std.specs.Prelude.{MatchBool, MatchOption, MatchResult}
+use Rattle.std.specs.Prelude.{IfOk, MatchBool, MatchOption, MatchResult}
 use Rattle.std.specs.Io.KnownBytes.{Appends, Consumes}
 use Rattle.debug_session.specs.Script.{IsLine, with_end}
 use Rattle.debug_session.specs.declared.fault.Fault.{Fault}
@@ -9,7 +9,7 @@ use Rattle.debug_session.specs.declared.fault.Fault.TheVariants.{WriteFailed}
 use Rattle.shell_desk.specs.AtBench.{AtBench}
 use Rattle.shell_files.specs.Files.{Files}
 use Rattle.shell.specs.Lines.{LineLeaves}
-use Rattle.shell.specs.Taken.{Finished, Shown, StandsFirst, Stopped, TellsLost, TellsUnread, head_of}
+use Rattle.shell.specs.Taken.{BeginsOn, Finished, Shown, StandsFirst, Stopped, TellsLost, TellsUnread, head_of}
 use Rattle.shell.specs.declared.answer.Outcome.{Outcome}
 
 -- one line was taken with its end, done and shown, and did not end the session
@@ -50,32 +50,38 @@ Tells outcome answer items told =
     ((outcome ≡ Outcome.Unread) × TellsUnread told)
     ⊎ ((outcome ≢ Outcome.Unread) × MatchOption answer (TellsLost told) (λ text. told ≡ items text))
 
--- such words were written on, behind what is said before them
-abbrev pub HeadedOn : Outcome → Option (List ℕ) → Option (List ℕ) → Type 0
-HeadedOn outcome wrote contents = (words : List ℕ) × Appends wrote contents (head_of outcome ++ words)
+-- the bytes were written on, or writing failed behind a beginning of them
+abbrev pub WritesOn : {V : Type 0} → List ℕ → Option (List ℕ) → Option (List ℕ) → Result V Fault → Type 0
+WritesOn bytes wrote contents result =
+    MatchResult result (λ _. Appends wrote contents bytes)
+    (λ fault. (fault ≡ WriteFailed) × BeginsOn bytes wrote contents)
 
--- such an answer was written on: what is told first, and words behind what is said before them
-abbrev pub Answers : {V : Type 0} → Outcome → Option V → (V → List ℕ) → Option (List ℕ) → Option (List ℕ) → Type 0
-Answers outcome answer items wrote contents =
-    (own : List ℕ) × (words : List ℕ) × Appends wrote contents (own ++ (head_of outcome ++ words))
-    × Tells outcome answer items own
+-- so were such words, behind what is said before them
+abbrev pub HeadedOn : Outcome → Option (List ℕ) → Option (List ℕ) → Result (Unit {0}) Fault → Type 0
+HeadedOn outcome wrote contents result = (words : List ℕ) × WritesOn (head_of outcome ++ words) wrote contents result
 
--- the answer to a line that became this stands there
-abbrev pub OwnShown : List ℕ → AtBench → List ℕ → Outcome → AtBench → Option (List ℕ) → Option (List ℕ) → Type 0
-OwnShown source b line outcome b' wrote contents =
-    (own : List ℕ) × (words : List ℕ) × Appends wrote contents (own ++ (head_of outcome ++ words))
-    × StandsFirst source b line outcome own b'
+-- so was such an answer: what is told first, and words behind what is said before them
+abbrev pub Answers : {V : Type 0} → Outcome → Option V → (V → List ℕ) → Option (List ℕ) → Option (List ℕ)
+    → Result (Unit {0}) Fault → Type 0
+Answers outcome answer items wrote contents result =
+    (own : List ℕ) × (words : List ℕ) × Tells outcome answer items own
+    × WritesOn (own ++ (head_of outcome ++ words)) wrote contents result
+
+-- so was the answer to a line that became this
+abbrev pub OwnWritten : {V : Type 0} → List ℕ → AtBench → List ℕ → Outcome → AtBench → Option (List ℕ)
+    → Option (List ℕ) → Result V Fault → Type 0
+OwnWritten source b line outcome b' wrote contents result =
+    (own : List ℕ) × (words : List ℕ) × StandsFirst source b line outcome own b'
+    × WritesOn (own ++ (head_of outcome ++ words)) wrote contents result
 
 -- whether others may follow a line that was complete or not and became this
 abbrev pub GoesOn : Bool → Outcome → Bool → Type 0
 GoesOn complete outcome more =
     MatchBool more ((complete ≡ true) × (outcome ≢ Outcome.Over)) ((complete ≡ false) ⊎ (outcome ≡ Outcome.Over))
 
--- a line that was taken was done so, and is shown, or writing failed
+-- a line that was taken was done so, and is shown, or writing failed behind a beginning of that
 abbrev pub TakenEnds : Files → List ℕ → List ℕ → AtBench → List ℕ → Bool → Option (List ℕ) → Option (List ℕ)
     → Result Bool Fault → AtBench → Type 0
 TakenEnds files source stimulus b line complete wrote contents result b' =
-    (outcome : Outcome) × LineLeaves files source stimulus b line outcome b'
-    × MatchResult result
-    (λ more. GoesOn complete outcome more × OwnShown source b line outcome b' wrote contents)
-    (λ fault. fault ≡ WriteFailed)
+    (outcome : Outcome) × LineLeaves files source stimulus b line outcome b' × IfOk result (GoesOn complete outcome)
+    × OwnWritten source b line outcome b' wrote contents result

@@ -76,3 +76,9 @@ WordMeans word rest deed =
 abbrev pub WordsAsk : List ℕ → Deed → Type 0
 WordsAsk text deed =
     (spelled : List ℕ) × (rest : List ℕ) × CutAtSpace text spelled rest × WordAsks spelled rest deed
+
+-- the deed comes of a word: it takes no number, and turns to no session
+abbrev pub ComesOfWord : Deed → Type 0
+ComesOfWord (Deed.Take number) = ⊥
+ComesOfWord (Deed.Turn session) = ⊥
+ComesOfWord _ = Unit {0}

@@ -11,7 +11,7 @@ answer_loose-requires g c =
 pub returns-in-Ok-clause-own : goal.returns-in-Ok-clause-own
 returns-in-Ok-clause-own g c =
     typed-says (λ v. v.items) c.args.setting.now.texts.source.now c.args.self.now.bench c.answer_script.new.self.bench c.args.line.now
-    c.in-Ok.said c.answer_script.result.own c.checked-checked.result.now
+    c.in-Ok.said c.answer_script.result.outcome c.answer_script.result.own c.checked-checked.result.now
     (c.checked-checked.ensures ∙ ap (λ m. m.checked) (c.machine.ensures ∙ ap (λ d. d.machine) c.desk.ensures)) c.in-Ok.ensures.line
     (own-lines (λ v. v.items) c.args.setting.now.texts.source.now c.args.self.now.bench c.answer_script.new.self.bench c.args.line.now
     c.in-Ok.said c.answer_script.result.own c.checked-checked.result.now
@@ -21,7 +21,7 @@ returns-in-Ok-clause-own g c =
 pub returns-else-is_want-clause-own : goal.returns-else-is_want-clause-own
 returns-else-is_want-clause-own g c =
     typed-loose (λ v. v.items) c.args.setting.now.texts.source.now c.args.self.now.bench c.answer_loose.new.self.bench c.args.line.now
-    c.answer_loose.result.own
+    c.answer_loose.result.outcome c.answer_loose.result.own
     (asks-nothing c.args.self.now.bench.desk.machine.checked c.checked-checked.result.now c.args.line.now c.in-Err.fault
     (c.checked-checked.ensures ∙ ap (λ m. m.checked) (c.machine.ensures ∙ ap (λ d. d.machine) c.desk.ensures))
     (not-want c.in-Err.fault c.is_want.result c.is_want.ensures c.if-is_want.false) c.in-Err.ensures.fault)

@@ -11,5 +11,5 @@ returns-in-Ok-clause-leaves g c =
 pub returns-in-Ok-clause-own : goal.returns-in-Ok-clause-own
 returns-in-Ok-clause-own g c =
     owns-as (λ v. v.items) c.args.setting.now.texts.source.now c.args.self.now.bench c.answer_tidied.new.self.bench
-    c.as_slice.result.now c.args.line.now c.answer_tidied.result.own (c.as_slice.ensures.value ∙ c.in-Ok.ensures)
+    c.as_slice.result.now c.args.line.now c.answer_tidied.result.outcome c.answer_tidied.result.own (c.as_slice.ensures.value ∙ c.in-Ok.ensures)
     c.answer_tidied.ensures.own

@@ -1,4 +1,4 @@
-use Rattle.std.proofs.Common.{ℕ, List, [], subst}
+use Rattle.std.proofs.Common.{ℕ, List, [], inr, subst}
 use Rattle.std.specs.Io.Buffered.{reader_remaining}
 use Rattle.shell.specs.internal.Next.{TakenEnds}
 use Rattle.shell.proofs.TakenLemmas.{next-ends, stopped-part, stopped-writing}
@@ -9,8 +9,8 @@ pub returns-in-Err-clause-ends : goal.returns-in-Err-clause-ends
 returns-in-Err-clause-ends g c =
     stopped-writing (g.H.Host.files c.args.host.now) c.args.is_terminal c.args.setting.now.texts.source.now
     c.args.setting.now.texts.stimulus.now c.args.self.now.bench (reader_remaining g.R.Read.remaining c.args.reader.now.device)
-    (g.O.Write.contents c.args.out.now.device) (g.O.Write.contents c.write_some.new.out.device) [] c.in-Err.fault
-    c.in-Err.ensures.bytes
+    (g.O.Write.contents c.args.out.now.device) (g.O.Write.contents c.write_some.new.out.device) [] c.prompt.result.now c.in-Err.fault
+    c.in-Err.ensures.bytes.0 (inr c.prompt.ensures) c.in-Err.ensures.bytes.1
 
 -- the reader stopped
 pub returns-in-Err-read_line-clause-ends : goal.returns-in-Err-read_line-clause-ends

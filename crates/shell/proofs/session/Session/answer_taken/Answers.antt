@@ -10,7 +10,7 @@ returns-in-Ok-clause-ends g c =
 
 pub returns-in-Err-clause-ends : goal.returns-in-Err-clause-ends
 returns-in-Err-clause-ends g c =
-    taken-stops (g.H.Host.files c.args.host.now) c.args.setting.now.texts.source.now c.args.setting.now.texts.stimulus.now c.args.self.now.bench
+    taken-stops (λ v. v.items) (g.H.Host.files c.args.host.now) c.args.setting.now.texts.source.now c.args.setting.now.texts.stimulus.now c.args.self.now.bench
     c.answer_line-outcome.new.self.bench c.args.line.now c.args.is_complete (g.O.Write.contents c.args.out.now.device)
-    (g.O.Write.contents c.write_answer.new.out.device) c.answer_line-outcome.result.outcome c.in-Err.fault c.answer_line-outcome.ensures.leaves
-    c.in-Err.ensures.bytes
+    (g.O.Write.contents c.write_answer.new.out.device) c.answer_line-outcome.result.outcome c.answer_line-outcome.result.own c.in-Err.fault
+    c.answer_line-outcome.ensures.leaves c.answer_line-outcome.ensures.unread c.answer_line-outcome.ensures.own c.in-Err.ensures.bytes

@@ -1,11 +1,11 @@
 use Rattle.std.proofs.Common.{ap, ◌∙◌}
-use Rattle.shell.proofs.LeavesLemmas.{asks-nothing, not-empty, not-want, own-lines, shell-text, tidied-number, tidied-says}
+use Rattle.shell.proofs.LeavesLemmas.{asks-nothing, not-empty, not-want, own-lines, shell-text, tidied-asked, tidied-says}
 use Rattle.shell.proofs.session.Session.answer_tidied.Goals as goal
 
 pub returns-in-Ok-clause-own : goal.returns-in-Ok-clause-own
 returns-in-Ok-clause-own g c =
     tidied-says (λ v. v.items) c.args.setting.now.texts.source.now c.args.self.now.bench c.answer_script.new.self.bench c.args.text.now
-    c.in-Ok.said c.answer_script.result.own c.checked-checked.result.now
+    c.in-Ok.said c.answer_script.result.outcome c.answer_script.result.own c.checked-checked.result.now
     (c.checked-checked.ensures ∙ ap (λ m. m.checked) (c.machine.ensures ∙ ap (λ d. d.machine) c.desk.ensures))
     c.in-Ok.ensures.line
     (own-lines (λ v. v.items) c.args.setting.now.texts.source.now c.args.self.now.bench c.answer_script.new.self.bench c.args.text.now
@@ -24,8 +24,8 @@ returns-else-is_want-clause-leaves g c =
 
 pub returns-else-is_want-clause-own : goal.returns-else-is_want-clause-own
 returns-else-is_want-clause-own g c =
-    tidied-number (λ v. v.items) c.args.setting.now.texts.source.now c.args.self.now.bench c.answer_shell.new.self.bench c.args.text.now
-    c.answer_shell.result.own
+    tidied-asked (λ v. v.items) c.args.setting.now.texts.source.now c.args.self.now.bench c.answer_shell.new.self.bench c.args.text.now
+    c.answer_shell.result.outcome c.answer_shell.result.own
     (asks-nothing c.args.self.now.bench.desk.machine.checked c.checked-checked.result.now c.args.text.now c.in-Err.fault
     (c.checked-checked.ensures ∙ ap (λ m. m.checked) (c.machine.ensures ∙ ap (λ d. d.machine) c.desk.ensures))
     (not-want c.in-Err.fault c.is_want.result c.is_want.ensures c.if-is_want.false) c.in-Err.ensures.fault)
