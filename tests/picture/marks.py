@@ -148,7 +148,7 @@ class Drawn:
 
     def races(self) -> list[str]:
         """The variables that stand beside the curves."""
-        return sorted(piece.text for piece in self.under if piece.tag == "text")
+        return sorted(piece.text for piece in self.under if piece.tag == "text" and piece.under)
 
     def end(self) -> list[tuple[str, str]]:
         """What stands under the rows: the pieces of it, with their texts."""
