@@ -1,7 +1,7 @@
 -- Child by child, from the last.
 use Rattle.std.proofs.Common.{◌≡◌, ℕ, ◌+◌, ◌-◌, ◌<◌, ◌≤◌, length, arith}
 use Rattle.std.proofs.lemmas.Result.{IfOk-weaker}
-use Rattle.address.specs.declared.Entry.TheVariants.{Ordered, Branch}
+use Rattle.address.specs.declared.Entry.TheVariants.{Branch}
 use Rattle.process_tree.specs.View.{await_view, proc_view}
 use Rattle.local_actions.proofs.public.Begun.{begun-row}
 use Rattle.local_actions.proofs.public.Endings.{row-end, row-some}

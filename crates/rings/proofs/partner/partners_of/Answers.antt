@@ -1,4 +1,4 @@
-use Rattle.std.proofs.Common.{◌∙◌, List, Bool, sym, ap, subst}
+use Rattle.std.proofs.Common.{◌∙◌, List, Bool, sym, subst}
 use Rattle.std.proofs.lemmas.Result.{IfOk-weaker}
 use Rattle.process_tree.specs.View.{proc_view}
 use Rattle.rings.specs.internal.Ends.{sum_of, WantsEach}
