@@ -7,6 +7,7 @@ mod counts;
 mod deadlock;
 mod ends;
 mod fresh;
+mod line;
 mod look;
 mod partner;
 mod place_uses;
