@@ -11,3 +11,4 @@ mod PlaceRows
 mod Edging
 mod Tallied
 mod Trailing
+mod Turns
