@@ -13,3 +13,4 @@ mod Tallied
 mod Trailing
 mod FirstFound
 mod OneRing
+mod Turns

@@ -1,5 +1,5 @@
 // The ends of channels that a walk through a tree finds, for all that is sought at once.
-ghost use Rattle.std.specs.Prelude.{◌≡◌, ◌++◌, ◌∷◌, [], IfOk, OnOk};
+ghost use Rattle.std.specs.Prelude.{◌≡◌, ◌++◌, ◌∷◌, [], false, IfOk, OnOk};
 ghost use Rattle.rings.specs.internal.Ends as model;
 
 use crate::sought::Sought;
@@ -60,6 +60,8 @@ pub(crate) enum Summary {
     Over,
     /// something is: whether it never ends, and the ends there
     AtWork(bool, Vec<Found>),
+    /// a loop: whether it never ends, and what is sought in its turns. A loop around it takes this list as it is.
+    InTurns(bool, Vec<Sought>),
 }
 
 /// The ends with their places.
@@ -69,6 +71,7 @@ pub(crate) fn placed_ends(alloc: Global, found: Summary) -> Result<Vec<End>, All
     match found {
         Summary::Over => Ok(Vec::new(alloc)),
         Summary::AtWork(_, ends) => all_placed(alloc, ends),
+        Summary::InTurns(_, soughts) => all_placed(alloc, within(alloc, soughts.as_slice())?),
     }
 }
 
@@ -165,6 +168,7 @@ pub(crate) fn add_here(
     match part {
         Summary::Over => Ok(()),
         Summary::AtWork(_, others) => add_all_here(alloc, kind, others.as_slice(), ends),
+        Summary::InTurns(_, soughts) => add_each_here(alloc, kind, soughts.as_slice(), ends),
     }
 }
 
@@ -187,13 +191,67 @@ fn add_all_here(
     Ok(())
 }
 
-/// In the turns of a loop with this body.
-pub(crate) fn in_turns(alloc: Global, endless: bool, body: &Summary) -> Result<Summary, AllocError>
-    ensures { IfOk result (λ made. model.sum_of made ≡ model.in_turns endless (model.sum_of body.now)) }
+/// Adds ends where each of these is sought as those that come from somewhere here.
+fn add_each_here(
+    alloc: Global,
+    kind: Kind,
+    soughts: &[Sought],
+    ends: &mut Vec<Found>,
+) -> Result<(), AllocError>
+    ensures { OnOk result (ends.new.items
+        ≡ ends.old.items ++ model.all_here kind (model.within soughts.now)) }
 {
-    let mut ends = Vec::new(alloc);
-    add_here(alloc, Kind::Within, body, &mut ends)?;
-    Ok(Summary::AtWork(endless, ends))
+    for sought in soughts {
+        ends.push(Found {
+            sought: *sought,
+            way: Vec::new(alloc),
+            kind,
+        })?;
+    }
+    Ok(())
+}
+
+/// The ends in turns in which these are sought.
+#[tactic(auto, using(crate::proofs::Turns::here_within))]
+pub(crate) fn within(alloc: Global, soughts: &[Sought]) -> Result<Vec<Found>, AllocError>
+    ensures { IfOk result (λ ends. ends.items ≡ model.within soughts.now) }
+{
+    let mut ends = Vec::with_capacity(alloc, soughts.len())?;
+    add_each_here(alloc, Kind::Within, soughts, &mut ends)?;
+    Ok(ends)
+}
+
+/// In the turns of a loop with this body.
+#[tactic(auto, using(crate::proofs::Turns::here_within))]
+pub(crate) fn in_turns(alloc: Global, endless: bool, body: Summary) -> Result<Summary, AllocError>
+    ensures { IfOk result (λ made. model.sum_of made ≡ model.in_turns endless (model.sum_of body)) }
+{
+    match body {
+        Summary::Over => Ok(none_here(alloc, endless)),
+        Summary::AtWork(_, ends) => sought_in_turns(alloc, endless, ends.as_slice()),
+        Summary::InTurns(_, soughts) => Ok(Summary::InTurns(endless, soughts)),
+    }
+}
+
+/// In the turns of a loop with these ends in its body.
+#[tactic(auto, using(crate::proofs::Turns::here_soughts))]
+fn sought_in_turns(alloc: Global, endless: bool, ends: &[Found]) -> Result<Summary, AllocError>
+    ensures { IfOk result (λ made.
+        model.sum_of made ≡ model.in_turns endless (model.working false ends.now)) }
+{
+    let mut soughts = Vec::with_capacity(alloc, ends.len())?;
+    add_soughts(ends, &mut soughts)?;
+    Ok(Summary::InTurns(endless, soughts))
+}
+
+/// Adds what is sought at these ends.
+pub(crate) fn add_soughts(ends: &[Found], soughts: &mut Vec<Sought>) -> Result<(), AllocError>
+    ensures { OnOk result (soughts.new.items ≡ soughts.old.items ++ model.soughts ends.now) }
+{
+    for end in ends {
+        soughts.push(end.sought)?;
+    }
+    Ok(())
 }
 
 /// In the child at this entry alone.
@@ -223,6 +281,10 @@ pub(crate) fn beside(
     match child {
         Summary::Over => Ok(rest),
         Summary::AtWork(endless, ends) => beside_work(alloc, entry, endless, ends, rest),
+        Summary::InTurns(endless, soughts) => {
+            let ends = within(alloc, soughts.as_slice())?;
+            beside_work(alloc, entry, endless, ends, rest)
+        }
     }
 }
 
@@ -240,6 +302,11 @@ fn beside_work(
     match rest {
         Summary::Over => at_entry(alloc, entry, endless, ends),
         Summary::AtWork(other, mut all) => {
+            add_under(entry, ends, &mut all)?;
+            Ok(Summary::AtWork(endless || other, all))
+        }
+        Summary::InTurns(other, soughts) => {
+            let mut all = within(alloc, soughts.as_slice())?;
             add_under(entry, ends, &mut all)?;
             Ok(Summary::AtWork(endless || other, all))
         }

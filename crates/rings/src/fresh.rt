@@ -92,7 +92,7 @@ pub(crate) fn look_again(
         ≡ model.again_sum wanted.now (repeat_view repeat.now).0 (repeat_view repeat.now).1) }
 {
     let body = look_fresh(alloc, &repeat.body, wanted)?;
-    in_turns(alloc, repeat.guard.is_none(), &body)
+    in_turns(alloc, repeat.guard.is_none(), body)
 }
 
 /// The ends in the arms of a test.

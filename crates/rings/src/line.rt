@@ -2,7 +2,7 @@
 ghost use Rattle.std.specs.Prelude.{◌≡◌, ◌++◌, IfOk, OnOk};
 ghost use Rattle.rings.specs.internal.Ends as model;
 
-use crate::ends::{Found, Summary, add_under, at_entry, behind_entry};
+use crate::ends::{Found, Summary, add_soughts, add_under, at_entry, behind_entry, within};
 use crate::sought::Sought;
 use address::Entry;
 use std::alloc::{AllocError, Global};
@@ -45,6 +45,11 @@ pub(crate) fn with_first(
             let tail = into_tail(alloc, line)?;
             Ok(Line::AtWork(entry, endless, ends, tail))
         }
+        Summary::InTurns(endless, soughts) => {
+            let ends = within(alloc, soughts.as_slice())?;
+            let tail = into_tail(alloc, line)?;
+            Ok(Line::AtWork(entry, endless, ends, tail))
+        }
     }
 }
 
@@ -73,7 +78,12 @@ pub(crate) fn after(
     match child {
         Summary::Over => Ok(rest),
         Summary::AtWork(endless, ends) => {
-            let tail = tail_of(alloc, &rest)?;
+            let tail = tail_of(alloc, rest)?;
+            behind_work(alloc, entry, endless, ends, &tail)
+        }
+        Summary::InTurns(endless, soughts) => {
+            let ends = within(alloc, soughts.as_slice())?;
+            let tail = tail_of(alloc, rest)?;
             behind_work(alloc, entry, endless, ends, &tail)
         }
     }
@@ -106,12 +116,14 @@ fn longer(alloc: Global, endless: bool, ends: &[Found], tail: Tail) -> Result<Ta
 }
 
 /// A part as it stands behind a child.
-fn tail_of(alloc: Global, part: &Summary) -> Result<Tail, AllocError>
-    ensures { IfOk result (λ tail. model.tail_as tail ≡ model.tail_of (model.sum_of part.now)) }
+#[tactic(auto, using(crate::proofs::Turns::soughts_within))]
+fn tail_of(alloc: Global, part: Summary) -> Result<Tail, AllocError>
+    ensures { IfOk result (λ tail. model.tail_as tail ≡ model.tail_of (model.sum_of part)) }
 {
     match part {
         Summary::Over => Ok(Tail::Over),
-        Summary::AtWork(endless, ends) => alone(alloc, *endless, ends.as_slice()),
+        Summary::AtWork(endless, ends) => alone(alloc, endless, ends.as_slice()),
+        Summary::InTurns(endless, soughts) => Ok(Tail::AtWork(endless, soughts)),
     }
 }
 
@@ -122,16 +134,6 @@ fn alone(alloc: Global, endless: bool, ends: &[Found]) -> Result<Tail, AllocErro
     let mut soughts = Vec::with_capacity(alloc, ends.len())?;
     add_soughts(ends, &mut soughts)?;
     Ok(Tail::AtWork(endless, soughts))
-}
-
-/// Adds what is sought at these ends.
-fn add_soughts(ends: &[Found], soughts: &mut Vec<Sought>) -> Result<(), AllocError>
-    ensures { OnOk result (soughts.new.items ≡ soughts.old.items ++ model.soughts ends.now) }
-{
-    for end in ends {
-        soughts.push(end.sought)?;
-    }
-    Ok(())
 }
 
 /// In the child at this entry, where these ends are and something is left to do, or in what comes behind it.

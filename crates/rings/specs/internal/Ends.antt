@@ -153,10 +153,16 @@ pub data Sum : Type 0 where
   -- something is: whether it never ends, and the ends there
   working : Bool → List Placed → Sum
 
+-- each somewhere here, in turns
+abbrev pub within : List Sought → List Placed
+within [] = []
+within (s ∷ ss) = placed s [] Within ∷ within ss
+
 -- what the code has found
 abbrev pub sum_of : Summary → Sum
 sum_of summary.Over = finished
 sum_of (summary.AtWork e ends) = working e ends.items
+sum_of (summary.InTurns e ss) = working e (within ss.items)
 
 abbrev pub ends_in : Sum → List Placed
 ends_in finished = []

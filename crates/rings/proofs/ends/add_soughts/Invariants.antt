@@ -1,6 +1,6 @@
 use Rattle.std.proofs.Common.{◌≡◌, ◌++◌, drop}
 use Rattle.rings.specs.internal.Ends.{soughts}
-use Rattle.rings.proofs.line.add_soughts.Given as goal
+use Rattle.rings.proofs.ends.add_soughts.Given as goal
 
 -- with those that are left, they are all
 abbrev pub invariant-loop-end : goal.invariant-loop-end
