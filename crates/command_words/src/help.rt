@@ -264,10 +264,10 @@ a step can be taken, which are told as `ready` does; `done` where none can and
 nothing of the circuit is left; `out of input` where what is left waits for want
 of more in the stimulus; `stuck` where it waits for something else, or halts.
 Then comes each end of a channel that waits, with its place, its line, and the
-place behind which the end that it waits for stands. Where each of some waits
-for the next, they are told as a ring. Before each place stands its branch, by
-the number that `branch` takes; `outline` names them. A refusal is told in words
-too.
+place behind which the end that it waits for stands, and on which line. Where
+each of some waits for the next, they are told as a ring. Before each place
+stands its branch, by the number that `branch` takes; `outline` names them. A
+refusal is told in words too.
 
 A trace is a file with the steps of a run, as the script line `trace` answers.
 This takes up to 100 steps, and writes one:
@@ -277,12 +277,15 @@ Example:
   balsadbg waiting examples/mutex.balsa examples/mutex.stimulus \\
     examples/mutex.trace
 
-It answers:
+It answers, with its wide lines cut in two here:
   stuck
   waiting 3
-    branch 0 /0/0.1.0.1 line 19: is held on lock_a, behind branch 2 /0/2.1.1
-    branch 1 /0/1.1.0.0 line 19: syncs on lock_b, behind branch 2 /0/2.1
-    branch 2 /0/2.1.1.0 line 9: syncs on unlock_a, behind branch 0 /0/0.1.0
+    branch 0 /0/0.1.0.1 line 19: is held on lock_a, behind branch 2 /0/2.1.1,
+      for line 9
+    branch 1 /0/1.1.0.0 line 19: syncs on lock_b, behind branch 2 /0/2.1,
+      for line 9
+    branch 2 /0/2.1.1.0 line 9: syncs on unlock_a, behind branch 0 /0/0.1.0,
+      for line 21
   ring 2
     branch 0 /0/0.1.0.1
     branch 2 /0/2.1.1.0";

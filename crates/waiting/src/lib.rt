@@ -5,8 +5,10 @@
 mod actions;
 mod input;
 mod laws;
+mod other_lines;
 mod places;
 mod progress;
+mod side;
 mod text;
 mod waiting;
 
