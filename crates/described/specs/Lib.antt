@@ -1,1 +1,6 @@
+pub mod Calls
+pub mod Description
+pub mod Lines
+pub mod Telling
 pub mod Told
+pub mod internal
