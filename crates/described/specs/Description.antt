@@ -1,8 +1,11 @@
 -- What only the source tells of a description.
 use Rattle.std.specs.Prelude.{◌≡◌, ℕ, List, map}
+use Rattle.lexer.specs.Tokens.{AreTokens}
+use Rattle.lexer.specs.declared.token.Token.{Token}
 use Rattle.system.specs.declared.system.Channel.{Channel}
 use Rattle.system.specs.declared.system.System.{System}
 use Rattle.typed.specs.declared.tree.Procedure.{Procedure}
+use Rattle.described.specs.Enumerations.{enumerations_of}
 use Rattle.described.specs.Lines.{lines_at}
 use Rattle.described.specs.Telling.{found_in}
 use Rattle.described.specs.declared.Described.{Described}
@@ -17,3 +20,4 @@ pub record Describes (source : List ℕ) (procedures : List Procedure) (system :
   pub deeper : d.deeper ≡ (found_in procedures).deeper
   pub variables : d.variable_lines.items ≡ lines_at source (found_in procedures).variables
   pub channels : d.channel_lines.items ≡ lines_at source (declared_in system)
+  pub enumerations : (tokens : List Token) → AreTokens source tokens → d.enumerations ≡ enumerations_of tokens

@@ -1,5 +1,6 @@
 pub mod Calls
 pub mod Description
+pub mod Enumerations
 pub mod Lines
 pub mod Telling
 pub mod Told

@@ -28,7 +28,11 @@ fn line_of(starts: &[u64], offset: u64) -> u64
 }
 
 /// The line of each of the offsets, where lines begin at `starts`.
-pub(crate) fn lines_of(alloc: Global, starts: &[u64], offsets: &[u64]) -> Result<Vec<u64>, AllocError>
+pub(crate) fn lines_of(
+    alloc: Global,
+    starts: &[u64],
+    offsets: &[u64],
+) -> Result<Vec<u64>, AllocError>
     ensures { IfOk result (λ lines.
         (source : List ℕ) → starts.now ≡ model.line_starts source → lines.items ≡ lines_at source offsets.now) }
 {
