@@ -1,5 +1,5 @@
 -- What procedures tell, by their numbers.
-use Rattle.std.proofs.Common.{◌≡◌, ℕ, zero, suc, ◌+◌, ◌<◌, ◌≤◌, List, [], ◌∷◌, ◌++◌, Option, None, Some, length, take, refl, ap, sym, ◌∙◌, subst, arith, length-append, get_or, reverse, slice_get}
+use Rattle.std.proofs.Common.{◌≡◌, ℕ, zero, suc, ◌+◌, ◌<◌, ◌≤◌, List, [], ◌∷◌, ◌++◌, Option, None, Some, length, take, refl, ap, sym, ◌∙◌, arith, length-append, get_or, reverse, slice_get}
 use Rattle.std.proofs.lemmas.List.{get_or_push, get_or_append_left, get_or_past, reverse-append}
 use Rattle.std.proofs.lemmas.Option.{slice_get_within}
 use Rattle.typed.specs.declared.tree.Procedure.{Procedure}

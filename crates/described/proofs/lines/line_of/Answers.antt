@@ -1,5 +1,5 @@
 -- Lines begin in order, and the line of an offset is how many begin at it or before.
-use Rattle.std.proofs.Common.{◌≡◌, ℕ, leb, ap, sym, ◌∙◌, subst, rules}
+use Rattle.std.proofs.Common.{ℕ, leb, ap, sym, ◌∙◌, subst, rules}
 use Rattle.std.specs.List.{count_by}
 use Rattle.std.specs.List.Sorted.{IsNonDecreasingBy}
 use Rattle.std.proofs.lemmas.List.Sorted.{IsPartitionedBy-leb, IsPartitionPoint-from_clause}

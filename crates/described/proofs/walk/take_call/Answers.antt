@@ -1,7 +1,7 @@
 -- The call that is told, and what is in the body that it calls, is what it was still to tell.
-use Rattle.std.proofs.Common.{◌≡◌, ap, sym, ◌∙◌, reverse, take}
+use Rattle.std.proofs.Common.{ap, sym, ◌∙◌, reverse, take}
 use Rattle.std.proofs.lemmas.Result.{on_ok_weaker}
-use Rattle.described.specs.Telling.{Found, tell_body, tellings}
+use Rattle.described.specs.Telling.{tell_body, tellings}
 use Rattle.described.specs.internal.Pendings.{leads}
 use Rattle.described.proofs.Tellings.{pending_told, pending_none}
 use Rattle.described.proofs.walk.take_call.Goals as goal

@@ -1,5 +1,5 @@
 -- The call that is taken off the work stood first in what is still to be told.
-use Rattle.std.proofs.Common.{◌≡◌, List, ap, sym, ◌∙◌, reverse}
+use Rattle.std.proofs.Common.{List, ap, sym, ◌∙◌, reverse}
 use Rattle.described.specs.declared.walk.Pending.{Pending}
 use Rattle.described.specs.internal.Pendings.{leads}
 use Rattle.described.proofs.Tellings.{last_first}
