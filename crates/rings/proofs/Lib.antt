@@ -11,3 +11,5 @@ mod PlaceRows
 mod Edging
 mod Tallied
 mod Trailing
+mod FirstFound
+mod OneRing
