@@ -10,7 +10,7 @@ mod progress;
 mod text;
 mod waiting;
 
-pub use laws::waiters_have_one_order;
+pub use laws::{one_ring_is_told, waiters_have_one_order};
 pub use progress::Progress;
 pub use rings::Partner;
 pub use waiting::{Waiting, who_waits};
