@@ -9,29 +9,31 @@ ghost use Rattle.picture_laws.specs.EqualPages.{EqualRunsHaveOnePage};
 ghost use Rattle.picture_laws.specs.EqualPictures.{EqualRunsShowTheSame, OneRunShowsTheSame};
 
 use json_text::texts_have_one_value;
-use waiting::waiters_have_one_order;
+use waiting::{one_ring_is_told, waiters_have_one_order};
 
 /// The pictures of two runs that differ only in the order of independent steps show the same of each event, and of the
-/// state that both reach, but for which ring they tell where there are several.
+/// state that both reach.
 pub fn equal_runs_show_the_same()
     ensures { EqualRunsShowTheSame }
 {
     waiters_have_one_order();
+    one_ring_is_told();
 }
 
-/// Two pictures of one run have the same at each index, with the same exception.
+/// Two pictures of one run have the same at each index.
 pub fn one_run_shows_the_same()
     ensures { OneRunShowsTheSame }
 {
     waiters_have_one_order();
+    one_ring_is_told();
 }
 
-/// Where the events of two such runs stand in the canonical order, the data and the page have the same bytes, with the
-/// same exception.
+/// Where the events of two such runs stand in the canonical order, the data and the page have the same bytes.
 pub fn equal_runs_have_one_page()
     ensures { EqualRunsHaveOnePage }
 {
     waiters_have_one_order();
+    one_ring_is_told();
 }
 
 /// The data of a picture are one value of JSON, and are read as no other.
