@@ -36,13 +36,18 @@ pub record IsPartFrom (A : Between) (way : List ℕ) (j : ℕ) (part : List ℕ)
 
 -- where it is done at these, and this is its way, the search finds this ring among n, or none
 pub data Finds (n : ℕ) (W A : Between) : List ℕ → List ℕ → List ℕ → Type 0 where
+  -- with no way it begins at the first at which it is not done
   begins : (done : List ℕ) (i : ℕ) (ring : List ℕ) → IsFirstOpen n done i → Finds n W A done (i ∷ []) ring →
       Finds n W A done [] ring
+  -- where it is done at each there is no ring
   ends : (done : List ℕ) → ((i : ℕ) → i < n → In i done) → Finds n W A done [] []
+  -- from the last of its way it goes on to the last one that is left, if none at that place is on the way
   goes_on : (done way rest : List ℕ) (i j : ℕ) (ring : List ℕ) → way ≡ rest ++ i ∷ [] → IsLastOpen W done i j →
       ((k : ℕ) → In k way → A k j → ⊥) → Finds n W A done (way ++ j ∷ []) ring → Finds n W A done way ring
+  -- where none is left it goes back
   goes_back : (done way rest : List ℕ) (i : ℕ) (ring : List ℕ) → way ≡ rest ++ i ∷ [] →
       ((j : ℕ) → W i j → In j done) → Finds n W A (i ∷ done) rest ring → Finds n W A done way ring
+  -- where one at that place is on the way, the ring is the way from there on
   comes_back : (done way rest : List ℕ) (i j : ℕ) (ring : List ℕ) → way ≡ rest ++ i ∷ [] → IsLastOpen W done i j →
       IsPartFrom A way j ring → Finds n W A done way ring
 

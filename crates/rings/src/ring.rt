@@ -40,9 +40,9 @@ struct Trail {
 
 /// The indexes of actions whose places are a ring of deadlocked ones, each once, where these are the partners of the
 /// actions, and `marks` says which are deadlocked, in their order: each action waits for the place of the next, and the
-/// last for that of the first. None where there is no ring. Where there are several it is the one that a search from the
-/// first action on comes to first, so it depends on what is given alone. It takes as many steps as their places have
-/// entries, each by halves. It is an error if there is no memory.
+/// last for that of the first. None where there is no ring. Where there are several it is the one that a search from
+/// the first action on comes to first, so it depends on what is given alone. It takes as many steps as their places
+/// have entries, each by halves. It is an error if there is no memory.
 pub fn ring_among(
     alloc: Global,
     actions: &[LocalAction],
