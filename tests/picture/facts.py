@@ -1,4 +1,4 @@
-"""What the data of a picture must say of a run, by the second implementation: from docs/, not from the code. The direct causes are found by
+"""What the data of a picture must say of a run, by the second implementation: from docs/, not from the code. The nearest causes are found by
 pairs, so this is slow and simple."""
 
 from __future__ import annotations
@@ -26,8 +26,8 @@ def lane_of(place: Address) -> str:
     return "".join(f"/{number}" for number in numbers)
 
 
-def direct_causes(events: list[Event]) -> list[list[int]]:
-    """For each event those that it follows: direct causes with no event between."""
+def nearest_causes(events: list[Event]) -> list[list[int]]:
+    """For each event its nearest causes: those that it depends on directly, with no event between."""
     behind: list[int] = []  # as bits, the event itself among them
     causes = []
     for at, event in enumerate(events):
@@ -132,7 +132,7 @@ def facts(case: Case) -> dict:
     machine: Machine = load(system, case.trace)
     ground, events = Ground(case.source, system), [entry.event for entry in machine.live]
     end = End(machine, ground)
-    causes, depth = direct_causes(events), []
+    causes, depth = nearest_causes(events), []
     for kept in causes:
         depth.append(1 + max((depth[one] for one in kept), default=-1))
     followers: list[list[int]] = [[] for _ in events]

@@ -371,11 +371,19 @@ fn write_held(lines: &[u64], out: &mut Vec<u8>) -> Result<(), AllocError>
     match lines.split_first() {
         Some((line, more)) => {
             add_words(out, b", by an arm on line ")?;
-            write_lines(*line, more, out)?;
-            add_words(out, b" that never ends")
+            write_endless(*line, more, out)
         }
         None => add_words(out, b", by an arm that never ends"),
     }
+}
+
+/// Adds the lines of an arm, and that it never ends.
+fn write_endless(line: u64, more: &[u64], out: &mut Vec<u8>) -> Result<(), AllocError>
+    ensures { OnOk result (out.new.items
+        ≡ out.old.items ++ (model.lines_text line more.now ++ codes " that never ends")) }
+{
+    write_lines(line, more, out)?;
+    add_words(out, b" that never ends")
 }
 
 /// Adds that the stimulus of the channel is used up, or that no other branch comes to what an action on this line waits

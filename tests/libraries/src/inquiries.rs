@@ -171,7 +171,7 @@ fn a_value_has_a_past(rt: HostRuntime) -> Result<(), Fail> {
         &past,
     )?;
     let wanted =
-        b"  2 line 2: a carries 5 into 1:x\n  4 line 2: c carries 5 into 2:x, reads 1:x 5, after 2\n2 steps without a value left out: --all\n";
+        b"  2 line 2: a carries 5 into 1:x\n  4 line 2: c carries 5 into 2:x, reads 1:x 5 of step 2, after 2\n2 steps without a value left out: --all\n";
     is(&rt, &text, wanted);
     Ok(())
 }
@@ -214,7 +214,7 @@ fn a_step_without_a_value_is_told_where_it_is_asked_for(rt: HostRuntime) -> Resu
         &past,
     )?;
     let wanted =
-        b"  2 line 2: a carries 5 into 1:x\n  4 line 2: c carries 5 into 2:x, reads 1:x 5, after 2\n  5 line 2: turn, after 4\n2 steps without a value left out: --all\n";
+        b"  2 line 2: a carries 5 into 1:x\n  4 line 2: c carries 5 into 2:x, reads 1:x 5 of step 2, after 2\n  5 line 2: turn, after 4\n2 steps without a value left out: --all\n";
     is(&rt, &text, wanted);
     Ok(())
 }
