@@ -296,11 +296,12 @@ pub const WHY: &str = "Tell why a variable has its value, or why a step could be
 pub const WHY_LONG: &str = "\
 Take the steps of a trace again, and tell the steps that led to the value of the
 variable X, or to the step with the number X: each with its number, its line,
-what it carried or wrote, what it read, and the steps just before it. Steps are
-numbered from 1 as they stand in the trace, so as `replay` lists them; tickets
-of the session may be others. An output port has no value: ask for it by the
-number of the step that carried what came out. A refusal is told in words too. A
-trace is what the script line `trace` answers.
+what it carried or wrote, what it read and the step that wrote that, and behind
+`after` the steps just before it. Steps are numbered from 1 as they stand in the
+trace, so as `replay` lists them; tickets of the session may be others. An
+output port has no value: ask for it by the number of the step that carried what
+came out. A refusal is told in words too. A trace is what the script line
+`trace` answers.
 
 Example:
   balsadbg why examples/one.balsa examples/one.stimulus examples/one.trace x

@@ -74,9 +74,9 @@ function card() {
         `<div class="soft">reads ${e.reads.map(v=>`<span class="m">${R.variables[v][0]} = ${vals0[v][0]}</span>`).join(', ')}</div>` :
         '') +
       `<table><tr><td><span class="sw" style="background:var(--past)">` +
-        `</span>${p} cause${p===1?'':'s'}<td>directly ${some(e.from,'cp')}<tr><td>` +
+        `</span>${p} cause${p===1?'':'s'}<td>nearest ${some(e.from,'cp')}<tr><td>` +
         `<span class="sw" style="background:var(--next)">` +
-        `</span>${f} consequence${f===1?'':'s'}<td>directly ${some(e.to,'cf')}<tr><td>` +
+        `</span>${f} consequence${f===1?'':'s'}<td>nearest ${some(e.to,'cf')}<tr><td>` +
         `<span class="sw" style="background:var(--faint)">` +
         `</span>${N-1-p-f} independent<td>depth ${e.depth}</table>` +
       `<div class="cmd">${copy((f?'roll ':'undo ')+e.t)}<span class="soft">${f?`takes back ${f+1} events`:'nothing needs it'}</span>` +
