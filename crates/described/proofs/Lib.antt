@@ -1,2 +1,2 @@
-pub mod Counted
-pub mod Tellings
+mod Counted
+mod Tellings
