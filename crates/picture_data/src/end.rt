@@ -13,7 +13,7 @@ use crate::partners::Now;
 use crate::places::{Place, add_ready_places, waiting_places};
 use machine::Machine;
 use picture_lanes::{ChannelUse, LaneTable};
-use run_depths::greatest_depths;
+use run_depths::held_places;
 use runs::Event;
 use std::alloc::{AllocError, Global};
 use syntax::Items;
@@ -52,7 +52,7 @@ pub(crate) fn end_of(
     let ready_actions = all_actions(alloc, machine, table, events)?;
     let actions = waiting.actions.as_slice();
     let live = machine.live_events();
-    let most = greatest_depths(alloc, depths)?;
+    let held = held_places(alloc, live, depths)?;
     let now = Now {
         table,
         uses,
@@ -60,7 +60,7 @@ pub(crate) fn end_of(
         ready: events,
         live,
         depths,
-        most: most.as_slice(),
+        held: &held,
     };
     let shown = waiting_places(alloc, machine, &now, &waiting)?;
     let ring_sides = waiting.ring.as_slice();

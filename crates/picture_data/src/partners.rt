@@ -11,12 +11,13 @@ use address::{Address, Entry};
 use dependence::Live;
 use local_actions::LocalAction;
 use picture_lanes::{ChannelUse, LaneTable, Way};
+use run_depths::HeldPlaces;
 use runs::Event;
 use std::alloc::{AllocError, Global};
 use waiting::Partner;
 
 /// What stands now: the lanes and the uses of channels, the actions that wait and the events that can be taken, behind
-/// live events of these depths, of which these are the greatest up to each.
+/// live events of these depths, whose places are held.
 #[derive(Clone, Copy)]
 pub(crate) struct Now<'a> {
     pub(crate) table: &'a LaneTable,
@@ -25,7 +26,7 @@ pub(crate) struct Now<'a> {
     pub(crate) ready: &'a [Event],
     pub(crate) live: &'a Live,
     pub(crate) depths: &'a [usize],
-    pub(crate) most: &'a [usize],
+    pub(crate) held: &'a HeldPlaces<'a>,
 }
 
 /// The lanes for which an action in the lane waits: of what stands at the place behind which its partner is, and where

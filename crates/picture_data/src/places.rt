@@ -196,7 +196,7 @@ fn place_of(
 {
     let lane = lane_at(alloc, now.table, place)?;
     let line = line_of(machine, place);
-    let since = since_now(now.live, now.depths, now.most, place);
+    let since = since_now(now.held, place);
     let place = place.copy(alloc)?;
     Ok(Place {
         lane,

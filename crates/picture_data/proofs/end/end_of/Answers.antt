@@ -1,26 +1,21 @@
 use Rattle.std.proofs.Common.{◌∙◌, ℕ, List, ap, sym, subst}
 use Rattle.runs.specs.Live.{Live}
 use Rattle.runs.specs.declared.event.Event.{Event}
-use Rattle.run_depths.specs.internal.Greatest.{AreGreatest}
+use Rattle.run_depths.specs.Depths.{AreDepths}
 use Rattle.picture_data.specs.Lines.{line_of}
-use Rattle.picture_data.specs.Shown.{EachStandsIn, HasDepths}
+use Rattle.picture_data.specs.Shown.{EachStandsIn}
 use Rattle.picture_data.specs.Spots.{Deep, ready_spots, ring_of}
 use Rattle.picture_data.specs.Wanted.{Seen}
 use Rattle.picture_data.specs.internal.SpotsSoFar.{AddsSpots}
 use Rattle.picture_data.proofs.WaitLaws.{shows-waits-by}
 use Rattle.picture_data.proofs.end.end_of.Goals as goal
 
-pub waiting_places-requires : goal.waiting_places-requires
-waiting_places-requires c = (
-  subst (λ (l : Live). HasDepths l c.args.depths.now) (sym c.live_events-live.ensures) c.requires,
-  subst (λ (ms : List ℕ). AreGreatest c.args.depths.now ms) (sym c.as_slice.ensures.value) c.in_ok-most.ensures,
-)
+pub held_places-held-requires-clause-depths : goal.held_places-held-requires-clause-depths
+held_places-held-requires-clause-depths c =
+    subst (λ (l : Live). AreDepths l c.args.depths.now) (sym c.live_events-live.ensures) c.requires.0
 
-pub add_ready_places-requires : goal.add_ready_places-requires
-add_ready_places-requires c = (
-  subst (λ (l : Live). HasDepths l c.args.depths.now) (sym c.live_events-live.ensures) c.requires,
-  subst (λ (ms : List ℕ). AreGreatest c.args.depths.now ms) (sym c.as_slice.ensures.value) c.in_ok-most.ensures,
-)
+pub held_places-held-requires-clause-small : goal.held_places-held-requires-clause-small
+held_places-held-requires-clause-small c = c.requires.1
 
 pub returns : goal.returns
 returns c =
