@@ -10,6 +10,8 @@ use Rattle.questions.specs.Asking.{IsAboutNone, IsOutlineText, IsWaitingText}
 use Rattle.questions.specs.WhyText.{IsWhyText}
 use Rattle.questions.specs.declared.why.Why.{Why}
 use Rattle.locked_execution.specs.Working.{Worked}
+use Rattle.refusal_pages.specs.PageText.{page_text}
+use Rattle.refusal_pages.specs.declared.page.Page.{Page}
 use Rattle.debug_session.specs.Accepting.{AcceptedAs, IsRefused}
 use Rattle.debug_session.specs.Replaying.{Replays, RefusesTrace}
 use Rattle.debug_session.specs.ReplyText.{ending}
@@ -89,7 +91,11 @@ WorkRefuses holds file stimulus fault =
     FilesRefuse holds file stimulus fault
     ⊎ ((system : System) × FilesGive holds file stimulus system × (fault ≡ Memory))
 
--- a page of a refusal is not shown: there is no memory for it
+-- `explain` gives this answer: the text of the page
+abbrev pub PageGives : Page → List ℕ → Type 0
+PageGives page answer = answer ≡ page_text page
+
+-- it gives none: there is no memory for it
 abbrev pub PageRefuses : Fault → Type 0
 PageRefuses fault = fault ≡ Memory
 

@@ -7,7 +7,7 @@ use Rattle.std.specs.Prelude.{IfErr}
 use Rattle.command_line.specs.Adapter.{IsOfStreams}
 use Rattle.command_line.specs.Answering.{Holding, TextsHad, TextsNotHad, CheckGives, CheckRefuses}
 use Rattle.command_line.specs.Answering.{ReplayGives, ReplayRefuses, WorkGives, WorkRefuses}
-use Rattle.command_line.specs.Answering.{OutlineGives, PageRefuses, WaitingGives, WhyGives, WhyRefuses}
+use Rattle.command_line.specs.Answering.{OutlineGives, PageGives, PageRefuses, WaitingGives, WhyGives, WhyRefuses}
 use Rattle.command_line.specs.Drawing.{PictureGives, PictureRefuses}
 use Rattle.command_line.specs.FaultLine.{fault_line}
 use Rattle.command_line.specs.Shells.{ShellsFiles}
@@ -63,7 +63,7 @@ Serves holds (Request.Work file stimulus crew explain) reader out done =
     × Answers (WorkGives holds file.now stimulus.now crew.workers crew.turns) (WorkRefuses holds file.now stimulus.now)
     out done
 Serves holds (Request.Explain page) reader out done =
-    IsUntouched reader × Answers (λ text. Unit {0}) PageRefuses out done
+    IsUntouched reader × Answers (PageGives page.now) PageRefuses out done
 Serves holds Request.Dap reader out done = IsUntouched reader × IfErr done IsOfStreams
 Serves holds (Request.Outline file) reader out done =
     IsUntouched reader × Answers (OutlineGives holds file.now) (CheckRefuses holds file.now) out done

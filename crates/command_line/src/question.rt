@@ -1,7 +1,7 @@
 //! What is answered to people's questions about the files of a request.
 
-ghost use Rattle.command_line.specs.Answering.{CheckRefuses, OutlineGives, PageRefuses, ReplayRefuses, WaitingGives};
-ghost use Rattle.command_line.specs.Answering.{WhyGives, WhyRefuses};
+ghost use Rattle.command_line.specs.Answering.{CheckRefuses, OutlineGives, PageGives, PageRefuses, ReplayRefuses};
+ghost use Rattle.command_line.specs.Answering.{WaitingGives, WhyGives, WhyRefuses};
 ghost use Rattle.command_line.specs.Serving.{Answers};
 ghost use Rattle.command_line.specs.Used.{used};
 ghost use Rattle.command_line.specs.internal.Answers.{TellsWhy};
@@ -24,7 +24,7 @@ pub struct Question<'a> {
 
 /// Shows the page of a refusal.
 pub fn show_page<O: Write>(alloc: Global, page: &Page, out: &mut Counted<O>) -> Result<(), Fault>
-    ensures { Answers (λ _. Unit {0}) PageRefuses (used O.contents out.old out.new) result }
+    ensures { Answers (PageGives page.now) PageRefuses (used O.contents out.old out.new) result }
 {
     let text = page_text(alloc, page)?;
     write_out(out, text.as_bytes())
