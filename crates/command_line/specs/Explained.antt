@@ -1,5 +1,6 @@
 -- The words that stand behind the line of a refusal.
-use Rattle.std.specs.Prelude.{◌≡◌, ◌⊎◌, ℕ, zero, suc, ◌-◌, List, [], ◌++◌, Some, None, Ok, Err, MatchOption, codes, true}
+use Rattle.std.specs.Prelude.{◌≡◌, ◌⊎◌, ℕ, zero, suc, ◌-◌, List, [], ◌++◌, Some, None, Ok, Err, MatchOption}
+use Rattle.std.specs.Prelude.{codes, true}
 use Rattle.diagnosis.specs.Told.{TellsFault}
 use Rattle.diagnosis.specs.declared.told.Inputs.{Inputs}
 use Rattle.debug_session.specs.FaultNumbers.{fault_number, fault_field}

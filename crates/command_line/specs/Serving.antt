@@ -61,8 +61,8 @@ Serves holds (Request.Replay file stimulus trace explain) reader out kept done =
     (ReplayRefuses holds file.now stimulus.now trace.now kept) out done
 Serves holds (Request.Work file stimulus crew explain) reader out kept done =
     IsUntouched reader
-    × Answers (WorkGives holds file.now stimulus.now crew.workers crew.turns) (WorkRefuses holds file.now stimulus.now kept)
-    out done
+    × Answers (WorkGives holds file.now stimulus.now crew.workers crew.turns)
+    (WorkRefuses holds file.now stimulus.now kept) out done
 Serves holds (Request.Explain page) reader out kept done =
     IsUntouched reader × Answers (PageGives page.now) PageRefuses out done
 Serves holds Request.Dap reader out kept done = IsUntouched reader × IfErr done IsOfStreams

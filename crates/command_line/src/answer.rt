@@ -26,7 +26,8 @@ pub fn check<F: Files, O: Write>(
     out: &mut Counted<O>,
 ) -> Result<(), Fault>
     ensures { Answers (CheckGives (F.holds from.now.files.now) file.now)
-        (CheckRefuses (F.holds from.now.files.now) file.now (kept_of texts.new)) (used O.contents out.old out.new) result }
+        (CheckRefuses (F.holds from.now.files.now) file.now (kept_of texts.new))
+        (used O.contents out.old out.new) result }
 {
     let checked = accepted_source(from, file, texts)?;
     // The process ends behind this answer: to free the system node by node would only take time.
