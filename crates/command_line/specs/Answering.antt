@@ -103,7 +103,7 @@ PageRefuses fault = fault ≡ Memory
 abbrev pub OutlineGives : Holding → List ℕ → List ℕ → Type 0
 OutlineGives holds file answer =
     (source : List ℕ) × (system : System) × holds file (Some source) × AcceptedAs source [] system
-    × IsOutlineText system answer
+    × IsOutlineText source system answer
 
 -- `waiting` on the files of these names gives this answer: the text that tells who waits, where `replay` gives one
 abbrev pub WaitingGives : Holding → List ℕ → List ℕ → List ℕ → List ℕ → Type 0
