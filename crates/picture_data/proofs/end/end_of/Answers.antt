@@ -10,12 +10,12 @@ use Rattle.picture_data.specs.internal.SpotsSoFar.{AddsSpots}
 use Rattle.picture_data.proofs.WaitLaws.{shows-waits-by}
 use Rattle.picture_data.proofs.end.end_of.Goals as goal
 
-pub held_places-held-requires-clause-depths : goal.held_places-held-requires-clause-depths
-held_places-held-requires-clause-depths c =
+pub held_places-requires-clause-depths : goal.held_places-requires-clause-depths
+held_places-requires-clause-depths c =
     subst (λ (l : Live). AreDepths l c.args.depths.now) (sym c.live_events-live.ensures) c.requires.0
 
-pub held_places-held-requires-clause-small : goal.held_places-held-requires-clause-small
-held_places-held-requires-clause-small c = c.requires.1
+pub held_places-requires-clause-small : goal.held_places-requires-clause-small
+held_places-requires-clause-small c = c.requires.1
 
 pub returns : goal.returns
 returns c =
