@@ -1,4 +1,5 @@
--- The lines of the source at which the other end of a channel stands, for an action that waits. (Own.)
+-- The lines of the source at which the other end of a channel stands, for an action that waits: all on which the branch
+-- has such an end, those that it has passed among them. (Own.)
 use Rattle.std.specs.Prelude.{ℕ, ◌==◌, ◌+◌, nat_lt, List, [], ◌∷◌, ◌++◌, Bool, true, false, not, cond, Option, None, Some, slice_get}
 use Rattle.std.specs.List.{flat_map, insert}
 use Rattle.system.specs.declared.system.System.{System}
