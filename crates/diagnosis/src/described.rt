@@ -1,4 +1,7 @@
 // Faults for which the description is looked at: the source is read once more.
+ghost use Rattle.std.specs.Prelude.{◌≡◌, OnOk};
+ghost use Rattle.diagnosis.specs.Clashes.{AddsClash};
+
 use crate::{sharing, stimulus_line};
 use findings::Finding;
 use lexer::lex;
@@ -7,7 +10,9 @@ use std::alloc::{AllocError, Global};
 use syntax::Description;
 
 /// What was found about a fault of names, kinds, widths or sharing at the finding's place.
-pub fn find(source: &[u8], number: u32, finding: &mut Finding) -> Result<(), AllocError> {
+pub fn find(source: &[u8], number: u32, finding: &mut Finding) -> Result<(), AllocError>
+    ensures { number ≡ 15 → OnOk result (AddsClash source.now finding.old finding.new) }
+{
     let tokens = match lex(finding.alloc, source) {
         Ok(tokens) => tokens,
         Err(lexer::Fault::Memory) => return Err(AllocError),

@@ -1,0 +1,41 @@
+-- What is marked beside a fault of sharing.
+use Rattle.std.proofs.Common.{◌≡◌, ℕ, false, List, [], ◌++◌, Result, Ok, Err, OnOk, ap, ◌∙◌, subst}
+use Rattle.findings.specs.MarkedPlaces.{marked_at}
+use Rattle.findings.specs.Marking.{TellsMarked}
+use Rattle.findings.specs.declared.finding.Beside.{Beside}
+use Rattle.findings.specs.declared.finding.Finding.{Finding}
+use Rattle.findings.specs.declared.finding.Input.{Input}
+use Rattle.source_places.specs.Places.{within}
+use Rattle.diagnosis.specs.Clashes.{AddsClash, TellsClash, place_of}
+use Rattle.diagnosis.specs.Told.{TellsSource}
+use Rattle.diagnosis.proofs.InLine.{starts_at}
+
+-- what holds whatever comes holds of a success
+pub always : {X E : Type 0} (r : Result X E) (P : Type 0) → P → OnOk r P
+always (Ok x) P h = h
+always (Err e) P h = tt
+
+-- words about a finding before and behind change no mark
+pub between : (source : List ℕ) (first said marked last : Finding) → said.start ≡ first.start
+    → said.beside.items ≡ first.beside.items → last.beside.items ≡ marked.beside.items → AddsClash source said marked
+    → AddsClash source first last
+between source first said marked last starts before behind adds = (
+  adds.0,
+  subst (λ (n : ℕ). TellsClash source n adds.0) starts adds.1,
+  ap marked_at behind ∙ adds.2 ∙ ap (λ (z : List Beside). marked_at z ++ place_of adds.0) before,
+)
+
+-- a finding that had no marks is told
+pub told_source : (number : ℕ) (input : Input) (offset start : ℕ) (told : List ℕ) (old new : Finding) → old.start ≡ start
+    → old.beside.items ≡ [] → (number ≡ 15 → AddsClash input.bytes.now old new) → start ≡ within input.bytes.now offset
+    → TellsMarked input.name.now input.bytes.now false (starts_at start new) told → TellsSource number input offset told
+told_source number input offset start told old new starts bare adds is tells = (
+  starts_at start new,
+  is,
+  tells,
+  λ e. let added = adds e in (
+    added.0,
+    subst (λ (n : ℕ). TellsClash input.bytes.now n added.0) starts added.1,
+    added.2 ∙ ap (λ (z : List Beside). marked_at z ++ place_of added.0) bare,
+  ),
+)
