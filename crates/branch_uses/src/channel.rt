@@ -1,4 +1,11 @@
 // The uses of a channel that stand side by side in a command.
+ghost use Rattle.std.specs.Prelude.{◌≡◌, ◌⊎◌, [], ◌∷◌, ◌++◌, List, map, IfOk, OnOk};
+ghost use Rattle.std.specs.Option.{option_map};
+ghost use Rattle.syntax.specs.Lists.{Every, In};
+ghost use Rattle.branch_uses.specs.Mentions.{Mention, used, given_from, mentions, mentions_of_arm, mentions_of_case_arm, mentions_of_guarded, of_each, of_last};
+ghost use Rattle.branch_uses.specs.Uses.{seen, seen_through, through};
+ghost use Rattle.branch_uses.specs.internal.Ports.{AreAmong, AreOf, IsGiven};
+
 use crate::port::PortUses;
 use std::alloc::{AllocError, Global};
 use syntax::{Action, Arm, CaseArm, Command, Guarded, Identifier, Span};
@@ -22,7 +29,9 @@ pub struct SideUse {
 
 impl SideUse {
     /// The same use once more, through calls before its own.
-    fn behind(&self, alloc: Global, outer: &[Span]) -> Result<SideUse, AllocError> {
+    fn behind(&self, alloc: Global, outer: &[Span]) -> Result<SideUse, AllocError>
+        ensures { IfOk result (λ made. seen made ≡ through outer.now (seen self.now)) }
+    {
         let mut calls = Vec::new(alloc);
         calls.extend_from_slice(outer)?;
         calls.extend_from_slice(self.calls.as_slice())?;
@@ -59,11 +68,28 @@ fn count_of(uses: &[SideUse], side: Side) -> usize {
 }
 
 /// Adds a use, if not enough of its side are there.
-fn add_use(uses: &mut Vec<SideUse>, one: SideUse) -> Result<(), AllocError> {
-    if count_of(uses.as_slice(), one.side) < KEPT {
-        uses.push(one)?;
+fn add_use(uses: &mut Vec<SideUse>, one: SideUse) -> Result<(), AllocError>
+    ensures { OnOk result (AreAmong (map seen uses.new.items) (map seen uses.old.items ++ seen one ∷ [])) }
+{
+    if count_of(uses.as_slice(), one.side) >= KEPT {
+        return Ok(());
     }
+    uses.push(one)?;
     Ok(())
+}
+
+/// Adds a use that stands beside those, through these calls before its own.
+fn add_through(
+    alloc: Global,
+    uses: &mut Vec<SideUse>,
+    one: &SideUse,
+    outer: &[Span],
+) -> Result<(), AllocError>
+    ensures { OnOk result (AreAmong (map seen uses.new.items)
+        (map seen uses.old.items ++ seen_through outer.now one.now ∷ [])) }
+{
+    let made = one.behind(alloc, outer)?;
+    add_use(uses, made)
 }
 
 /// Adds uses that stand beside those, through these calls before their own.
@@ -72,9 +98,44 @@ fn add_beside(
     uses: &mut Vec<SideUse>,
     others: &[SideUse],
     outer: &[Span],
-) -> Result<(), AllocError> {
+) -> Result<(), AllocError>
+    ensures { OnOk result (AreAmong (map seen uses.new.items)
+        (map seen uses.old.items ++ map (seen_through outer.now) others.now)) }
+{
     for one in others {
-        add_use(uses, one.behind(alloc, outer)?)?;
+        add_through(alloc, uses, one, outer)?;
+    }
+    Ok(())
+}
+
+/// Takes a use, if it is of this side.
+fn add_if(
+    alloc: Global,
+    wider: &mut Vec<SideUse>,
+    one: &SideUse,
+    side: Side,
+) -> Result<(), AllocError>
+    ensures { OnOk result (AreAmong (map seen wider.new.items) (map seen wider.old.items ++ seen one.now ∷ [])) }
+{
+    if one.side != side {
+        return Ok(());
+    }
+    let made = one.behind(alloc, &[])?;
+    wider.push(made)?;
+    Ok(())
+}
+
+/// Takes the uses of one side.
+fn add_side(
+    alloc: Global,
+    wider: &mut Vec<SideUse>,
+    from: &[SideUse],
+    side: Side,
+) -> Result<(), AllocError>
+    ensures { OnOk result (AreAmong (map seen wider.new.items) (map seen wider.old.items ++ map seen from.now)) }
+{
+    for each in from {
+        add_if(alloc, wider, each, side)?;
     }
     Ok(())
 }
@@ -86,22 +147,21 @@ fn add_wider(
     one: &[SideUse],
     other: &[SideUse],
     side: Side,
-) -> Result<(), AllocError> {
-    let from = if count_of(one, side) < count_of(other, side) {
-        other
+) -> Result<(), AllocError>
+    ensures { OnOk result (AreAmong (map seen wider.new.items)
+        (map seen wider.old.items ++ (map seen one.now ++ map seen other.now))) }
+{
+    if count_of(one, side) < count_of(other, side) {
+        add_side(alloc, wider, other, side)
     } else {
-        one
-    };
-    for each in from {
-        if each.side == side {
-            wider.push(each.behind(alloc, &[])?)?;
-        }
+        add_side(alloc, wider, one, side)
     }
-    Ok(())
 }
 
 /// The uses of two parts that do not stand side by side: on each side, those of the part that has more.
-fn put_wider(alloc: Global, uses: &mut Vec<SideUse>, others: &[SideUse]) -> Result<(), AllocError> {
+fn put_wider(alloc: Global, uses: &mut Vec<SideUse>, others: &[SideUse]) -> Result<(), AllocError>
+    ensures { OnOk result (AreAmong (map seen uses.new.items) (map seen uses.old.items ++ map seen others.now)) }
+{
     let mut wider = Vec::new(alloc);
     add_wider(alloc, &mut wider, uses.as_slice(), others, Side::Sending)?;
     add_wider(alloc, &mut wider, uses.as_slice(), others, Side::Receiving)?;
@@ -111,7 +171,9 @@ fn put_wider(alloc: Global, uses: &mut Vec<SideUse>, others: &[SideUse]) -> Resu
 }
 
 /// One use, if it is of the channel that is asked for.
-fn use_of(asked: Asked<'_>, channel: &Identifier, side: Side) -> Result<ChannelUses, AllocError> {
+fn use_of(asked: Asked<'_>, channel: &Identifier, side: Side) -> Result<ChannelUses, AllocError>
+    ensures { IfOk result (λ found. AreOf asked.entry (used channel.now side ∷ []) found) }
+{
     let mut uses = Vec::new(asked.alloc);
     if *channel.name.text() == *asked.name {
         uses.push(SideUse {
@@ -123,32 +185,45 @@ fn use_of(asked: Asked<'_>, channel: &Identifier, side: Side) -> Result<ChannelU
     Ok(ChannelUses { uses })
 }
 
+/// Adds the uses of the port that a call gives the channel to.
+fn add_given(
+    asked: Asked<'_>,
+    called: &Identifier,
+    place: usize,
+    uses: &mut Vec<SideUse>,
+) -> Result<(), AllocError>
+    ensures { OnOk result (Every (λ one. In one (map seen uses.old.items) ⊎ IsGiven asked.entry called.now place one)
+        (map seen uses.new.items)) }
+{
+    for port in asked.ports {
+        if port.is_of(called.name.text(), place) {
+            add_beside(asked.alloc, uses, port.uses.uses.as_slice(), &[called.span])?;
+        }
+    }
+    Ok(())
+}
+
 /// The uses of the ports that a call gives the channel to.
 fn uses_of_call(
     asked: Asked<'_>,
     called: &Identifier,
     arguments: &[Identifier],
-) -> Result<ChannelUses, AllocError> {
+) -> Result<ChannelUses, AllocError>
+    ensures { IfOk result (λ found. AreOf asked.entry (given_from called.now 0 arguments.now) found) }
+{
     let mut uses = Vec::new(asked.alloc);
     for (place, argument) in arguments.iter().enumerate() {
         if *argument.name.text() == *asked.name {
-            for port in asked.ports {
-                if port.is_of(called.name.text(), place) {
-                    add_beside(
-                        asked.alloc,
-                        &mut uses,
-                        port.uses.uses.as_slice(),
-                        &[called.span],
-                    )?;
-                }
-            }
+            add_given(asked, called, place, &mut uses)?;
         }
     }
     Ok(ChannelUses { uses })
 }
 
 /// No uses.
-fn none(asked: Asked<'_>) -> ChannelUses {
+fn none(asked: Asked<'_>) -> ChannelUses
+    ensures { result.uses.items ≡ [] }
+{
     ChannelUses {
         uses: Vec::new(asked.alloc),
     }
@@ -156,7 +231,9 @@ fn none(asked: Asked<'_>) -> ChannelUses {
 
 /// The uses of the channel that may stand side by side in a command: of branches all, and else those of one part.
 #[cycle(sides)]
-pub fn uses_in(command: &Command, asked: Asked<'_>) -> Result<ChannelUses, AllocError> {
+pub fn uses_in(command: &Command, asked: Asked<'_>) -> Result<ChannelUses, AllocError>
+    ensures { IfOk result (λ found. AreOf asked.entry (mentions command.now) found) }
+{
     match command.action.get() {
         Action::Continue | Action::Halt | Action::Assign(_, _) => Ok(none(asked)),
         Action::Sync(channel) => use_of(asked, channel, Side::Syncing),
@@ -192,7 +269,9 @@ pub fn uses_in(command: &Command, asked: Asked<'_>) -> Result<ChannelUses, Alloc
 
 /// The uses in branches.
 #[cycle(sides)]
-fn uses_beside(children: &[Command], asked: Asked<'_>) -> Result<ChannelUses, AllocError> {
+fn uses_beside(children: &[Command], asked: Asked<'_>) -> Result<ChannelUses, AllocError>
+    ensures { IfOk result (λ found. AreOf asked.entry (of_each (map mentions children.now)) found) }
+{
     let mut all = none(asked);
     for child in children {
         let uses = uses_in(child, asked)?;
@@ -203,7 +282,9 @@ fn uses_beside(children: &[Command], asked: Asked<'_>) -> Result<ChannelUses, Al
 
 /// The uses in one of the commands of a sequence.
 #[cycle(sides)]
-fn uses_in_turn(children: &[Command], asked: Asked<'_>) -> Result<ChannelUses, AllocError> {
+fn uses_in_turn(children: &[Command], asked: Asked<'_>) -> Result<ChannelUses, AllocError>
+    ensures { IfOk result (λ found. AreOf asked.entry (of_each (map mentions children.now)) found) }
+{
     let mut all = none(asked);
     for child in children {
         let uses = uses_in(child, asked)?;
@@ -214,7 +295,9 @@ fn uses_in_turn(children: &[Command], asked: Asked<'_>) -> Result<ChannelUses, A
 
 /// The uses in one arm of an `if`.
 #[cycle(sides)]
-fn uses_in_guarded(arms: &[Guarded], asked: Asked<'_>) -> Result<ChannelUses, AllocError> {
+fn uses_in_guarded(arms: &[Guarded], asked: Asked<'_>) -> Result<ChannelUses, AllocError>
+    ensures { IfOk result (λ found. AreOf asked.entry (of_each (map mentions_of_guarded arms.now)) found) }
+{
     let mut all = none(asked);
     for arm in arms {
         let uses = uses_in(&arm.body, asked)?;
@@ -225,7 +308,9 @@ fn uses_in_guarded(arms: &[Guarded], asked: Asked<'_>) -> Result<ChannelUses, Al
 
 /// The uses in one arm of a `case`.
 #[cycle(sides)]
-fn uses_in_case(arms: &[CaseArm], asked: Asked<'_>) -> Result<ChannelUses, AllocError> {
+fn uses_in_case(arms: &[CaseArm], asked: Asked<'_>) -> Result<ChannelUses, AllocError>
+    ensures { IfOk result (λ found. AreOf asked.entry (of_each (map mentions_of_case_arm arms.now)) found) }
+{
     let mut all = none(asked);
     for arm in arms {
         let uses = uses_in(&arm.body, asked)?;
@@ -236,7 +321,9 @@ fn uses_in_case(arms: &[CaseArm], asked: Asked<'_>) -> Result<ChannelUses, Alloc
 
 /// The uses in one arm of a `select`.
 #[cycle(sides)]
-fn uses_in_arms(arms: &[Arm], asked: Asked<'_>) -> Result<ChannelUses, AllocError> {
+fn uses_in_arms(arms: &[Arm], asked: Asked<'_>) -> Result<ChannelUses, AllocError>
+    ensures { IfOk result (λ found. AreOf asked.entry (of_each (map mentions_of_arm arms.now)) found) }
+{
     let mut all = none(asked);
     for arm in arms {
         let uses = uses_in_arm(arm, asked)?;
@@ -247,7 +334,9 @@ fn uses_in_arms(arms: &[Arm], asked: Asked<'_>) -> Result<ChannelUses, AllocErro
 
 /// The uses in an arm of a `select` or an `arbitrate`. An arm on a channel without data syncs.
 #[cycle(sides)]
-fn uses_in_arm(arm: &Arm, asked: Asked<'_>) -> Result<ChannelUses, AllocError> {
+fn uses_in_arm(arm: &Arm, asked: Asked<'_>) -> Result<ChannelUses, AllocError>
+    ensures { IfOk result (λ found. AreOf asked.entry (mentions_of_arm arm.now) found) }
+{
     let mut uses = use_of(asked, &arm.channel, Side::Receiving)?;
     let inside = uses_in(&arm.body, asked)?;
     put_wider(asked.alloc, &mut uses.uses, inside.uses.as_slice())?;
@@ -260,7 +349,10 @@ fn with_last(
     last: &Option<Command>,
     asked: Asked<'_>,
     arms: ChannelUses,
-) -> Result<ChannelUses, AllocError> {
+) -> Result<ChannelUses, AllocError>
+    ensures { (before : List Mention) → AreOf asked.entry before arms → IfOk result (λ found.
+        AreOf asked.entry (before ++ of_last (option_map mentions last.now)) found) }
+{
     let mut all = arms;
     if let Some(body) = last {
         let uses = uses_in(body, asked)?;

@@ -1,0 +1,4 @@
+mod Among
+mod Chained
+mod Elements
+mod Found
