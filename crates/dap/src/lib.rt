@@ -16,5 +16,5 @@ pub use dap_server::Fault;
 pub use face::Face;
 pub use launch::Launched;
 pub use laws::session_laws;
-pub use session::{serve, serve_unpromised};
+pub use session::serve;
 pub use sources::Sources;

@@ -52,17 +52,3 @@ pub fn serve<R: Read, W: Write, F: Sources>(
     let mut face = Face::new(alloc);
     dap_server::serve(alloc, reader, writer, files, &mut face)
 }
-
-/// The same with nothing promised: for a program that serves other commands too, and need not load the contract.
-///
-/// # Errors
-///
-/// Those of `serve`.
-pub fn serve_unpromised<R: Read, W: Write, F: Sources>(
-    alloc: Global,
-    reader: &mut R,
-    writer: &mut W,
-    files: &F,
-) -> Result<(), Fault> {
-    serve(alloc, reader, writer, files)
-}

@@ -45,7 +45,7 @@ pub fn serve<R: Read, W: Write, F: Files>(
     writer: &mut W,
     files: &F,
 ) -> Result<(), Ended> {
-    match dap::serve_unpromised(alloc, reader, writer, &Asked { files }) {
+    match dap::serve(alloc, reader, writer, &Asked { files }) {
         Ok(()) => Ok(()),
         Err(fault) => Err(ended_by(fault)),
     }
