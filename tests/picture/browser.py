@@ -17,6 +17,14 @@ def chromium() -> str | None:
     return next((found for found in map(shutil.which, NAMES) if found), None)
 
 
+def installed() -> str | None:
+    """A Chromium, which is installed where there is none and that can be done."""
+    if chromium() is None and os.geteuid() == 0:
+        line = "apt-get update -q && apt-get install -y -q --no-install-recommends chromium"
+        subprocess.run(["sh", "-c", line], stdout=subprocess.DEVNULL, stderr=subprocess.DEVNULL, check=False)
+    return chromium()
+
+
 class Browser:
     def __init__(self, program: str) -> None:
         to_read, self.to = os.pipe()

@@ -20,6 +20,7 @@ class Case:
     source: bytes
     stimulus: bytes
     trace: bytes
+    trace_name: str = "c.trace"
 
 
 def random_trace(source: bytes, stimulus: bytes, seed: int, steps: int) -> bytes:
@@ -106,8 +107,48 @@ def long_names(letters: int) -> Case:
     return Case(f"names_{letters}", source.encode(), b"", trace)
 
 
+def end_case(name: str, source: str, stimulus: str = "", steps: tuple[str, ...] = ()) -> Case:
+    """A run of a procedure with these ports, channels and variables of 8 bits, behind these steps."""
+    lines = "".join(f"step {step}\n" for step in steps)
+    return Case(name, source.encode(), stimulus.encode(), HEADER + lines.encode())
+
+
+def ends() -> list[tuple[Case, str, str]]:
+    """A run of each kind of end: with the words at the top of its page, and what its panel says."""
+    kept = {case.name: case for case in examples(())}
+    two = "procedure p (input i, j : 8 bits) is\n  channel c, d : 8 bits\n  variable x, y, z : 8 bits\nbegin\n  "
+    one = "procedure p (input i : 8 bits) is\n  channel c, d : 8 bits\n  variable x, y, z : 8 bits\nbegin\n  "
+    ring = "[c -> x ; d <- x] || [d -> y ; c <- y]"
+    never = "Some of what waits never goes on, whatever the stimulus."
+    halt = "The circuit is at a halt, which never ends."
+    return [
+        (end_case("goes_on", one + "i -> x\nend\n", "i = 1\n"), "1 ready", "1 step can be taken"),
+        (kept["one"], "done", "The circuit has ended."),
+        (end_case("done_with_more", one + "i -> x\nend\n", "i = 1 2\n", ("/0 0",)), "done", "The circuit has ended."),
+        (kept["stalled_pipeline"], "out of input", "It waits for more stimulus on k."),
+        (end_case("out_of_two", two + "loop select c then x := c | d then x := d end end ||\n  loop i -> y ; c <- y end ||\n"
+                  "  loop j -> z ; d <- z end\nend\n", "", ("/0/0.0 0", "/0/1.0 0", "/0/2.0 0")),
+         "out of input", "It waits for more stimulus on i or j."),
+        (end_case("out_of_syncs", "procedure p (sync s) is begin sync s end"), "out of input", "It waits for more stimulus on s."),
+        (end_case("no_sender", one + "c -> x\nend\n"), "stuck", never),
+        (end_case("behind_a_halt", one + "[i -> x ; halt ; c <- x] || c -> y\nend\n", "i = 1\n", ("/0/0.0 0",)), "stuck", never),
+        (end_case("held_for_ever", two + "select i then loop j -> y end end\nend\n", "i = 1\n", ("/0.0 0", "/0.1.0 0")), "stuck", never),
+        (end_case("halt", one + "halt ; i -> x\nend\n", "i = 1\n"), "stuck", halt),
+        (end_case("halt_in_an_arm", one + "i -> then halt end\nend\n", "i = 1\n", ("/0.0 0",)), "stuck", halt),
+        (kept["philosophers"], "deadlock", "Deadlock. 6 places wait in a ring, each for the next."),
+        (end_case("ring_and_step", one + ring + " || i -> z\nend\n", "i = 1\n"), "deadlock", "1 step can be taken"),
+        (end_case("ring_and_input", one + ring + " || i -> z\nend\n"), "deadlock", "Deadlock. 2 places wait in a ring, each for the next."),
+    ]
+
+
 def odd_bytes() -> Case:
     """A source with a comment that is no UTF-8, that would end a script or a comment of a page, and that has signs of XML."""
     comment = b"-- \xff\xfe \xc3( </script><!-- & ]]> \xe2\x82\xac \x01\n"
     case = next(one for one in examples(()) if one.name == "one")
     return Case("odd_bytes", comment + case.source, case.stimulus, case.trace)
+
+
+def odd_name() -> Case:
+    """A trace whose name has signs of XML and of JSON, and a letter that is no ASCII."""
+    case = next(one for one in examples(()) if one.name == "one")
+    return Case("odd_name", case.source, case.stimulus, case.trace, "a<b>&\"'\\\u00e9.trace")

@@ -2,12 +2,15 @@
 
 from __future__ import annotations
 
+import json
 import re
 import shutil
 import subprocess
 import tempfile
 from functools import cached_property
+from html.parser import HTMLParser
 from pathlib import Path
+from xml.etree import ElementTree
 
 from cases import Case
 from facts import Facts
@@ -31,7 +34,7 @@ class Drawer:
     def __enter__(self) -> Drawer:
         self.folder = tempfile.TemporaryDirectory()
         self.room = Path(self.folder.name)
-        for name, text in (("c.balsa", self.case.source), ("c.stimulus", self.case.stimulus), ("c.trace", self.case.trace)):
+        for name, text in (("c.balsa", self.case.source), ("c.stimulus", self.case.stimulus), (self.case.trace_name, self.case.trace)):
             (self.room / name).write_bytes(text)
         return self
 
@@ -39,7 +42,7 @@ class Drawer:
         self.folder.cleanup()
 
     def call(self, *words: str) -> subprocess.CompletedProcess:
-        line = [self.program, "picture", "c.balsa", "c.stimulus", "c.trace", *words]
+        line = [self.program, "picture", "c.balsa", "c.stimulus", self.case.trace_name, *words]
         return subprocess.run(line, cwd=self.room, capture_output=True, check=False, timeout=300)
 
     def draw(self, *words: str) -> bytes:
@@ -101,7 +104,20 @@ def wave_faults(case: Case, drawer: Drawer, small: bool) -> list[str]:
 
 # --- drawings
 
-STATE = re.compile(rb">(\d+) causes</tspan> and <tspan [^>]*>(\d+) consequences</tspan>")
+HEAD = re.compile(rb">c\.trace: ([^<;]*)[<;]")
+STATE = re.compile(rb">(\d+ causes?)</tspan> and <tspan [^>]*>(\d+ consequences?)</tspan>")
+
+
+def counted(count: int, word: str) -> str:
+    return f"{count} {word}{'s' * (count != 1)}"
+
+
+def head_faults(facts: Facts, drawing: bytes) -> list[str]:
+    """Whether the line at the top counts the events, and says how the run stands."""
+    ready = len(facts.all["ready"])
+    stands = "deadlock" if facts.all["has_ring"] else f"{ready} ready" if ready else facts.all["progress"]
+    told, wanted = HEAD.search(drawing), f"{counted(len(facts.events), 'event')}, {stands}"
+    return [] if told and told[1].decode() == wanted else [f"the line at the top is {told and told[1]}, wanted {wanted}"]
 
 
 def well_formed(drawer: Drawer, drawing: bytes) -> list[str]:
@@ -113,12 +129,22 @@ def well_formed(drawer: Drawer, drawing: bytes) -> list[str]:
     return [done.stderr.decode()[:200]] if done.returncode or done.stderr else []
 
 
+def name_faults(drawer: Drawer, drawing: bytes) -> list[str]:
+    """Whether the title of the drawing, and the line over it, are read back with the name of the trace as it is."""
+    try:
+        top = list(ElementTree.fromstring(drawing))
+    except ElementTree.ParseError as fault:
+        return [f"no XML: {fault}"]
+    name, title, line = drawer.case.trace_name, "".join(top[0].itertext()), "".join(top[-1].itertext())
+    return [] if title == name and line.startswith(f"{name}: ") else [f"the trace {name!r} has the title {title!r} and the line {line!r}"]
+
+
 def drawing_faults(case: Case, drawer: Drawer, small: bool) -> list[str]:
     drawing = drawer.draw("--svg")
     if drawer.draw("--svg") != drawing:
         return ["two calls differ"]
     quiet = drawer.draw("--svg", "--quiet")
-    found = well_formed(drawer, drawing) + well_formed(drawer, quiet)
+    found = [fault for one in (drawing, quiet) for fault in well_formed(drawer, one) + name_faults(drawer, one)]
     if found or not small:
         return found
     try:
@@ -131,12 +157,14 @@ def shown_faults(drawer: Drawer, drawing: bytes, quiet: bytes) -> list[str]:
     """Whether the events are drawn and marked as they have to be, without turns and tests too."""
     facts = drawer.facts
     whole, less = taken_apart(facts, drawing, False), taken_apart(facts, quiet, True)
-    found = plain_faults(whole) + plain_faults(less) + quiet_faults(facts, whole, less) + race_faults(facts, whole)
+    found = head_faults(facts, drawing) + head_faults(facts, quiet)
+    found += plain_faults(whole) + plain_faults(less) + quiet_faults(facts, whole, less) + race_faults(facts, whole)
     for ticket in tickets(len(facts.events), drawer.case.name):
         for plain, words in ((whole, ()), (less, ("--quiet",))):
             marked = drawer.draw("--svg", "--event", str(ticket), *words)
-            told, wanted = STATE.search(marked), facts.cone_sizes(ticket - 1)
-            if told is None or (int(told[1]), int(told[2])) != wanted:
+            told, (causes, consequences) = STATE.search(marked), facts.cone_sizes(ticket - 1)
+            wanted = counted(causes, "cause"), counted(consequences, "consequence")
+            if told is None or (told[1].decode(), told[2].decode()) != wanted:
                 return [f"--event {ticket}: told {told and told[0]}, wanted {wanted}"]
             faults = marked_faults(facts, plain, marked, ticket - 1, bool(words))
             found += [f"--event {ticket} {' '.join(words)}: {fault}" for fault in faults] + well_formed(drawer, marked)
@@ -154,11 +182,34 @@ def tickets(count: int, name: str) -> list[int]:
 PARTS = (Path(__file__).resolve().parents[2] / "crates/picture_text/page/page.html").read_bytes()
 
 
+class Scripts(HTMLParser):
+    """The texts of the scripts of a page, by their `id`."""
+
+    def __init__(self, page: str) -> None:
+        super().__init__()
+        self.found, self.name = {}, None
+        self.feed(page)
+        self.close()
+
+    def handle_starttag(self, tag: str, attrs: list) -> None:
+        self.name = dict(attrs).get("id", "") if tag == "script" else None
+
+    def handle_data(self, data: str) -> None:
+        if self.name is not None:
+            self.found[self.name] = self.found.get(self.name, "") + data
+
+    def handle_endtag(self, tag: str) -> None:
+        self.name = None
+
+
 def page_faults(drawer: Drawer) -> list[str]:
-    """The page is its fixed parts with the data between."""
+    """The page is page.html with the data in the place for them, and a reader of HTML finds them whole in their script."""
     page, data = drawer.draw(), drawer.draw("--json")
-    before, between, behind = page.partition(data)
-    return [] if between and PARTS.startswith(before) and PARTS.endswith(behind) else ["the page is not page.html with the data"]
+    before, mark, behind = PARTS.partition(b"/*RUN*/")
+    if not mark or not data or page != before + data + behind:
+        return ["the page is not page.html with the data"]
+    read = json.loads(Scripts(page.decode()).found.get("run", "null"))
+    return [] if read == json.loads(data) else [f"in the script `run` there is {str(read)[:80]}"]
 
 
 def refusal_faults(case: Case, drawer: Drawer) -> list[str]:

@@ -1,4 +1,4 @@
-"""What the data of a picture must say of a run, by the second implementation: from docs/, not from the code. The direct causes are found by
+"""What the data of a picture must say of a run, by the second implementation: from docs/, not from the code. The nearest causes are found by
 pairs, so this is slow and simple."""
 
 from __future__ import annotations
@@ -15,7 +15,7 @@ from reference.machine import Machine
 from reference.places import Address, branch, is_before, text_of
 from reference.residuals import DONE, Move, moves_of
 from reference.traces import load, step_line
-from waits import NOWHERE, PARTNERS, Standing, has_ring, is_under, links, partner
+from waits import NOWHERE, PARTNERS, Standing, has_ring, is_under, lacks_input, links, partner
 
 
 def lane_of(place: Address) -> str:
@@ -26,8 +26,8 @@ def lane_of(place: Address) -> str:
     return "".join(f"/{number}" for number in numbers)
 
 
-def direct_causes(events: list[Event]) -> list[list[int]]:
-    """For each event those that it follows: direct causes with no event between."""
+def nearest_causes(events: list[Event]) -> list[list[int]]:
+    """For each event its nearest causes: those that it depends on directly, with no event between."""
     behind: list[int] = []  # as bits, the event itself among them
     causes = []
     for at, event in enumerate(events):
@@ -115,7 +115,11 @@ class End:
         return [move.channel.number, sorted(lanes), int(standing != NOWHERE)]
 
     def progress(self) -> str:
-        return "goes on" if self.ready else "done" if self.machine.state.trees[0] == DONE else "stuck"
+        if self.ready:
+            return "goes on"
+        if self.machine.state.trees[0] == DONE:
+            return "done"
+        return "out of input" if lacks_input(self.machine, self.waiting) else "stuck"
 
     def links(self) -> dict[str, list[str]]:
         """For which places those of a deadlock wait."""
@@ -132,7 +136,7 @@ def facts(case: Case) -> dict:
     machine: Machine = load(system, case.trace)
     ground, events = Ground(case.source, system), [entry.event for entry in machine.live]
     end = End(machine, ground)
-    causes, depth = direct_causes(events), []
+    causes, depth = nearest_causes(events), []
     for kept in causes:
         depth.append(1 + max((depth[one] for one in kept), default=-1))
     followers: list[list[int]] = [[] for _ in events]
@@ -319,7 +323,7 @@ def data_faults(case: Case, drawer: object) -> list[str]:
     data = json.loads(text)
     if data["picture"] != 1 or data["tickets"] != 1 or data["source"] != case.source.decode("utf-8", "replace"):
         return ["version, tickets or source"]
-    if data["files"] != ["c.balsa", "c.stimulus", "c.trace"]:
+    if data["files"] != ["c.balsa", "c.stimulus", case.trace_name]:
         return [f"files {data['files']}"]
     if found := faults_of(data):
         return found

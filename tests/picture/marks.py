@@ -182,7 +182,7 @@ def fits(text: str, whole: str) -> bool:
 
 # --- what has to be so
 
-COLOURS = re.compile(rb'<tspan fill="([^"]+)"[^>]*>\d+ causes</tspan> and <tspan fill="([^"]+)"[^>]*>\d+ consequences</tspan>')
+COLOURS = re.compile(rb'<tspan fill="([^"]+)"[^>]*>\d+ causes?</tspan> and <tspan fill="([^"]+)"[^>]*>\d+ consequences?</tspan>')
 
 
 def events_of(facts: Facts, quiet: bool) -> list[int]:

@@ -37,7 +37,9 @@ def after(entry: Entry, own: Own, first: Standing, rest: Standing) -> Standing:
     if first == OVER:
         return rest
     if first == NOWHERE:
-        return (entry,) if below(own, entry) is None and is_found(rest) else NOWHERE
+        if below(own, entry) is not None:
+            return NOWHERE
+        return (entry,) if is_found(rest) else NEVER if rest == NEVER else NOWHERE
     return (entry, *first) if isinstance(first, tuple) else first
 
 
@@ -150,13 +152,24 @@ def is_under(place: Address, other: Address) -> bool:
     return other[:len(place)] == place
 
 
+def is_outlet(move: Move) -> bool:
+    """Whether it is the environment's at an output port."""
+    return move.kind == "receive" and move.variable is None
+
+
+def is_in_body(move: Move) -> bool:
+    return move.place[0].number == 0
+
+
+def is_starved(machine: Machine, move: Move, standing: Standing) -> bool:
+    """Whether it stands in the body and waits for what the environment had some of, and has no more."""
+    fed = {one.channel for one in machine.system.environment if one.channel.kind != "output"}
+    return standing == NOWHERE and is_in_body(move) and move.kind in ("receive", "open", "sync") and move.channel in fed
+
+
 def is_helped(machine: Machine, move: Move, standing: Standing) -> bool:
     """Whether somebody outside helps: who takes at an output, or who gives more where the environment has no more."""
-    if move.kind == "receive" and move.variable is None:
-        return True
-    fed = {one.channel for one in machine.system.environment if one.channel.kind != "output"}
-    in_body = move.place[0].number == 0
-    return standing == NOWHERE and in_body and move.kind in ("receive", "open", "sync") and move.channel in fed
+    return is_outlet(move) or is_starved(machine, move, standing)
 
 
 def deadlocked(machine: Machine, waiting: dict[Address, list[tuple[Move, Standing]]]) -> set[Address]:
@@ -173,6 +186,16 @@ def deadlocked(machine: Machine, waiting: dict[Address, list[tuple[Move, Standin
     while gone := {place for place in left if not is_held_back(place)}:
         left -= gone
     return left
+
+
+def lacks_input(machine: Machine, waiting: dict[Address, list[tuple[Move, Standing]]]) -> bool:
+    """Whether a run that is stuck lacks nothing but input."""
+    stuck, moves = deadlocked(machine, waiting), [one for found in waiting.values() for one in found]
+    if any(move.place in stuck and (is_in_body(move) or move.kind == "release") for move, _ in moves):
+        return False
+    if any(standing == HERE and not is_outlet(move) for move, standing in moves):
+        return False
+    return any(is_starved(machine, move, standing) for move, standing in moves)
 
 
 def links(machine: Machine, waiting: dict[Address, list[tuple[Move, Standing]]]) -> dict[Address, set[Address]]:

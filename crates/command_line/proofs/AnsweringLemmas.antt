@@ -1,5 +1,5 @@
 -- How what the libraries give becomes the answer to a request, or the reason why there is none.
-use Rattle.std.proofs.Common.{◌≡◌, inl, inr, ℕ, Bool, List, [], Option, Some, Result, Ok, Err, refl, subst}
+use Rattle.std.proofs.Common.{◌≡◌, inl, inr, ℕ, Bool, List, [], Option, Some, Result, Ok, Err, refl, subst, sym}
 use Rattle.std.specs.Prelude.{IfOk, IfErr, MatchResult}
 use Rattle.system.specs.declared.system.System.{System}
 use Rattle.runs.specs.declared.command.Refusal.TheVariants.{NoSuchEvent}
@@ -22,43 +22,41 @@ use Rattle.debug_session.specs.declared.fault.Fault.TheVariants.{Refused}
 use Rattle.command_line.specs.Answering.{Holding, TextsHad, FilesDescribe, FilesRefuse, CheckRefuses, ReplayRefuses}
 use Rattle.command_line.specs.Answering.{WhyGives, WhyRefuses}
 use Rattle.command_line.specs.Drawing.{PictureGives, PictureRefuses, files_of, form_of}
+use Rattle.command_line.specs.Kept.{Kept}
 use Rattle.command_line.specs.Serving.{Answers, DebugsFiles}
 use Rattle.command_line.specs.Used.{Outcome, Used, IsUntouched, ReaderBlamed, WriterBlamed}
 use Rattle.command_line.specs.Used.{bytes_before, bytes_behind}
 use Rattle.command_line.specs.internal.Answers.{RunHad, RunNotHad, SourceGives, TellsPicture, TellsWhy}
 
 -- both texts were had, and make a system or are refused
-pub texts-accepted : (holds : Holding) (file stimulus source values slice text : List ℕ) (r : Result System Fault)
-    → TextsHad holds file stimulus source values → slice ≡ source → text ≡ values
+pub texts-accepted : (holds : Holding) (file stimulus : List ℕ) (kept : Kept) (slice text : List ℕ) (r : Result System Fault)
+    → TextsHad holds file stimulus kept.source kept.values → slice ≡ kept.source → text ≡ kept.values
     → IfOk r (λ system. AcceptedAs slice text system) → IfErr r (λ fault. IsRefused slice text fault)
-    → MatchResult r (FilesDescribe holds file stimulus source) (FilesRefuse holds file stimulus)
-texts-accepted holds file stimulus source values slice text (Ok system) had same alike accepted fault = (
-  values,
+    → MatchResult r (FilesDescribe holds file stimulus kept.source) (FilesRefuse holds file stimulus kept)
+texts-accepted holds file stimulus kept slice text (Ok system) had same alike accepted fault = (
+  kept.values,
   had,
-  subst (λ (t : List ℕ). AcceptedAs source t system) alike
+  subst (λ (t : List ℕ). AcceptedAs kept.source t system) alike
       (subst (λ (t : List ℕ). AcceptedAs t text system) same accepted),
 )
-texts-accepted holds file stimulus source values slice text (Err given) had same alike accepted fault =
+texts-accepted holds file stimulus kept slice text (Err given) had same alike accepted fault =
     inr (
-      source,
-      values,
       had,
-      subst (λ (t : List ℕ). IsRefused source t given) alike
+      subst (λ (t : List ℕ). IsRefused kept.source t given) alike
           (subst (λ (t : List ℕ). IsRefused t text given) same fault),
     )
 
 -- a session on the texts
-pub debug-session : {I O : Type 0} (holds : Holding) (file stimulus source values slice text : List ℕ) (reader : Used I)
-    (out : Used O) (done : Outcome) → TextsHad holds file stimulus source values → slice ≡ source → text ≡ values
+pub debug-session : {I O : Type 0} (holds : Holding) (file stimulus : List ℕ) (kept : Kept) (slice text : List ℕ)
+    (reader : Used I) (out : Used O) (done : Outcome) → TextsHad holds file stimulus kept.source kept.values
+    → slice ≡ kept.source → text ≡ kept.values
     → Debugged slice text (IsUntouched reader × IsUntouched out) (bytes_before reader) (bytes_behind reader)
     (bytes_before out) (bytes_behind out) done
-    → ReaderBlamed reader done → WriterBlamed out done → DebugsFiles holds file stimulus reader out done
-debug-session holds file stimulus source values slice text reader out done had same alike h read wrote =
+    → ReaderBlamed reader done → WriterBlamed out done → DebugsFiles holds file stimulus reader out kept done
+debug-session holds file stimulus kept slice text reader out done had same alike h read wrote =
     inr (
-      source,
-      values,
       had,
-      subst (λ (t : List ℕ). Debugged source t (IsUntouched reader × IsUntouched out) (bytes_before reader) (bytes_behind reader)
+      subst (λ (t : List ℕ). Debugged kept.source t (IsUntouched reader × IsUntouched out) (bytes_before reader) (bytes_behind reader)
           (bytes_before out) (bytes_behind out) done) alike
           (subst (λ (t : List ℕ). Debugged t text (IsUntouched reader × IsUntouched out) (bytes_before reader)
           (bytes_behind reader) (bytes_before out) (bytes_behind out) done) same h),
@@ -67,26 +65,27 @@ debug-session holds file stimulus source values slice text reader out done had s
     )
 
 -- the text of a description was had, and makes a system or is refused
-pub source-accepted : (holds : Holding) (file source slice : List ℕ) (r : Result System Fault) → holds file (Some source)
-    → slice ≡ source → IfOk r (λ system. AcceptedAs slice [] system) → IfErr r (λ fault. IsRefused slice [] fault)
-    → MatchResult r (SourceGives holds file source) (CheckRefuses holds file)
-source-accepted holds file source slice (Ok system) had same accepted fault =
+pub source-accepted : (holds : Holding) (file : List ℕ) (kept : Kept) (slice : List ℕ) (r : Result System Fault)
+    → holds file (Some kept.source) → slice ≡ kept.source
+    → IfOk r (λ system. AcceptedAs slice [] system) → IfErr r (λ fault. IsRefused slice [] fault)
+    → MatchResult r (SourceGives holds file kept.source) (CheckRefuses holds file kept)
+source-accepted holds file kept slice (Ok system) had same accepted fault =
     (had, subst (λ (t : List ℕ). AcceptedAs t [] system) same accepted)
-source-accepted holds file source slice (Err given) had same accepted fault =
-    inr (source, had, subst (λ (t : List ℕ). IsRefused t [] given) same fault)
+source-accepted holds file kept slice (Err given) had same accepted fault =
+    inr (had, subst (λ (t : List ℕ). IsRefused t [] given) same fault)
 
 -- where there is no run there is no answer
-pub run-not-had : (holds : Holding) (file stimulus trace : List ℕ) (fault : Fault)
-    → RunNotHad holds file stimulus trace fault → ReplayRefuses holds file stimulus trace fault
-run-not-had holds file stimulus trace fault (inl none) = inl none
-run-not-had holds file stimulus trace fault (inr (system, files, none)) = inr (system, files, inl none)
+pub run-not-had : (holds : Holding) (file stimulus trace : List ℕ) (kept : Kept) (fault : Fault)
+    → RunNotHad holds file stimulus trace kept fault → ReplayRefuses holds file stimulus trace kept fault
+run-not-had holds file stimulus trace kept fault (inl none) = inl none
+run-not-had holds file stimulus trace kept fault (inr (system, files, none)) = inr (system, files, inl none)
 
 -- nor where the trace is refused
-pub run-refused : (holds : Holding) (file stimulus trace source : List ℕ) (system : System) (text slice : List ℕ)
-    (fault : Fault) → RunHad holds file stimulus trace source system text → slice ≡ text → RefusesTrace system slice fault
-    → ReplayRefuses holds file stimulus trace fault
-run-refused holds file stimulus trace source system text slice fault had same none =
-    inr (system, (source, had.0), inr (text, had.1, subst (λ (t : List ℕ). RefusesTrace system t fault) same none))
+pub run-refused : (holds : Holding) (file stimulus trace : List ℕ) (kept : Kept) (system : System) (slice : List ℕ)
+    (fault : Fault) → RunHad holds file stimulus trace kept.source system kept.trace → slice ≡ kept.trace
+    → RefusesTrace system slice fault → ReplayRefuses holds file stimulus trace kept fault
+run-refused holds file stimulus trace kept system slice fault had same none =
+    inr (system, (kept.source, had.0), inr (had.1, subst (λ (t : List ℕ). RefusesTrace system t fault) same none))
 
 -- a trace that is refused is so for the fault that its fault becomes
 pub trace-refused : (system : System) (text : List ℕ) (fault : TraceFault) → trace_text.IsRefused system text fault
@@ -95,30 +94,39 @@ trace-refused system text not_loaded.Memory h = tt
 trace-refused system text other h = ((λ e. cc), h)
 
 -- the answer to the question why, or the reason why there is none
-pub why-answered : {O : Type 0} (holds : Holding) (file stimulus trace subject : List ℕ) (all : Bool) (source : List ℕ)
-    (system : System) (text slice : List ℕ) (why : Why) (out : Used O) (done : Outcome)
-    → RunHad holds file stimulus trace source system text → slice ≡ text → IsAnswered system slice subject why
-    → IsWhyText system slice subject all why → TellsWhy why out done
-    → Answers (WhyGives holds file stimulus trace subject all) (WhyRefuses holds file stimulus trace subject) out done
-why-answered holds file stimulus trace subject all source system text slice (Why.Told lines) out done had same answered is told =
+pub why-answered : {O : Type 0} (holds : Holding) (file stimulus trace subject : List ℕ) (all : Bool) (kept : Kept)
+    (system : System) (slice : List ℕ) (why : Why) (out : Used O) (done : Outcome)
+    → RunHad holds file stimulus trace kept.source system kept.trace → slice ≡ kept.trace
+    → IsAnswered system slice subject why → IsWhyText system slice subject all why → TellsWhy why out kept.said done
+    → Answers (WhyGives holds file stimulus trace subject all) (WhyRefuses holds file stimulus trace subject all kept) out done
+why-answered holds file stimulus trace subject all kept system slice (Why.Told lines) out done had same answered is told =
     let of = subst (λ (t : List ℕ). IsWhyText system t subject all (Why.Told lines)) same is in
-    inr (lines.items, (system, text, lines, (source, had.0), had.1, of, refl), told)
-why-answered holds file stimulus trace subject all source system text slice (Why.Refused reason words) out done had same answered is told =
+    inr (lines.items, (system, kept.trace, lines, (kept.source, had.0), had.1, of, refl), told)
+why-answered holds file stimulus trace subject all kept system slice (Why.Refused reason words) out done had same answered is told =
     let of = subst (λ (t : List ℕ). IsAnswered system t subject (Why.Refused reason words)) same answered in
-    inl (Refused reason, inr (system, text, of.0, reason, (source, had.0), had.1, of.1, of.2, refl), told.0, told.1)
+    let says = subst (λ (t : List ℕ). IsWhyText system t subject all (Why.Refused reason words)) same is in
+    inl (
+      Refused reason,
+      inr (system, kept.trace, of.0, reason, (kept.source, had.0), had.1, of.1, of.2, (words, says, told.2), refl),
+      told.0,
+      told.1,
+    )
 
 -- a picture, or the reason why there is none
 pub picture-answered : {O : Type 0} (holds : Holding) (file stimulus trace : List ℕ) (drawing : Drawing) (form : Form)
-    (source bytes : List ℕ) (system : System) (text slice : List ℕ) (pictured : Pictured) (out : Used O) (done : Outcome)
-    → RunHad holds file stimulus trace source system text → bytes ≡ source → slice ≡ text → form ≡ form_of drawing
-    → IsPictureBehind system slice (files_of bytes file stimulus trace) form pictured → TellsPicture pictured out done
-    → Answers (PictureGives holds file stimulus trace drawing) (PictureRefuses holds file stimulus trace drawing) out done
-picture-answered holds file stimulus trace drawing form source bytes system text slice (Pictured.Text lines) out done had alike same is drawn told =
+    (kept : Kept) (bytes : List ℕ) (system : System) (slice : List ℕ) (pictured : Pictured) (out : Used O) (done : Outcome)
+    → RunHad holds file stimulus trace kept.source system kept.trace → bytes ≡ kept.source → slice ≡ kept.trace
+    → form ≡ form_of drawing
+    → IsPictureBehind system slice (files_of bytes file stimulus trace) form pictured
+    → TellsPicture pictured out kept.said done
+    → Answers (PictureGives holds file stimulus trace drawing) (PictureRefuses holds file stimulus trace drawing kept) out done
+picture-answered holds file stimulus trace drawing form kept bytes system slice (Pictured.Text lines) out done had alike same is drawn told =
     let on = subst (λ (t : List ℕ). IsTextBehind system t (files_of bytes file stimulus trace) form lines.items) same drawn in
-    let of = subst (λ (s : List ℕ). IsTextBehind system text (files_of s file stimulus trace) form lines.items) alike on in
-    let asked = subst (λ (f : Form). IsTextBehind system text (files_of source file stimulus trace) f lines.items) is of in
-    inr (lines.items, (system, source, text, had.0, had.1, asked), told)
-picture-answered holds file stimulus trace drawing form source bytes system text slice (Pictured.NoSuchStep words) out done had alike same is drawn told =
+    let of = subst (λ (s : List ℕ). IsTextBehind system kept.trace (files_of s file stimulus trace) form lines.items) alike on in
+    let asked = subst (λ (f : Form). IsTextBehind system kept.trace (files_of kept.source file stimulus trace) f lines.items) is of in
+    inr (lines.items, (system, kept.source, kept.trace, had.0, had.1, asked), told)
+picture-answered holds file stimulus trace drawing form kept bytes system slice (Pictured.NoSuchStep words) out done had alike same is drawn told =
     let on = subst (λ (t : List ℕ). IsMissingBehind system t form words.items) same drawn in
-    let asked = subst (λ (f : Form). IsMissingBehind system text f words.items) is on in
-    inl (Refused NoSuchEvent, inr (system, text, words.items, (source, had.0), had.1, asked, refl), told.0, told.1)
+    let asked = subst (λ (f : Form). IsMissingBehind system kept.trace f words.items) is on in
+    let says = subst (λ (w : List ℕ). IsMissingBehind system kept.trace (form_of drawing) w) (sym told.2) asked in
+    inl (Refused NoSuchEvent, inr (system, kept.trace, (kept.source, had.0), had.1, says, refl), told.0, told.1)

@@ -1,4 +1,5 @@
 mod AnsweringLemmas
+mod ExplainingLemmas
 mod Handing
 mod RunningLemmas
 mod ShellLemmas

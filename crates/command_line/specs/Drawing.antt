@@ -9,6 +9,7 @@ use Rattle.picture.specs.declared.Drawing.{Drawing as Form}
 use Rattle.picture.specs.declared.Drawing.TheVariants as form
 use Rattle.command_words.specs.declared.form.Drawing.{Drawing}
 use Rattle.command_line.specs.Answering.{Holding, FilesDescribe, FilesGive, ReplayRefuses}
+use Rattle.command_line.specs.Kept.{Kept}
 
 -- what the library calls the picture that is asked for
 abbrev pub form_of : Drawing → Form
@@ -28,9 +29,11 @@ PictureGives holds file stimulus trace drawing answer =
     × holds trace (Some text)
     × IsTextBehind system text (files_of source file stimulus trace) (form_of drawing) answer
 
--- it gives none: `replay` does not, or else the trace does not have the step that is to be marked
-abbrev pub PictureRefuses : Holding → List ℕ → List ℕ → List ℕ → Drawing → Fault → Type 0
-PictureRefuses holds file stimulus trace drawing fault =
-    ReplayRefuses holds file stimulus trace fault
-    ⊎ ((system : System) × (text : List ℕ) × (words : List ℕ) × FilesGive holds file stimulus system
-    × holds trace (Some text) × IsMissingBehind system text (form_of drawing) words × (fault ≡ Refused NoSuchEvent))
+-- it gives none: `replay` does not, or else the trace does not have the step that is to be marked, of which the words
+-- that are kept tell
+abbrev pub PictureRefuses : Holding → List ℕ → List ℕ → List ℕ → Drawing → Kept → Fault → Type 0
+PictureRefuses holds file stimulus trace drawing kept fault =
+    ReplayRefuses holds file stimulus trace kept fault
+    ⊎ ((system : System) × (text : List ℕ) × FilesGive holds file stimulus system
+    × holds trace (Some text) × IsMissingBehind system text (form_of drawing) kept.said
+    × (fault ≡ Refused NoSuchEvent))

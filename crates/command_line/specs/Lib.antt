@@ -1,7 +1,9 @@
 pub mod Adapter
 pub mod Answering
 pub mod Drawing
+pub mod Explained
 pub mod FaultLine
+pub mod Kept
 pub mod Running
 pub mod Serving
 pub mod Shells

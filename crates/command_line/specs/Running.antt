@@ -1,10 +1,11 @@
 -- What a run does: it serves the request that its words ask for, or says why there is none.
-use Rattle.std.specs.Prelude.{◌≡◌, ◌≢◌, ◌⊎◌, ℕ, List, [], Ok, Err, false}
+use Rattle.std.specs.Prelude.{◌≡◌, ◌≢◌, ◌⊎◌, ℕ, List, [], Ok, Err}
 use Rattle.command_line.specs.Answering.{Holding}
+use Rattle.command_line.specs.Explained.{IsBehind}
 use Rattle.command_line.specs.FaultLine.{fault_line}
+use Rattle.command_line.specs.Kept.{Kept}
 use Rattle.command_line.specs.Serving.{status_of, told_with, Serves}
 use Rattle.command_line.specs.Used.{Outcome, Used, IsUntouched, Tells}
-use Rattle.command_words.specs.Words.{explains}
 use Rattle.command_words.specs.declared.request.Request.{Request}
 use Rattle.debug_session.specs.declared.fault.Fault.{Fault}
 use Rattle.debug_session.specs.declared.fault.Fault.TheVariants.{Memory, WriteFailed}
@@ -32,9 +33,9 @@ Explains unasked mistaken helped status out err =
     ⊎ (unasked × ((mistaken × (status ≡ 2) × IsUntouched out × TellsSome err) ⊎ (helped × TellsHelp status out err)))
 
 -- a request that is asked for is served, and a refusal of it is told on standard error: in a line, and behind it in
--- words only where these are asked for too
+-- words where these are asked for too, of what was read
 abbrev pub ServesAsked : {I O E : Type 0} → (Request → Type 0) → Holding → ℕ → Used I → Used O → Used E → Type 0
 ServesAsked asked holds status reader out err =
-    (request : Request) × asked request × (done : Outcome) × (ended : Outcome) × (words : List ℕ)
-    × Serves holds request reader out done × (explains request ≡ false → words ≡ []) × (status ≡ status_of done)
+    (request : Request) × asked request × (done : Outcome) × (ended : Outcome) × (kept : Kept) × (words : List ℕ)
+    × Serves holds request reader out kept done × IsBehind request kept done words × (status ≡ status_of done)
     × Tells (told_with done words) err ended

@@ -7,9 +7,10 @@ use Rattle.std.specs.Prelude.{IfErr}
 use Rattle.command_line.specs.Adapter.{IsOfStreams}
 use Rattle.command_line.specs.Answering.{Holding, TextsHad, TextsNotHad, CheckGives, CheckRefuses}
 use Rattle.command_line.specs.Answering.{ReplayGives, ReplayRefuses, WorkGives, WorkRefuses}
-use Rattle.command_line.specs.Answering.{OutlineGives, PageRefuses, WaitingGives, WhyGives, WhyRefuses}
+use Rattle.command_line.specs.Answering.{OutlineGives, PageGives, PageRefuses, WaitingGives, WhyGives, WhyRefuses}
 use Rattle.command_line.specs.Drawing.{PictureGives, PictureRefuses}
 use Rattle.command_line.specs.FaultLine.{fault_line}
+use Rattle.command_line.specs.Kept.{Kept}
 use Rattle.command_line.specs.Shells.{ShellsFiles}
 use Rattle.command_line.specs.Used.{Outcome, Used, IsUntouched, ReaderBlamed, WriterBlamed, Tells}
 use Rattle.command_line.specs.Used.{bytes_before, bytes_behind}
@@ -37,45 +38,45 @@ Answers gives refuses out done =
     ⊎ ((answer : List ℕ) × gives answer × Tells answer out done)
 
 -- `debug` on the files of these names, of which the stimulus is read behind the source
-abbrev pub DebugsFiles : {I O : Type 0} → Holding → List ℕ → List ℕ → Used I → Used O → Outcome → Type 0
-DebugsFiles holds file stimulus reader out done =
+abbrev pub DebugsFiles : {I O : Type 0} → Holding → List ℕ → List ℕ → Used I → Used O → Kept → Outcome → Type 0
+DebugsFiles holds file stimulus reader out kept done =
     ((fault : Fault) × TextsNotHad holds file stimulus fault × (done ≡ Err fault)
     × IsUntouched reader × IsUntouched out)
-    ⊎ ((source : List ℕ) × (values : List ℕ) × TextsHad holds file stimulus source values
-    × Debugged source values (IsUntouched reader × IsUntouched out)
+    ⊎ (TextsHad holds file stimulus kept.source kept.values
+    × Debugged kept.source kept.values (IsUntouched reader × IsUntouched out)
     (bytes_before reader) (bytes_behind reader) (bytes_before out) (bytes_behind out) done
     × ReaderBlamed reader done × WriterBlamed out done)
 
--- what the run does for the request
-abbrev pub Serves : {I O : Type 0} → Holding → Request → Used I → Used O → Outcome → Type 0
-Serves holds (Request.Check file explain) reader out done =
-    IsUntouched reader × Answers (CheckGives holds file.now) (CheckRefuses holds file.now) out done
-Serves holds (Request.Debug file stimulus explain) reader out done =
-    DebugsFiles holds file.now stimulus.now reader out done
-Serves holds (Request.Shell file stimulus trace) reader out done =
+-- what the run does for the request, and what it keeps for the words behind a refusal
+abbrev pub Serves : {I O : Type 0} → Holding → Request → Used I → Used O → Kept → Outcome → Type 0
+Serves holds (Request.Check file explain) reader out kept done =
+    IsUntouched reader × Answers (CheckGives holds file.now) (CheckRefuses holds file.now kept) out done
+Serves holds (Request.Debug file stimulus explain) reader out kept done =
+    DebugsFiles holds file.now stimulus.now reader out kept done
+Serves holds (Request.Shell file stimulus trace) reader out kept done =
     ShellsFiles holds file.now stimulus.now (option_copied trace) reader out done
-Serves holds (Request.Replay file stimulus trace explain) reader out done =
+Serves holds (Request.Replay file stimulus trace explain) reader out kept done =
     IsUntouched reader
-    × Answers (ReplayGives holds file.now stimulus.now trace.now) (ReplayRefuses holds file.now stimulus.now trace.now)
-    out done
-Serves holds (Request.Work file stimulus crew explain) reader out done =
+    × Answers (ReplayGives holds file.now stimulus.now trace.now)
+    (ReplayRefuses holds file.now stimulus.now trace.now kept) out done
+Serves holds (Request.Work file stimulus crew explain) reader out kept done =
     IsUntouched reader
-    × Answers (WorkGives holds file.now stimulus.now crew.workers crew.turns) (WorkRefuses holds file.now stimulus.now)
-    out done
-Serves holds (Request.Explain page) reader out done =
-    IsUntouched reader × Answers (λ text. Unit {0}) PageRefuses out done
-Serves holds Request.Dap reader out done = IsUntouched reader × IfErr done IsOfStreams
-Serves holds (Request.Outline file) reader out done =
-    IsUntouched reader × Answers (OutlineGives holds file.now) (CheckRefuses holds file.now) out done
-Serves holds (Request.Waiting file stimulus trace) reader out done =
+    × Answers (WorkGives holds file.now stimulus.now crew.workers crew.turns)
+    (WorkRefuses holds file.now stimulus.now kept) out done
+Serves holds (Request.Explain page) reader out kept done =
+    IsUntouched reader × Answers (PageGives page.now) PageRefuses out done
+Serves holds Request.Dap reader out kept done = IsUntouched reader × IfErr done IsOfStreams
+Serves holds (Request.Outline file) reader out kept done =
+    IsUntouched reader × Answers (OutlineGives holds file.now) (CheckRefuses holds file.now kept) out done
+Serves holds (Request.Waiting file stimulus trace) reader out kept done =
     IsUntouched reader
     × Answers (WaitingGives holds file.now stimulus.now trace.now)
-    (ReplayRefuses holds file.now stimulus.now trace.now) out done
-Serves holds (Request.Why file stimulus trace subject all) reader out done =
+    (ReplayRefuses holds file.now stimulus.now trace.now kept) out done
+Serves holds (Request.Why file stimulus trace subject all) reader out kept done =
     IsUntouched reader
     × Answers (WhyGives holds file.now stimulus.now trace.now subject.now all)
-    (WhyRefuses holds file.now stimulus.now trace.now subject.now) out done
-Serves holds (Request.Picture file stimulus trace drawing) reader out done =
+    (WhyRefuses holds file.now stimulus.now trace.now subject.now all kept) out done
+Serves holds (Request.Picture file stimulus trace drawing) reader out kept done =
     IsUntouched reader
     × Answers (PictureGives holds file.now stimulus.now trace.now drawing)
-    (PictureRefuses holds file.now stimulus.now trace.now drawing) out done
+    (PictureRefuses holds file.now stimulus.now trace.now drawing kept) out done

@@ -2,6 +2,7 @@
 
 ghost use Rattle.command_line.specs.Answering.{CheckGives, CheckRefuses, ReplayGives, ReplayRefuses};
 ghost use Rattle.command_line.specs.Answering.{WorkGives, WorkRefuses};
+ghost use Rattle.command_line.specs.Kept.{kept_of};
 ghost use Rattle.command_line.specs.Serving.{Answers};
 ghost use Rattle.command_line.specs.Used.{used};
 
@@ -25,7 +26,8 @@ pub fn check<F: Files, O: Write>(
     out: &mut Counted<O>,
 ) -> Result<(), Fault>
     ensures { Answers (CheckGives (F.holds from.now.files.now) file.now)
-        (CheckRefuses (F.holds from.now.files.now) file.now) (used O.contents out.old out.new) result }
+        (CheckRefuses (F.holds from.now.files.now) file.now (kept_of texts.new))
+        (used O.contents out.old out.new) result }
 {
     let checked = accepted_source(from, file, texts)?;
     // The process ends behind this answer: to free the system node by node would only take time.
@@ -42,8 +44,8 @@ pub fn replay_files<F: Files, O: Write>(
 ) -> Result<(), Fault>
     ensures { Answers
         (ReplayGives (F.holds from.now.files.now) names.now.file.now names.now.stimulus.now names.now.trace.now)
-        (ReplayRefuses (F.holds from.now.files.now) names.now.file.now names.now.stimulus.now names.now.trace.now)
-        (used O.contents out.old out.new) result }
+        (ReplayRefuses (F.holds from.now.files.now) names.now.file.now names.now.stimulus.now names.now.trace.now
+        (kept_of texts.new)) (used O.contents out.old out.new) result }
 {
     let checked = read_run(from, names, texts)?;
     let events = replay(from.alloc, checked, texts.trace.as_slice())?;
@@ -61,7 +63,8 @@ pub fn work_files<W: Threads + Wait + Sync, F: Files, O: Write>(
     out: &mut Counted<O>,
 ) -> Result<(), Fault>
     ensures { Answers (WorkGives (F.holds from.now.files.now) file.now stimulus.now size.workers size.turns)
-        (WorkRefuses (F.holds from.now.files.now) file.now stimulus.now) (used O.contents out.old out.new) result }
+        (WorkRefuses (F.holds from.now.files.now) file.now stimulus.now (kept_of texts.new))
+        (used O.contents out.old out.new) result }
 {
     let checked = read_system(from, file, stimulus, texts)?;
     let crew = Crew {

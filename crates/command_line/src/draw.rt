@@ -3,6 +3,7 @@
 ghost use Rattle.std.specs.Prelude.{◌≡◌};
 ghost use Rattle.command_line.specs.Drawing as model;
 ghost use Rattle.command_line.specs.Drawing.{PictureGives, PictureRefuses};
+ghost use Rattle.command_line.specs.Kept.{kept_of};
 ghost use Rattle.command_line.specs.Serving.{Answers};
 ghost use Rattle.command_line.specs.Used.{used};
 ghost use Rattle.command_line.specs.internal.Answers.{TellsPicture};
@@ -35,7 +36,7 @@ fn tell_picture<O: Write>(
     said: &mut Vec<u8>,
     out: &mut Counted<O>,
 ) -> Result<(), Fault>
-    ensures { TellsPicture pictured (used O.contents out.old out.new) result }
+    ensures { TellsPicture pictured (used O.contents out.old out.new) said.new.items result }
 {
     match pictured {
         Pictured::Text(text) => write_out(out, text.as_slice()),
@@ -57,7 +58,7 @@ pub fn picture_files<F: Files, O: Write>(
     ensures { Answers
         (PictureGives (F.holds from.now.files.now) names.now.file.now names.now.stimulus.now names.now.trace.now drawing)
         (PictureRefuses (F.holds from.now.files.now) names.now.file.now names.now.stimulus.now names.now.trace.now
-        drawing)
+        drawing (kept_of texts.new))
         (used O.contents out.old out.new) result }
 {
     let checked = read_run(from, names, texts)?;

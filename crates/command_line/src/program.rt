@@ -1,8 +1,10 @@
 //! One run of the program, over whatever reads and writes.
 
-ghost use Rattle.std.specs.Prelude.{◌≡◌, ◌≢◌, ◌≤◌, ◌⊎◌, ℕ, List, [], map, false};
+ghost use Rattle.std.specs.Prelude.{◌≡◌, ◌≢◌, ◌≤◌, ◌⊎◌, ℕ, List, [], map};
 ghost use Rattle.std.specs.Io.Buffered.{reader_remaining};
-ghost use Rattle.command_words.specs.Words.{AreMistaken, AskFor, AskForHelp, AskForSome, explains};
+ghost use Rattle.command_words.specs.Words.{AreMistaken, AskFor, AskForHelp, AskForSome};
+ghost use Rattle.command_line.specs.Explained.{IsBehind};
+ghost use Rattle.command_line.specs.Kept.{Kept, kept_of};
 ghost use Rattle.command_line.specs.Running.{TellsSome, TellsHelp, Explains, ServesAsked};
 ghost use Rattle.command_line.specs.Serving.{status_of, told_with, DebugsFiles, Serves};
 ghost use Rattle.command_line.specs.Used.{Outcome, Tells, used};
@@ -37,7 +39,8 @@ fn debug_files<F: Files, I: Read, O: Write>(
     out: &mut Counted<O>,
 ) -> Result<(), Fault>
     ensures { DebugsFiles (F.holds from.now.files.now) file.now stimulus.now
-        (used (reader_remaining I.remaining) reader.old reader.new) (used O.contents out.old out.new) result }
+        (used (reader_remaining I.remaining) reader.old reader.new) (used O.contents out.old out.new)
+        (kept_of texts.new) result }
 {
     read_texts(from, file, stimulus, texts)?;
     texts.last = Part::Script;
@@ -66,7 +69,8 @@ fn perform<
     out: &mut Counted<O>,
 ) -> Result<(), Fault>
     ensures { Serves (F.holds from.now.files.now) request.entry
-        (used (reader_remaining I.remaining) reader.old reader.new) (used O.contents out.old out.new) result }
+        (used (reader_remaining I.remaining) reader.old reader.new) (used O.contents out.old out.new)
+        (kept_of texts.new) result }
 {
     match request {
         Request::Check { file, .. } => check(from, file, texts, out),
@@ -193,11 +197,11 @@ pub fn serve<
     out: &mut Counted<O>,
     err: &mut Counted<E>,
 ) -> Ended
-    ensures served { (done : Outcome) × (words : List ℕ)
+    ensures served { (done : Outcome) × (kept : Kept) × (words : List ℕ)
         × Serves (F.holds files.now) request.entry
         (used (reader_remaining I.remaining) reader.old reader.new)
-        (used O.contents out.old out.new) done
-        × (explains request.entry ≡ false → words ≡ [])
+        (used O.contents out.old out.new) kept done
+        × IsBehind request.entry kept done words
         × (result.status ≡ status_of done)
         × Tells (told_with done words) (used E.contents err.old err.new) result.told }
     ensures status { result.status ≤ 1 }

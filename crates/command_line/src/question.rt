@@ -1,7 +1,8 @@
 //! What is answered to people's questions about the files of a request.
 
-ghost use Rattle.command_line.specs.Answering.{CheckRefuses, OutlineGives, PageRefuses, ReplayRefuses, WaitingGives};
-ghost use Rattle.command_line.specs.Answering.{WhyGives, WhyRefuses};
+ghost use Rattle.command_line.specs.Answering.{CheckRefuses, OutlineGives, PageGives, PageRefuses, ReplayRefuses};
+ghost use Rattle.command_line.specs.Answering.{WaitingGives, WhyGives, WhyRefuses};
+ghost use Rattle.command_line.specs.Kept.{kept_of};
 ghost use Rattle.command_line.specs.Serving.{Answers};
 ghost use Rattle.command_line.specs.Used.{used};
 ghost use Rattle.command_line.specs.internal.Answers.{TellsWhy};
@@ -24,7 +25,7 @@ pub struct Question<'a> {
 
 /// Shows the page of a refusal.
 pub fn show_page<O: Write>(alloc: Global, page: &Page, out: &mut Counted<O>) -> Result<(), Fault>
-    ensures { Answers (λ _. Unit {0}) PageRefuses (used O.contents out.old out.new) result }
+    ensures { Answers (PageGives page.now) PageRefuses (used O.contents out.old out.new) result }
 {
     let text = page_text(alloc, page)?;
     write_out(out, text.as_bytes())
@@ -38,7 +39,8 @@ pub fn outline_file<F: Files, O: Write>(
     out: &mut Counted<O>,
 ) -> Result<(), Fault>
     ensures { Answers (OutlineGives (F.holds from.now.files.now) file.now)
-        (CheckRefuses (F.holds from.now.files.now) file.now) (used O.contents out.old out.new) result }
+        (CheckRefuses (F.holds from.now.files.now) file.now (kept_of texts.new))
+        (used O.contents out.old out.new) result }
 {
     let checked = accepted_source(from, file, texts)?;
     let text = outline_text(from.alloc, &checked, texts.source.as_slice())?;
@@ -54,8 +56,8 @@ pub fn waiting_files<F: Files, O: Write>(
 ) -> Result<(), Fault>
     ensures { Answers
         (WaitingGives (F.holds from.now.files.now) names.now.file.now names.now.stimulus.now names.now.trace.now)
-        (ReplayRefuses (F.holds from.now.files.now) names.now.file.now names.now.stimulus.now names.now.trace.now)
-        (used O.contents out.old out.new) result }
+        (ReplayRefuses (F.holds from.now.files.now) names.now.file.now names.now.stimulus.now names.now.trace.now
+        (kept_of texts.new)) (used O.contents out.old out.new) result }
 {
     let checked = read_run(from, names, texts)?;
     let text = waiting_text(from.alloc, checked, texts.trace.as_slice())?;
@@ -64,7 +66,7 @@ pub fn waiting_files<F: Files, O: Write>(
 
 /// Writes the lines that tell why. Where it cannot be told the lines that say so are put into `said`.
 fn tell_why<O: Write>(why: Why, said: &mut Vec<u8>, out: &mut Counted<O>) -> Result<(), Fault>
-    ensures { TellsWhy why (used O.contents out.old out.new) result }
+    ensures { TellsWhy why (used O.contents out.old out.new) said.new.items result }
 {
     match why {
         Why::Told(lines) => write_out(out, lines.as_slice()),
@@ -87,7 +89,7 @@ pub fn why_files<F: Files, O: Write>(
         (WhyGives (F.holds from.now.files.now) names.now.file.now names.now.stimulus.now names.now.trace.now
         asked.now.subject.now asked.now.all)
         (WhyRefuses (F.holds from.now.files.now) names.now.file.now names.now.stimulus.now names.now.trace.now
-        asked.now.subject.now)
+        asked.now.subject.now asked.now.all (kept_of texts.new))
         (used O.contents out.old out.new) result }
 {
     let checked = read_run(from, names, texts)?;

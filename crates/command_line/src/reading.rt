@@ -2,6 +2,7 @@
 
 ghost use Rattle.std.specs.Prelude.{◌≡◌, Some, MatchResult};
 ghost use Rattle.command_line.specs.Answering.{CheckRefuses, FilesDescribe, FilesRefuse, NotHad, TextsHad, TextsNotHad};
+ghost use Rattle.command_line.specs.Kept.{kept_of};
 ghost use Rattle.command_line.specs.internal.Answers.{RunHad, RunNotHad, SourceGives};
 
 use crate::files::{Files, Source};
@@ -27,7 +28,7 @@ pub fn accepted_source<F: Files>(
     texts: &mut Texts,
 ) -> Result<Checked, Fault>
     ensures { MatchResult result (SourceGives (F.holds from.now.files.now) file.now texts.new.source.items)
-        (CheckRefuses (F.holds from.now.files.now) file.now) }
+        (CheckRefuses (F.holds from.now.files.now) file.now (kept_of texts.new)) }
 {
     read_source(from, file, texts)?;
     accept(from.alloc, texts.source.as_slice(), b"")
@@ -60,7 +61,7 @@ pub fn read_system<F: Files>(
 ) -> Result<Checked, Fault>
     ensures { MatchResult result
         (FilesDescribe (F.holds from.now.files.now) file.now stimulus.now texts.new.source.items)
-        (FilesRefuse (F.holds from.now.files.now) file.now stimulus.now) }
+        (FilesRefuse (F.holds from.now.files.now) file.now stimulus.now (kept_of texts.new)) }
 {
     read_texts(from, file, stimulus, texts)?;
     accept(from.alloc, texts.source.as_slice(), texts.values.as_slice())
@@ -92,7 +93,8 @@ pub fn read_run<F: Files>(
     ensures { MatchResult result
         (λ system. RunHad (F.holds from.now.files.now) names.now.file.now names.now.stimulus.now names.now.trace.now
         texts.new.source.items system texts.new.trace.items)
-        (RunNotHad (F.holds from.now.files.now) names.now.file.now names.now.stimulus.now names.now.trace.now) }
+        (RunNotHad (F.holds from.now.files.now) names.now.file.now names.now.stimulus.now names.now.trace.now
+        (kept_of texts.new)) }
 {
     let checked = read_system(from, names.file, names.stimulus, texts)?;
     read_trace(from, names.trace, texts)?;

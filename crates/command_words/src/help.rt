@@ -264,10 +264,10 @@ a step can be taken, which are told as `ready` does; `done` where none can and
 nothing of the circuit is left; `out of input` where what is left waits for want
 of more in the stimulus; `stuck` where it waits for something else, or halts.
 Then comes each end of a channel that waits, with its place, its line, and the
-place behind which the end that it waits for stands. Where each of some waits
-for the next, they are told as a ring. Before each place stands its branch, by
-the number that `branch` takes; `outline` names them. A refusal is told in words
-too.
+place behind which the end that it waits for stands, and on which line. Where
+each of some waits for the next, they are told as a ring. Before each place
+stands its branch, by the number that `branch` takes; `outline` names them. A
+refusal is told in words too.
 
 A trace is a file with the steps of a run, as the script line `trace` answers.
 This takes up to 100 steps, and writes one:
@@ -277,12 +277,15 @@ Example:
   balsadbg waiting examples/mutex.balsa examples/mutex.stimulus \\
     examples/mutex.trace
 
-It answers:
+It answers, with its wide lines cut in two here:
   stuck
   waiting 3
-    branch 0 /0/0.1.0.1 line 19: is held on lock_a, behind branch 2 /0/2.1.1
-    branch 1 /0/1.1.0.0 line 19: syncs on lock_b, behind branch 2 /0/2.1
-    branch 2 /0/2.1.1.0 line 9: syncs on unlock_a, behind branch 0 /0/0.1.0
+    branch 0 /0/0.1.0.1 line 19: is held on lock_a, behind branch 2 /0/2.1.1,
+      for line 9
+    branch 1 /0/1.1.0.0 line 19: syncs on lock_b, behind branch 2 /0/2.1,
+      for line 9
+    branch 2 /0/2.1.1.0 line 9: syncs on unlock_a, behind branch 0 /0/0.1.0,
+      for line 21
   ring 2
     branch 0 /0/0.1.0.1
     branch 2 /0/2.1.1.0";
@@ -296,11 +299,12 @@ pub const WHY: &str = "Tell why a variable has its value, or why a step could be
 pub const WHY_LONG: &str = "\
 Take the steps of a trace again, and tell the steps that led to the value of the
 variable X, or to the step with the number X: each with its number, its line,
-what it carried or wrote, what it read, and the steps just before it. Steps are
-numbered from 1 as they stand in the trace, so as `replay` lists them; tickets
-of the session may be others. An output port has no value: ask for it by the
-number of the step that carried what came out. A refusal is told in words too. A
-trace is what the script line `trace` answers.
+what it carried or wrote, what it read and the step that wrote that, and behind
+`after` the steps just before it. Steps are numbered from 1 as they stand in the
+trace, so as `replay` lists them; tickets of the session may be others. An
+output port has no value: ask for it by the number of the step that carried what
+came out. A refusal is told in words too. A trace is what the script line
+`trace` answers.
 
 Example:
   balsadbg why examples/one.balsa examples/one.stimulus examples/one.trace x

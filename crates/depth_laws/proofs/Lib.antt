@@ -1,3 +1,4 @@
 pub mod public
 mod Alike
+mod CauseChains
 mod InLanes

@@ -1,5 +1,5 @@
--- The laws of what is drawn of a run: a depth is the length of the longest chain of causes, a lane is a chain, and
--- equal runs have the same depths, followers, races, lines and ready events.
+-- The laws of what is drawn of a run: a depth is the length of the longest chain of followers, and of that of causes, a
+-- lane is a chain, and equal runs have the same depths, followers, races, lines and ready events.
 use Rattle.std.specs.Prelude.{◌≡◌, ℕ, zero, suc, ◌<◌, ◌≤◌, List, Some, slice_get, slice_index}
 use Rattle.syntax.specs.Lists.{In}
 use Rattle.system.specs.declared.system.System.{System}
@@ -31,6 +31,22 @@ pub record IsLongest (l : Live) (u d : ℕ) : Type 0 where
 abbrev pub DepthIsLongest : Type 0
 DepthIsLongest =
     (l : Live) (depths : List ℕ) (i u : ℕ) → AreDepths l depths → StandsAt l u i → IsLongest l u (slice_index depths i)
+
+-- a chain of so many causes leads to the event of ticket u: on each of them the next depends directly
+abbrev pub CauseChain : Live → ℕ → ℕ → Type 0
+CauseChain l zero u = Unit {0}
+CauseChain l (suc n) u = (t : ℕ) × DirectDependent l t u × CauseChain l n t
+
+-- the longest chain of causes that leads to the event of ticket u has d events
+pub record IsLongestOfCauses (l : Live) (u d : ℕ) : Type 0 where
+  pub chain : CauseChain l d u
+  pub longest : (n : ℕ) → CauseChain l n u → n ≤ d
+
+-- the depth of an event is the length of the longest chain of causes that leads to it, too
+abbrev pub DepthIsLongestOfCauses : Type 0
+DepthIsLongestOfCauses =
+    (l : Live) (depths : List ℕ) (low next i u : ℕ) → Rising low l next → AreDepths l depths → StandsAt l u i →
+    IsLongestOfCauses l u (slice_index depths i)
 
 -- the events of the one run in the system, those of the other are a respecting order of them, and both stand in order
 -- of tickets

@@ -3,11 +3,18 @@
 //! races, lines and ready events. The functions do nothing, their contracts say it.
 #![tactic(auto)]
 
-ghost use Rattle.depth_laws.specs.Laws.{DepthIsLongest, DepthsAgree, FollowersAgree, LanesAreChains, LinesAgree, RacesAgree, ReadyAgree};
+ghost use Rattle.depth_laws.specs.Laws.{DepthIsLongest, DepthIsLongestOfCauses, DepthsAgree, FollowersAgree, LanesAreChains, LinesAgree, RacesAgree, ReadyAgree};
 
-/// The depth of an event is the length of the longest chain of causes that leads to it.
+/// The depth of an event is the length of the longest chain that leads to it, in which each event is followed by the
+/// next.
 pub fn depth_is_longest()
     ensures { DepthIsLongest }
+{}
+
+/// It is that of the longest chain of causes, too, on each of which the next depends directly: none is longer, and
+/// one is as long.
+pub fn depth_is_longest_of_causes()
+    ensures { DepthIsLongestOfCauses }
 {}
 
 /// In two runs that differ only in the order of independent steps the same events follow one another.

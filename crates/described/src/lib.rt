@@ -1,15 +1,17 @@
 //! What only the source tells of a description: which calls make what stands in the system, on which line a variable or
 //! a channel is declared, and which numbers the elements of enumerations are.
-//!
-//! What is told is tested and not proved.
 #![tactic(auto)]
 
+ghost use Rattle.std.specs.Prelude.{◌≡◌, IfOk, map};
+ghost use Rattle.system.specs.declared.system.Channel as system_channel;
+ghost use Rattle.described.specs.Description.{Describes};
 ghost use Rattle.described.specs.Told.{TellsNothing};
 
+mod body_calls;
 mod call;
 mod enumeration;
+mod found;
 mod lines;
-mod visit;
 mod walk;
 
 pub use call::CallEntry;
@@ -27,7 +29,7 @@ use walk::walk;
 pub struct Described {
     /// the calls, in the order of the source, each behind the one in whose body it stands
     pub calls: Items<CallEntry>,
-    /// how many more calls there are, each of which stands in more than 64 others
+    /// how many more calls there are, each of which stands in 64 others or more
     pub deeper: u64,
     /// the line on which each variable of the system is declared, from 1, by the variable's number
     pub variable_lines: Vec<u64>,
@@ -59,7 +61,9 @@ pub fn describe(
     source: &[u8],
     procedures: &[Procedure],
     system: &System,
-) -> Result<Described, AllocError> {
+) -> Result<Described, AllocError>
+    ensures { IfOk result (λ d. Describes source.now procedures.now system.now d) }
+{
     let starts = line_starts(alloc, source)?;
     let found = walk(alloc, procedures)?;
     let variable_lines = lines_of(alloc, starts.as_slice(), found.variables.as_slice())?;
@@ -76,7 +80,10 @@ pub fn describe(
 }
 
 /// The offset at which each channel is declared.
-fn declared_in(alloc: Global, channels: &[Channel]) -> Result<Vec<u64>, AllocError> {
+fn declared_in(alloc: Global, channels: &[Channel]) -> Result<Vec<u64>, AllocError>
+    ensures { IfOk result (λ declared.
+        declared.items ≡ map (λ (c : system_channel.Channel). c.declared) channels.now) }
+{
     let mut declared = Vec::with_capacity(alloc, channels.len())?;
     for channel in channels {
         declared.push(channel.declared)?;

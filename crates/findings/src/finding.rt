@@ -1,7 +1,8 @@
 // What was found about a fault, and its text.
 ghost use Rattle.std.specs.Prelude.{◌≡◌, ◌∷◌, ◌++◌, ℕ, List, [], map, IfOk, OnOk, string_bytes};
+ghost use Rattle.std.specs.List.{list_any};
 ghost use Rattle.findings.specs.Heads.{IsHead, TellsPlace, head};
-ghost use Rattle.findings.specs.MarkedPlaces.{marked_at};
+ghost use Rattle.findings.specs.MarkedPlaces.{begins_at, marked_at, marked_once};
 ghost use Rattle.findings.specs.Marking.{AreMarksOf, ShowsMarks, TellsMarked, seen, seen_beside};
 
 use crate::wrap::help_text;
@@ -85,7 +86,10 @@ fn head_of(
 
 impl Finding {
     /// Nothing is said yet of the bytes from `start` up to `stop`.
-    pub fn new(alloc: Global, start: u64, stop: u64) -> Finding {
+    pub fn new(alloc: Global, start: u64, stop: u64) -> Finding
+        ensures place { (result.start ≡ start) × (result.stop ≡ stop) }
+        ensures bare { result.beside.items ≡ [] }
+    {
         Finding {
             alloc,
             start,
@@ -98,7 +102,9 @@ impl Finding {
 
     /// Adds another place.
     pub fn add_beside(&mut self, span: Span, note: &str) -> Result<(), AllocError>
-        ensures { OnOk result (marked_at self.new.beside.items ≡ marked_at self.old.beside.items ++ span.start ∷ []) }
+        ensures marked { OnOk result (marked_at self.new.beside.items
+            ≡ marked_at self.old.beside.items ++ span.start ∷ []) }
+        ensures kept { self.new ≡ record self.old { beside = self.new.beside } }
     {
         let note = String::from_str(self.alloc, note)?;
         self.beside.push(Beside {
@@ -110,15 +116,20 @@ impl Finding {
     }
 
     /// Adds another place, where none that is added begins there.
-    pub fn add_once(&mut self, span: Span, note: &str) -> Result<(), AllocError> {
-        if self.beside.iter().any(|one| one.start == span.start) {
+    pub fn add_once(&mut self, span: Span, note: &str) -> Result<(), AllocError>
+        ensures marked { OnOk result (marked_at self.new.beside.items ≡ marked_once span.start self.old.beside.items) }
+        ensures kept { self.new ≡ record self.old { beside = self.new.beside } }
+    {
+        if is_marked(self.beside.as_slice(), span.start) {
             return Ok(());
         }
         self.add_beside(span, note)
     }
 
     /// Says what is wrong.
-    pub fn say(&mut self, parts: &[&str]) -> Result<(), AllocError> {
+    pub fn say(&mut self, parts: &[&str]) -> Result<(), AllocError>
+        ensures { self.new ≡ record self.old { what = self.new.what } }
+    {
         for part in parts {
             self.what.push_str(part_told(part))?;
         }
@@ -126,7 +137,9 @@ impl Finding {
     }
 
     /// Says what helps.
-    pub fn advise(&mut self, parts: &[&str]) -> Result<(), AllocError> {
+    pub fn advise(&mut self, parts: &[&str]) -> Result<(), AllocError>
+        ensures { self.new ≡ record self.old { help = self.new.help } }
+    {
         for part in parts {
             self.help.push_str(part_told(part))?;
         }
@@ -196,6 +209,18 @@ impl Finding {
         text.push_str(help.as_str())?;
         Ok(text)
     }
+}
+
+/// Whether a mark begins at the offset.
+fn is_marked(marks: &[Beside], at: u64) -> bool
+    ensures { result ≡ list_any (begins_at at) marks.now }
+{
+    for mark in marks {
+        if mark.start == at {
+            return true;
+        }
+    }
+    false
 }
 
 /// Adds a mark for each of what is marked beside a fault.

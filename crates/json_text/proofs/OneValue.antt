@@ -69,18 +69,18 @@ one-pair : (high low c up down d : ℕ) → ArePair high low c → ArePair up do
 one-pair high low c up down d h k first second = let one = h.value in let two = k.value in omega arith
 
 one-beginning : (p q a b r s : List ℕ) (c d : ℕ) → BeginsWith p c r → BeginsWith q d s → p ++ a ≡ q ++ b → Agree c d (r ++ a) (s ++ b)
-one-beginning p q a b r s c d (itself is no_end no_mark) (itself is2 no_end2 no_mark2) same =
+one-beginning p q a b r s c d (itself is from no_end no_mark) (itself is2 from2 no_end2 no_mark2) same =
     let whole : c ∷ (r ++ a) ≡ d ∷ (s ++ b) =
     sym (ap (λ (t : List ℕ). t ++ a) is) ∙ (same ∙ ap (λ (t : List ℕ). t ++ b) is2) in
     (head-is c d _ _ whole, tail-is c d _ _ whole)
-one-beginning p q a b r s c d (itself is no_end no_mark) (one whole h) same = absurd (not-mark p q a b r s c d is no_mark h same)
-one-beginning p q a b r s c d (itself is no_end no_mark) (two high low middle h k pair) same =
+one-beginning p q a b r s c d (itself is from no_end no_mark) (one whole h) same = absurd (not-mark p q a b r s c d is no_mark h same)
+one-beginning p q a b r s c d (itself is from no_end no_mark) (two high low middle h k pair) same =
     absurd (not-mark p q a b r middle c high is no_mark h same)
-one-beginning p q a b r s c d (one whole h) (itself is no_end no_mark) same = absurd (not-mark q p b a s r d c is no_mark h (sym same))
+one-beginning p q a b r s c d (one whole h) (itself is from no_end no_mark) same = absurd (not-mark q p b a s r d c is no_mark h (sym same))
 one-beginning p q a b r s c d (one whole h) (one whole2 k) same = one-unit p q a b r s c d h k same
 one-beginning p q a b r s c d (one whole h) (two high low middle k l pair) same =
     absurd (not-half c high low d whole pair (one-unit p q a b r middle c high h k same).0)
-one-beginning p q a b r s c d (two high low middle h k pair) (itself is no_end no_mark) same =
+one-beginning p q a b r s c d (two high low middle h k pair) (itself is from no_end no_mark) same =
     absurd (not-mark q p b a s middle d high is no_mark h (sym same))
 one-beginning p q a b r s c d (two high low middle h k pair) (one whole l) same =
     absurd (not-half d high low c whole pair (sym (one-unit p q a b middle s high d h l same).0))
@@ -93,7 +93,7 @@ marks-differ : (c : ℕ) → c ≡ 92 → c ≡ 34 → ⊥
 marks-differ c is other = omega arith
 
 not-end : (p a r : List ℕ) (c : ℕ) → BeginsWith p c r → (b : List ℕ) → p ++ a ≡ 34 ∷ b → ⊥
-not-end p a r c (itself is no_end no_mark) b same =
+not-end p a r c (itself is from no_end no_mark) b same =
     no_end (head-is c 34 (r ++ a) b (sym (ap (λ (t : List ℕ). t ++ a) is) ∙ same))
 not-end p a r c (one whole h) b same =
     let begins = mark p a r c h in marks-differ 92 refl (head-is 92 34 begins.0 b (sym begins.1 ∙ same))
@@ -149,7 +149,16 @@ no-minus (d ∷ ds) es rest a b h is same =
     let head : d ≡ 45 = head-is d 45 (ds ++ a) (rest ++ b) (same ∙ ap (λ (t : List ℕ). t ++ b) is) in
     omega arith
 
-one-number : (ds es a b : List ℕ) → IsNumber ds → IsNumber es → Ends a → Ends b → ds ++ a ≡ es ++ b → (ds ≡ es) × (a ≡ b)
+-- whatever its first digit
+abbrev IsWide : List ℕ → Type 0
+IsWide ds = IsNumeral 10 ds ⊎ ((rest : List ℕ) × (ds ≡ 45 ∷ rest) × IsNumeral 10 rest)
+
+wide : (ds : List ℕ) → IsNumber ds → IsWide ds
+wide ds (inl h) = inl h.0
+wide ds (inr (inl h)) = inr (h.0, h.1, h.2.0)
+wide ds (inr (inr h)) = inl h.0
+
+one-number : (ds es a b : List ℕ) → IsWide ds → IsWide es → Ends a → Ends b → ds ++ a ≡ es ++ b → (ds ≡ es) × (a ≡ b)
 one-number ds es a b (inl h) (inl k) x y same = one-digits ds es a b h.1 k.1 x y same
 one-number ds es a b (inl h) (inr k) x y same = absurd (no-minus ds es k.0 a b h k.1 same)
 one-number ds es a b (inr h) (inl k) x y same = absurd (no-minus es ds h.0 b a k h.1 (sym same))
@@ -170,14 +179,14 @@ First (object ms) c = c ≡ 123
 abbrev Begins : Json → List ℕ → Type 0
 Begins v s = (c : ℕ) × (rest : List ℕ) × (s ≡ c ∷ rest) × First v c
 
-number-begins : (ds : List ℕ) → IsNumber ds → Begins (number ds) ds
+number-begins : (ds : List ℕ) → IsWide ds → Begins (number ds) ds
 number-begins [] (inl h) = let some = h.0 in absurd (omega arith)
 number-begins (d ∷ ds) (inl h) = (d, ds, refl, inl (digit-from d h.1.0))
 number-begins ds (inr h) = (45, h.0, h.1, inr refl)
 
 begins : (v : Json) (s : List ℕ) → IsTextOf v s → Begins v s
 begins (string cs) s h = (34, h.0, h.1, refl)
-begins (number ds) s h = let b = number-begins ds h.1 in (b.0, b.1, h.0 ∙ b.2, b.3)
+begins (number ds) s h = let b = number-begins ds (wide ds h.1) in (b.0, b.1, h.0 ∙ b.2, b.3)
 begins (list vs) s h = (91, with_commas h.0 ++ 93 ∷ [], h.1, refl)
 begins (object ms) s h = (123, with_commas h.0 ++ 125 ∷ [], h.1, refl)
 
@@ -261,7 +270,7 @@ mutual
       let c = heads (number ds) (string cs) s t a b h k same in
       absurd (number-by ds c.0 34 c.1 c.2 (λ d. let low = d.0 in omega arith) (λ e. omega arith))
   one-value (number ds) (number es) s t a b h k x y same =
-      let both = one-number ds es a b h.1 k.1 x y
+      let both = one-number ds es a b (wide ds h.1) (wide es k.1) x y
       (sym (ap (λ (z : List ℕ). z ++ a) h.0) ∙ (same ∙ ap (λ (z : List ℕ). z ++ b) k.0)) in
       (ap number both.0, both.1)
   one-value (number ds) (list ws) s t a b h k x y same =

@@ -51,7 +51,7 @@ by-size false c rest is h =
 
 by-kind : (literal : Bool) (c : ℕ) (rest : List ℕ) → is_literal c ≡ literal → IsCharacter c →
     BeginsWith (cond literal (c ∷ []) (cond (nat_lt c 65536) (unit c) (pair (c - 65536))) ++ rest) c rest
-by-kind true c rest is h = itself refl (grind (arith, nat_tests)) (grind (arith, nat_tests))
+by-kind true c rest is h = itself refl (grind (arith, nat_tests)) (grind (arith, nat_tests)) (grind (arith, nat_tests))
 by-kind false c rest is h = by-size (nat_lt c 65536) c rest refl h
 
 begins : (c : ℕ) (rest : List ℕ) → IsCharacter c → BeginsWith (character_text c ++ rest) c rest

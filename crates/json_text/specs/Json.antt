@@ -1,8 +1,10 @@
 -- Values of JSON, and their texts (RFC 8259, sections 3 to 7), without blanks between.
-use Rattle.std.specs.Prelude.{◌≡◌, ◌⊎◌, ℕ, List, [], ◌∷◌, ◌++◌}
+use Rattle.std.specs.Prelude.{◌≡◌, ◌⊎◌, ℕ, ◌<◌, ◌^◌, List, [], ◌∷◌, ◌++◌, length, get_or}
+use Rattle.std.specs.Fmt.{decimal}
 use Rattle.std.specs.Str.Parse.{IsNumeral}
+use Rattle.bstr.specs.Utf8.{lossy_chars}
 use Rattle.json_text.specs.Reading.{ReadsAs}
-use Rattle.json_text.specs.Values.{list_text, object_text}
+use Rattle.json_text.specs.Values.{list_text, object_text, string_text}
 
 mutual
   -- a string by its characters, a number by its sign and digits
@@ -21,9 +23,18 @@ mutual
     no_members : Members
     member : List ℕ → Json → Members → Members
 
--- digits, behind a minus or not
+-- digits, of which a zero is the first only where it stands alone
+abbrev pub IsInteger : List ℕ → Type 0
+IsInteger ds = IsNumeral 10 ds × (get_or ds 0 0 ≡ 48 → length ds ≡ 1)
+
+-- such digits, behind a minus or not; or any 64 digits, since of a longer number `decimal` has the last 64 alone
 abbrev pub IsNumber : List ℕ → Type 0
-IsNumber ds = IsNumeral 10 ds ⊎ ((rest : List ℕ) × (ds ≡ 45 ∷ rest) × IsNumeral 10 rest)
+IsNumber ds =
+    IsInteger ds ⊎ (((rest : List ℕ) × (ds ≡ 45 ∷ rest) × IsInteger rest) ⊎ (IsNumeral 10 ds × (length ds ≡ 64)))
+
+-- a number of 64 bits, as each is that is written, has no zero in front of others
+abbrev pub NumbersAreIntegers : Type 0
+NumbersAreIntegers = (n : ℕ) → n < 2 ^ 64 → IsInteger (decimal n)
 
 -- the text is read as a string of these characters
 abbrev pub IsStringOf : List ℕ → List ℕ → Type 0
@@ -56,6 +67,10 @@ abbrev mutual
 -- a text has one value
 abbrev pub TextsHaveOneValue : Type 0
 TextsHaveOneValue = (v w : Json) (text : List ℕ) → IsTextOf v text → IsTextOf w text → v ≡ w
+
+-- the string of any bytes is one of their characters, of which those that are no UTF-8 are U+FFFD
+abbrev pub BytesReadBack : Type 0
+BytesReadBack = (bytes : List ℕ) → IsTextOf (string (lossy_chars bytes)) (string_text bytes)
 
 -- it is one of some value
 abbrev pub IsJson : List ℕ → Type 0

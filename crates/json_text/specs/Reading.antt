@@ -34,7 +34,7 @@ pub record ArePair (high low c : ℕ) : Type 0 where
 
 -- the text begins with this character, itself or its one or two units, and this is the rest
 pub data BeginsWith (text : List ℕ) (c : ℕ) (rest : List ℕ) : Type 0 where
-  itself : text ≡ c ∷ rest → c ≢ 34 → c ≢ 92 → BeginsWith text c rest
+  itself : text ≡ c ∷ rest → 32 ≤ c → c ≢ 34 → c ≢ 92 → BeginsWith text c rest
   one : IsWhole c → BeginsWithUnit text c rest → BeginsWith text c rest
   two : (high low : ℕ) (middle : List ℕ) → BeginsWithUnit text high middle → BeginsWithUnit middle low rest →
       ArePair high low c →

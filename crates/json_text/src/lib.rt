@@ -9,5 +9,8 @@ mod string;
 mod writer;
 
 pub use item::Item;
-pub use string::{add_string, strings_are_plain, strings_read_back, texts_have_one_value};
+pub use string::{
+    add_string, bytes_read_back, numbers_are_integers, strings_are_plain, strings_read_back,
+    texts_have_one_value,
+};
 pub use writer::Json;

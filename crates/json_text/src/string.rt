@@ -1,7 +1,7 @@
 // Strings of JSON.
 ghost use Rattle.std.specs.Prelude.{◌≡◌, ◌++◌, ◌<◌, OnOk, true};
 ghost use Rattle.bstr.specs.Utf8.{lossy_chars};
-ghost use Rattle.json_text.specs.Json.{TextsHaveOneValue};
+ghost use Rattle.json_text.specs.Json.{BytesReadBack, NumbersAreIntegers, TextsHaveOneValue};
 ghost use Rattle.json_text.specs.Reading.{StringsReadBack};
 ghost use Rattle.json_text.specs.Strings.{StringsArePlain, character_text, escaped, hex_digit, is_literal, json_string, pair, unit};
 
@@ -95,6 +95,16 @@ pub fn strings_are_plain()
 /// A string is read as its characters. Nothing is done, the contract says it.
 pub fn strings_read_back()
     ensures { StringsReadBack }
+{}
+
+/// The string of any bytes is a text of their characters. Nothing is done, the contract says it.
+pub fn bytes_read_back()
+    ensures { BytesReadBack }
+{}
+
+/// A number as it is written has no zero in front of other digits. Nothing is done, the contract says it.
+pub fn numbers_are_integers()
+    ensures { NumbersAreIntegers }
 {}
 
 /// A text has one value. Nothing is done, the contract says it.

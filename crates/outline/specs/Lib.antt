@@ -1,4 +1,5 @@
 pub mod Branches
+pub mod EndTable
 pub mod Ends
 pub mod Names
 pub mod OutlineText

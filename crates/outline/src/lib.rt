@@ -5,6 +5,7 @@
 mod branch_text;
 mod branches;
 mod channel_text;
+mod end_table;
 mod ends;
 mod laws;
 mod names;
@@ -15,6 +16,7 @@ mod text;
 mod variable_text;
 
 pub use branches::{BranchEntry, Part};
+pub use end_table::{BranchEnd, EndTable};
 pub use ends::{End, Way};
 pub use laws::branches_by_number;
 pub use names::{ChannelEntry, VariableEntry};

@@ -5,3 +5,4 @@ mod Reading
 mod Sweeping
 mod Telling
 mod Values
+mod Writers

@@ -1,4 +1,4 @@
--- Direct causes from those of what an event follows.
+-- Nearest causes from those of what an event follows.
 use Rattle.std.proofs.Common.{◌≡◌, ◌≢◌, ◌⊎◌, ◌↔◌, inl, inr, ℕ, zero, suc, ◌+◌, ◌<◌, ◌≤◌, Bool, true, false, refl, sym, ◌∙◌, ap, subst, arith}
 use Rattle.std.proofs.lemmas.Bool.{cases_eq, cases_lt}
 use Rattle.syntax.specs.Lists.{In}
@@ -10,7 +10,7 @@ use Rattle.runs.proofs.public.Tickets.{rising-one}
 use Rattle.dependence.specs.Followers.{Follower, Reached, here, along}
 use Rattle.dependence.proofs.public.Following.{follows-on}
 use Rattle.dependence.proofs.public.FollowerLaws.{direct-follows, reached-follows, reached-through-followers}
-use Rattle.past.specs.Past.{DirectCause, IsInPast, is_told}
+use Rattle.past.specs.Past.{NearestCause, IsInPast, is_told}
 
 -- an event that s follows, which is u or depends on it
 pub record LastStep (l : Live) (u s : ℕ) : Type 0 where
@@ -39,15 +39,15 @@ pub record Between (all : Bool) (l : Live) (t u s v : ℕ) : Type 0 where
   pub not_first : v ≢ u
   pub not_last : v ≢ s
 
--- a direct cause of s that is u or depends on it
+-- a nearest cause of s that is u or depends on it
 pub record CauseAbove (all : Bool) (l : Live) (t u s : ℕ) : Type 0 where
   pub ticket : ℕ
-  pub direct : DirectCause all l t s ticket
+  pub nearest : NearestCause all l t s ticket
   pub on : DependsOn l u ticket
 
--- what an event hands on to those that follow it: itself where it is told, else its direct causes
+-- what an event hands on to those that follow it: itself where it is told, else its nearest causes
 abbrev pub Hands : Bool → Live → ℕ → ℕ → ℕ → Type 0
-Hands all l t f c = (IsInPast all l t f × (c ≡ f)) ⊎ ((IsInPast all l t f → ⊥) × DirectCause all l t f c)
+Hands all l t f c = (IsInPast all l t f × (c ≡ f)) ⊎ ((IsInPast all l t f → ⊥) × NearestCause all l t f c)
 
 -- what is handed on to s
 abbrev pub Candidate : Bool → Live → ℕ → ℕ → ℕ → Type 0
@@ -90,9 +90,9 @@ module _ (low next : ℕ) (all : Bool) (l : Live) (t : ℕ) (last : Event) (r : 
     ]
   ]
 
-  -- a told cause is direct, or one lies between
-  direct? : (u s : ℕ) (g : Event) → LiveAt l s g → IsInPast all l t u → u ≢ s → DependsOn l u s → DirectCause all l t s u ⊎ ((v : ℕ) × Between all l t u s v)
-  direct? u s g is told differs on = elim (search-list (λ (x : ℕ × Event). Between all l t u s x.0) l (between? u s g is)) [
+  -- a told cause is a nearest one, or one lies between
+  nearest? : (u s : ℕ) (g : Event) → LiveAt l s g → IsInPast all l t u → u ≢ s → DependsOn l u s → NearestCause all l t s u ⊎ ((v : ℕ) × Between all l t u s v)
+  nearest? u s g is told differs on = elim (search-list (λ (x : ℕ × Event). Between all l t u s x.0) l (between? u s g is)) [
     | inl found ↦ inr (found.0.0, found.2)
     | inr none ↦ inl (record {
       told = told;
@@ -113,15 +113,15 @@ module _ (low next : ℕ) (all : Bool) (l : Live) (t : ℕ) (last : Event) (r : 
       let up : u ≤ s = depends-up l u s on in
       let one : u ≡ s = omega arith in
       absurd (differs one)
-  above-within (suc n) u s g near is told differs on = elim (direct? u s g is told differs on) [
-    | inl direct ↦ record { ticket = u; direct = direct; on = same }
+  above-within (suc n) u s g near is told differs on = elim (nearest? u s g is told differs on) [
+    | inl nearest ↦ record { ticket = u; nearest = nearest; on = same }
     | inr found ↦
         let v : ℕ = found.0 in
         let b = found.1 in
         let up : u < v = strictly u v (depends-up l u v b.from) b.not_first in
         let close : s ≤ v + n = omega arith in
         let more = above-within n v s g close is b.told b.not_last b.to in
-        record { ticket = more.ticket; direct = more.direct; on = follows-on l u v more.ticket b.from more.on }
+        record { ticket = more.ticket; nearest = more.nearest; on = follows-on l u v more.ticket b.from more.on }
   ]
 
   pub cause-above : (u s : ℕ) (g : Event) → LiveAt l s g → IsInPast all l t u → u ≢ s → DependsOn l u s → CauseAbove all l t u s
@@ -133,7 +133,7 @@ module _ (low next : ℕ) (all : Bool) (l : Live) (t : ℕ) (last : Event) (r : 
       let less : f < s = follower.dependent.less in
       omega arith
 
-  pub cause-candidate : (s u : ℕ) → DirectCause all l t s u → Candidate all l t s u
+  pub cause-candidate : (s u : ℕ) → NearestCause all l t s u → Candidate all l t s u
   cause-candidate s u d =
       let step = last-step low next l u s r d.cause d.other in
       let f : ℕ = step.ticket in
@@ -192,10 +192,10 @@ module _ (low next : ℕ) (all : Bool) (l : Live) (t : ℕ) (last : Event) (r : 
         | inl own ↦ (f, (f, step.follower, inl (own, refl)), step.on)
         | inr out ↦
             let above = cause-above v f event at told (λ is. out (subst (λ (u : ℕ). IsInPast all l t u) is told)) step.on in
-            (above.ticket, (f, step.follower, inr (out, above.direct)), above.on)
+            (above.ticket, (f, step.follower, inr (out, above.nearest)), above.on)
       ]
 
-  pub top-cause : (s u : ℕ) → Top all l t s u → DirectCause all l t s u
+  pub top-cause : (s u : ℕ) → Top all l t s u → NearestCause all l t s u
   top-cause s u top = record {
     told = candidate-told s u top.0;
     other = candidate-other s u top.0;
@@ -211,7 +211,7 @@ module _ (low next : ℕ) (all : Bool) (l : Live) (t : ℕ) (last : Event) (r : 
     ];
   }
 
-  pub cause-top : (s u : ℕ) → DirectCause all l t s u → Top all l t s u
+  pub cause-top : (s u : ℕ) → NearestCause all l t s u → Top all l t s u
   cause-top s u d = (
     cause-candidate s u d,
     λ c h on. elim (d.next c (candidate-told s c h) on (candidate-cause s c h)) [
@@ -220,8 +220,8 @@ module _ (low next : ℕ) (all : Bool) (l : Live) (t : ℕ) (last : Event) (r : 
     ],
   )
 
-  -- where all that s follows are told, they are its direct causes
-  pub all-told : (s u : ℕ) → ((f : ℕ) → Follower l f s → IsInPast all l t f) → DirectCause all l t s u ↔ Follower l u s
+  -- where all that s follows are told, they are its nearest causes
+  pub all-told : (s u : ℕ) → ((f : ℕ) → Follower l f s → IsInPast all l t f) → NearestCause all l t s u ↔ Follower l u s
   all-told s u told = (
     (λ d.
         let h = cause-candidate s u d in
@@ -235,16 +235,16 @@ module _ (low next : ℕ) (all : Bool) (l : Live) (t : ℕ) (last : Event) (r : 
     )),
   )
 
-  -- where it follows one that is not told, they are the direct causes of that
+  -- where it follows one that is not told, they are the nearest causes of that
   pub one-untold : (f s u : ℕ) → Follower l f s → ((g : ℕ) → Follower l g s → g ≡ f) → (IsInPast all l t f → ⊥) →
-      DirectCause all l t s u ↔ DirectCause all l t f u
+      NearestCause all l t s u ↔ NearestCause all l t f u
   one-untold f s u follower only out = (
     (λ d.
         let h = cause-candidate s u d in
         let one : h.0 ≡ f = only h.0 h.1 in
         elim h.2 [
           | inl own ↦ absurd (out (subst (λ (v : ℕ). IsInPast all l t v) one own.0))
-          | inr further ↦ subst (λ (v : ℕ). DirectCause all l t v u) one further.1
+          | inr further ↦ subst (λ (v : ℕ). NearestCause all l t v u) one further.1
         ]),
     (λ d. top-cause s u (
       (f, follower, inr (out, d)),
@@ -253,7 +253,7 @@ module _ (low next : ℕ) (all : Bool) (l : Live) (t : ℕ) (last : Event) (r : 
           elim h.2 [
             | inl own ↦ absurd (out (subst (λ (v : ℕ). IsInPast all l t v) one own.0))
             | inr further ↦
-                let e : DirectCause all l t f c = subst (λ (v : ℕ). DirectCause all l t v c) one further.1 in
+                let e : NearestCause all l t f c = subst (λ (v : ℕ). NearestCause all l t v c) one further.1 in
                 elim (d.next c e.told on e.cause) [ inl is ↦ is | inr is ↦ absurd (e.other is) ]
           ],
     )),

@@ -16,43 +16,46 @@ use Rattle.dependence.proofs.public.Standing.{index-rises, lesser-stands}
 use Rattle.past.specs.Laws.{ToldAsRead, values_behind, values_told}
 use Rattle.past.specs.Past.{IsInPast, Tells, carries, tickets_of}
 use Rattle.past.specs.PastText.{Values, noted, noted_at, written}
+use Rattle.past.specs.declared.held.Held.{Held}
 use Rattle.past.specs.declared.past.PastEvent.{PastEvent}
 use Rattle.past.proofs.Nearest.{strictly}
 
 -- ---- one write
-abbrev over : ℕ → Option ℕ → Option ℕ
+abbrev pub over : Held → Option Held → Option Held
 over b None = None
 over b (Some z) = Some b
 
-set-at : (v : Values) (y b : ℕ) → slice_get (slice_set v y b) y ≡ over b (slice_get v y)
+pub set-at : (v : Values) (y : ℕ) (b : Held) → slice_get (slice_set v y b) y ≡ over b (slice_get v y)
 set-at [] y b = refl
 set-at (z ∷ v) zero b = refl
 set-at (z ∷ v) (suc y) b = set-at v y b
 
-set-alike : (v w : Values) (x y b : ℕ) → slice_get v x ≡ slice_get w x → slice_get (slice_set v y b) x ≡ slice_get (slice_set w y b) x
+set-alike : (v w : Values) (x y : ℕ) (b : Held) → slice_get v x ≡ slice_get w x → slice_get (slice_set v y b) x ≡ slice_get (slice_set w y b) x
 set-alike v w x y b h = elim (cases_eq x y) [
   | inl is ↦
       let here : slice_get v y ≡ slice_get w y = subst (λ (k : ℕ). slice_get v k ≡ slice_get w k) is h in
       subst (λ (k : ℕ). slice_get (slice_set v y b) k ≡ slice_get (slice_set w y b) k) (sym is)
-      (set-at v y b ∙ ap (λ (o : Option ℕ). over b o) here ∙ sym (set-at w y b))
+      (set-at v y b ∙ ap (λ (o : Option Held). over b o) here ∙ sym (set-at w y b))
   | inr differs ↦ set-other v y x b differs ∙ h ∙ sym (set-other w y x b differs)
 ]
 
-written-alike : (a : Option ℕ) (c : Option Word) (v w : Values) (x : ℕ) → slice_get v x ≡ slice_get w x → slice_get (written a c v) x ≡ slice_get (written a c w) x
-written-alike (Some y) (Some b) v w x h = set-alike v w x y b.bits h
-written-alike (Some y) None v w x h = h
-written-alike None c v w x h = h
+written-alike : (t : ℕ) (a : Option ℕ) (c : Option Word) (v w : Values) (x : ℕ) → slice_get v x ≡ slice_get w x →
+    slice_get (written t a c v) x ≡ slice_get (written t a c w) x
+written-alike t (Some y) (Some b) v w x h = set-alike v w x y (record { bits = b.bits; writer = Some t }) h
+written-alike t (Some y) None v w x h = h
+written-alike t None c v w x h = h
 
-written-other : (a : Option ℕ) (c : Option Word) (v : Values) (x : ℕ) → ((b : Word) → a ≡ Some x → c ≡ Some b → ⊥) → slice_get (written a c v) x ≡ slice_get v x
-written-other (Some y) (Some b) v x none = elim (cases_eq x y) [
+pub written-other : (t : ℕ) (a : Option ℕ) (c : Option Word) (v : Values) (x : ℕ) → ((b : Word) → a ≡ Some x → c ≡ Some b → ⊥) →
+    slice_get (written t a c v) x ≡ slice_get v x
+written-other t (Some y) (Some b) v x none = elim (cases_eq x y) [
   | inl is ↦ absurd (none b (ap (λ (k : ℕ). Some k) (sym is)) refl)
-  | inr differs ↦ set-other v y x b.bits differs
+  | inr differs ↦ set-other v y x (record { bits = b.bits; writer = Some t }) differs
 ]
-written-other (Some y) None v x none = refl
-written-other None c v x none = refl
+written-other t (Some y) None v x none = refl
+written-other t None c v x none = refl
 
 -- ---- the told events by index
-ticket-in : (es : List PastEvent) (y : PastEvent) → In y es → In y.ticket (tickets_of es)
+pub ticket-in : (es : List PastEvent) (y : PastEvent) → In y es → In y.ticket (tickets_of es)
 ticket-in [] y i = absurd i
 ticket-in (x ∷ es) y i = elim i [
   | inl is ↦ inl (ap (λ (z : PastEvent). z.ticket) is)
@@ -106,9 +109,9 @@ module _ (next : ℕ) (l : Live) (r : Rising 0 l next) (all : Bool) (t s i : ℕ
       shown false false h = cc
 
   unwritten : (j u : ℕ) (f : Event) (front : List PastEvent) (w : Values) → slice_get l j ≡ Some (u, f) → j < i → Complete all l t front j i →
-      ((p : PastEvent) → In p front → p.index ≢ j) → slice_get (noted f w) x ≡ slice_get w x
+      ((p : PastEvent) → In p front → p.index ≢ j) → slice_get (noted u f w) x ≡ slice_get w x
   unwritten j u f front w at less complete others =
-      written-other f.written f.value w x (λ b writes carried.
+      written-other u f.written f.value w x (λ b writes carried.
       let found = complete u j f at (omega arith) less (writer-told u j f b at less writes carried) in
       others found.0 found.1 found.2)
 
@@ -129,14 +132,14 @@ module _ (next : ℕ) (l : Live) (r : Rising 0 l next) (all : Bool) (t s i : ℕ
       step : (those : List PastEvent) (u : ℕ) (f : Event) → slice_get l j ≡ Some (u, f) → j < i → Inside those j i → ByIndex those → Complete all l t those j i →
           ((others : List PastEvent) (v' w' : Values) → Inside others (suc j) i → ByIndex others → Complete all l t others (suc j) i →
           slice_get v' x ≡ slice_get w' x → slice_get (values_told l v' others) x ≡ slice_get (values_behind w' (take n (drop (suc j) l))) x) →
-          slice_get (values_told l v those) x ≡ slice_get (values_behind (noted f w) (take n (drop (suc j) l))) x
+          slice_get (values_told l v those) x ≡ slice_get (values_behind (noted u f w) (take n (drop (suc j) l))) x
       step [] u f at less inside rising complete again =
-          again [] v (noted f w) (λ p k. absurd k) tt (λ u' q' f' at' low high told. complete u' q' f' at' (omega arith) high told)
+          again [] v (noted u f w) (λ p k. absurd k) tt (λ u' q' f' at' low high told. complete u' q' f' at' (omega arith) high told)
           (h ∙ sym (unwritten j u f [] w at less complete (λ p k. absurd k)))
       step (p ∷ rest) u f at less inside rising complete again = elim (cases_eq p.index j) [
         | inl is ↦
             let at_p : slice_get l p.index ≡ Some (u, f) = subst (λ (k : ℕ). slice_get l k ≡ Some (u, f)) (sym is) at in
-            again rest (noted_at (slice_get l p.index) v) (noted f w)
+            again rest (noted_at (slice_get l p.index) v) (noted u f w)
             (λ y k.
             let above : p.index < y.index = every-in (λ (b : PastEvent). p.index < b.index) rest y rising.0 k in
             (omega arith, (inside y (inr k)).1))
@@ -150,7 +153,7 @@ module _ (next : ℕ) (l : Live) (r : Rising 0 l next) (all : Bool) (t s i : ℕ
                   absurd (omega arith)
               | inr k ↦ (found.0, k, found.2)
             ])
-            (ap (λ (o : Option (ℕ × Event)). slice_get (noted_at o v) x) at_p ∙ written-alike f.written f.value v w x h)
+            (ap (λ (o : Option (ℕ × Event)). slice_get (noted_at o v) x) at_p ∙ written-alike u f.written f.value v w x h)
         | inr differs ↦
             let above_p : j < p.index = strictly j p.index (inside p (inl refl)).0 differs in
             let others : (y : PastEvent) → In y (p ∷ rest) → y.index ≢ j = λ y k. elim k [
@@ -159,7 +162,7 @@ module _ (next : ℕ) (l : Live) (r : Rising 0 l next) (all : Bool) (t s i : ℕ
                   let above : p.index < y.index = every-in (λ (b : PastEvent). p.index < b.index) rest y rising.0 k' in
                   omega arith
             ] in
-            again (p ∷ rest) v (noted f w)
+            again (p ∷ rest) v (noted u f w)
             (λ y k. (strictly j y.index (inside y k).0 (others y k), (inside y k).1)) rising
             (λ u' q' f' at' low high told. complete u' q' f' at' (omega arith) high told)
             (h ∙ sym (unwritten j u f (p ∷ rest) w at less complete others))

@@ -1,4 +1,4 @@
--- The told events of a whole past: the places of their direct causes, and the list of them.
+-- The told events of a whole past: the places of their nearest causes, and the list of them.
 use Rattle.std.proofs.Common.{◌≡◌, ◌⊎◌, inl, inr, ℕ, zero, suc, ◌+◌, ◌<◌, ◌≤◌, List, [], ◌∷◌, ◌++◌, Bool, true, false, ◌||◌, ◌==◌, cond, length, Some, take, drop, refl, sym, ◌∙◌, ap, subst, arith, append_assoc, append-nil, length-append}
 use Rattle.std.specs.Prelude.{slice_get, slice_index}
 use Rattle.std.proofs.lemmas.Bool.{cases_eq, cases_lt}
@@ -14,7 +14,7 @@ use Rattle.dependence.specs.Followers.{Follower, ListsLeads, Reached, here, alon
 use Rattle.dependence.proofs.public.Following.{follows-on}
 use Rattle.dependence.proofs.public.FollowerLaws.{direct-follows, reached-follows, reached-through-followers}
 use Rattle.dependence.proofs.public.ListPlaces.{in-at, index-in, at-one, at-within, got-here, take-all, drop-all}
-use Rattle.past.specs.Past.{DirectCause, IsInPast, ListsCauses, ListsPast, ListsTickets, Tells, carries, tickets_of}
+use Rattle.past.specs.Past.{NearestCause, IsInPast, ListsCauses, ListsPast, ListsTickets, Tells, carries, tickets_of}
 use Rattle.past.specs.declared.past.Past.{Past}
 use Rattle.past.specs.declared.past.PastEvent.{PastEvent}
 use Rattle.past.specs.internal.Blocks.{AllOpen, Down, stays, leads_on, IsOpen}
@@ -206,9 +206,9 @@ module _ (low next : ℕ) (l : Live) (t : ℕ) (last : Event) (r : Rising low l 
     on-down : (p q u s : ℕ) → DependsOn l u s → slice_get (tickets_of whole) p ≡ Some u → slice_get (tickets_of whole) q ≡ Some s → Down leads p q
     on-down p q u s on at_p at_q = reached-down u s p q ((reached-through-followers low next l u s r).0 on) at_p at_q
 
-    -- a told event to which they lead down, with no other between, is a direct cause
+    -- a told event to which they lead down, with no other between, is a nearest cause
     open-cause : (p q s : ℕ) → slice_get (tickets_of whole) q ≡ Some s → IsOpen t whole leads p q →
-        (u : ℕ) × (slice_get (tickets_of whole) p ≡ Some u) × DirectCause false l t s u
+        (u : ℕ) × (slice_get (tickets_of whole) p ≡ Some u) × NearestCause false l t s u
     open-cause p q s at_q h =
         let u : ℕ = h.0.0.0.ticket in
         let one = told-past p h.0.0 in (
@@ -240,7 +240,7 @@ module _ (low next : ℕ) (l : Live) (t : ℕ) (last : Event) (r : Rising low l 
           },
         )
 
-    cause-open : (p q s u : ℕ) → slice_get (tickets_of whole) p ≡ Some u → slice_get (tickets_of whole) q ≡ Some s → DirectCause false l t s u → IsOpen t whole leads p q
+    cause-open : (p q s u : ℕ) → slice_get (tickets_of whole) p ≡ Some u → slice_get (tickets_of whole) q ≡ Some s → NearestCause false l t s u → IsOpen t whole leads p q
     cause-open p q s u at_p at_q d = (
       (
         told-at p u at_p d.told,
@@ -430,7 +430,7 @@ module _ (low next : ℕ) (l : Live) (t : ℕ) (last : Event) (r : Rising low l 
     left_out = (tickets_of whole, w.tickets, omega arith);
   }))
 
-  -- the tickets at the places of direct causes
+  -- the tickets at the places of nearest causes
   in-tickets : (ts places : List ℕ) (u : ℕ) → In u (tickets_at ts places) → (p : ℕ) × In p places × (u ≡ slice_index ts p)
   in-tickets ts [] u i = absurd i
   in-tickets ts (q ∷ places) u i = elim i [
@@ -470,7 +470,7 @@ module _ (low next : ℕ) (l : Live) (t : ℕ) (last : Event) (r : Rising low l 
           let at = in-tickets (tickets_of whole) places u i in
           let cause = (near.exactly at.0).0 at.1 in
           let is : slice_index (tickets_of whole) at.0 ≡ cause.0 = got-here (tickets_of whole) at.0 cause.0 0 cause.1 in
-          subst (λ (v : ℕ). DirectCause false l t s v) (sym (at.2 ∙ is)) cause.2),
+          subst (λ (v : ℕ). NearestCause false l t s v) (sym (at.2 ∙ is)) cause.2),
       (λ d.
           let place = place-of low next l t last r at_last whole w false u d.told in
           let is : slice_index (tickets_of whole) place.0 ≡ u = got-here (tickets_of whole) place.0 u 0 place.1 in

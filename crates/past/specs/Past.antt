@@ -39,20 +39,20 @@ pub record Tells (l : Live) (p : PastEvent) : Type 0 where
   pub stands : slice_get l p.index ≡ Some (p.ticket, event)
   pub carries : p.carries ≡ carries event
 
--- in the past of that of ticket t, the event of ticket u is a direct cause of that of ticket s: it is another, it is
+-- in the past of that of ticket t, the event of ticket u is a nearest cause of that of ticket s: it is another, it is
 -- told, that of ticket s depends on it, and no other that is told lies between
-pub record DirectCause (all : Bool) (l : Live) (t s u : ℕ) : Type 0 where
+pub record NearestCause (all : Bool) (l : Live) (t s u : ℕ) : Type 0 where
   pub told : IsInPast all l t u
   pub other : u ≢ s
   pub cause : DependsOn l u s
   pub next : (v : ℕ) → IsInPast all l t v → DependsOn l u v → DependsOn l v s → (v ≡ u) ⊎ (v ≡ s)
 
--- exactly the tickets of its direct causes, falling
+-- exactly the tickets of its nearest causes, falling
 pub record ListsCauses (all : Bool) (l : Live) (t s : ℕ) (tickets : List ℕ) : Type 0 where
-  pub exactly : (u : ℕ) → In u tickets ↔ DirectCause all l t s u
+  pub exactly : (u : ℕ) → In u tickets ↔ NearestCause all l t s u
   pub falling : InOrder (λ (a : ℕ) (b : ℕ). b < a) tickets
 
--- exactly the told events in the past of the live one of ticket t, in order of tickets, each with its direct causes,
+-- exactly the told events in the past of the live one of ticket t, in order of tickets, each with its nearest causes,
 -- and how many are left out
 pub record ListsPast (all : Bool) (l : Live) (t : ℕ) (past : Past) : Type 0 where
   pub live : IsLive l t

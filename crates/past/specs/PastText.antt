@@ -11,6 +11,7 @@ use Rattle.runs.specs.declared.event.Event.{Event}
 use Rattle.runs.specs.declared.event.Kind.{Kind}
 use Rattle.runs.specs.declared.event.Kind.TheVariants.{Assign, Test, Turn, Meet, Open, Close, Sync}
 use Rattle.event_places.specs.EventPlaces.{line_after}
+use Rattle.past.specs.declared.held.Held.{Held}
 use Rattle.past.specs.declared.past.Past.{Past}
 use Rattle.past.specs.declared.past.PastEvent.{PastEvent}
 
@@ -68,36 +69,49 @@ deed_text system e = deed_by system e.kind e
 
 -- ---- what it read
 
--- the value of each variable, by their numbers
+-- what each variable holds, by their numbers
 abbrev pub Values : Type 0
-Values = List ℕ
+Values = List Held
+
+-- 0, written by no step
+abbrev pub unwritten : Held
+unwritten = record { bits = 0; writer = None }
 
 abbrev pub zeros : System → Values
-zeros system = replicate (length system.variables) 0
+zeros system = replicate (length system.variables) unwritten
 
--- the values after one was written
-abbrev pub written : Option ℕ → Option Word → Values → Values
-written (Some x) (Some v) values = slice_set values x v.bits
-written (Some x) None values = values
-written None v values = values
+-- the values after the step of ticket t wrote one
+abbrev pub written : ℕ → Option ℕ → Option Word → Values → Values
+written t (Some x) (Some v) values = slice_set values x (record { bits = v.bits; writer = Some t })
+written t (Some x) None values = values
+written t None v values = values
 
-abbrev pub noted : Event → Values → Values
-noted e values = written e.written e.value values
+abbrev pub noted : ℕ → Event → Values → Values
+noted t e values = written t e.written e.value values
 
-abbrev pub held_text : Option ℕ → List ℕ
+-- the step that wrote a value, nothing where none did
+abbrev pub writer_text : Option ℕ → List ℕ
+writer_text None = []
+writer_text (Some t) = codes " of step " ++ decimal t
+
+abbrev pub held_text : Option Held → List ℕ
 held_text None = codes " ?"
-held_text (Some bits) = codes " " ++ decimal bits
+held_text (Some held) = codes " " ++ decimal held.bits ++ writer_text held.writer
 
--- a variable, and its value
+-- a variable, its value, and the step that wrote it
 abbrev pub read_text : System → Values → ℕ → List ℕ
-read_text system values x = variable_text system (Some x) ++ held_text (slice_get values x)
+read_text system values x = variable_text system (Some x) ++ codes " =" ++ held_text (slice_get values x)
+
+abbrev pub more_read_text : System → Values → ℕ → List ℕ
+more_read_text system values x = codes " and" ++ read_text system values x
 
 -- nothing where it read none
 abbrev pub reads_text : System → Values → List ℕ → List ℕ
 reads_text system values [] = []
-reads_text system values (x ∷ xs) = codes ", reads" ++ flat_map (read_text system values) (x ∷ xs)
+reads_text system values (x ∷ xs) =
+    codes ", reads" ++ read_text system values x ++ flat_map (more_read_text system values) xs
 
--- ---- its direct causes, from tickets that fall
+-- ---- its nearest causes, from tickets that fall
 
 abbrev pub ticket_text : ℕ → List ℕ
 ticket_text t = codes " " ++ decimal t
@@ -113,7 +127,8 @@ abbrev pub line_text : Option ℕ → List ℕ
 line_text None = codes " environment:"
 line_text (Some line) = codes " line " ++ decimal line ++ codes ":"
 
--- a line: the ticket, the line in the source, what it did, what it read with the values then, and its direct causes
+-- a line: the ticket, the line in the source, what it did, what it read with the values then and their writers, and its
+-- nearest causes
 abbrev pub event_line : System → Live → Event → PastEvent → Values → List ℕ
 event_line system live e told values =
     codes "  " ++ decimal told.ticket ++ line_text (line_after (events live) system (acting e)) ++ deed_text system e
@@ -126,7 +141,7 @@ line_at system live (Some x) told values = event_line system live x.1 told value
 
 abbrev pub noted_at : Option (ℕ × Event) → Values → Values
 noted_at None values = values
-noted_at (Some x) values = noted x.1 values
+noted_at (Some x) values = noted x.0 x.1 values
 
 -- those that are told have a line each, with the values behind those before it (`Laws.antt`: as they were read)
 abbrev pub past_lines : System → Live → List PastEvent → Values → List ℕ

@@ -1,4 +1,4 @@
-// The direct causes of the told events, for 64 possible causes at a time: a sweep up from them over the events of the
+// The nearest causes of the told events, for 64 possible causes at a time: a sweep up from them over the events of the
 // past marks which of them each event is or leads down to, and which of these have another that is told behind them. It
 // ends where no event hands one of them on.
 ghost use Rattle.std.specs.Prelude.{◌≡◌, ◌<◌, ◌≤◌, ◌+◌, ◌⊎◌, ◌↔◌, ℕ, [], List, cond, length, false, true, Some, slice_get, IfOk, OnOk};
@@ -24,7 +24,7 @@ pub(crate) struct Mark {
     pub behind: u64,
 }
 
-/// To the empty list beside each event that is told, adds the places of its direct causes, the last first. With each
+/// To the empty list beside each event that is told, adds the places of its nearest causes, the last first. With each
 /// event are the places of those that it follows.
 ///
 /// Each block of 64 events takes a sweep that ends where none of them is handed on: in all about one where causes are
@@ -91,7 +91,7 @@ fn raise(lasts: &mut [usize], places: &[usize], bound: usize)
     }
 }
 
-/// Adds the direct causes that are in the block from `first` to before `end`.
+/// Adds the nearest causes that are in the block from `first` to before `end`.
 fn pass_block(
     whole: &[PastEvent],
     leads: &[Items<usize>],
@@ -120,8 +120,8 @@ fn pass_block(
     while place < until {
         let is_told = is_told(&whole[place], asked);
         let below = below_at(whole, leads, asked, marks, place, first, end);
-        let direct = without(below.reached, below.behind);
-        add_at(near, place, is_told, direct, first, end)?;
+        let nearest = without(below.reached, below.behind);
+        add_at(near, place, is_told, nearest, first, end)?;
         let mark = mark_of(below, is_told, place, first, end);
         until = handed_until(until, mark, lasts[place]);
         marks[place] = mark;

@@ -17,7 +17,7 @@ pub struct PastEvent {
     pub index: usize,
     /// whether it carried a value
     pub carries: bool,
-    /// the tickets of its direct causes, falling: of the events that are told on which it depends, with no other that
+    /// the tickets of its nearest causes, falling: of the events that are told on which it depends, with no other that
     /// is told between
     pub causes: Items<u64>,
 }
@@ -32,10 +32,10 @@ pub struct Past {
 }
 
 /// Exactly the live events on which the one of this ticket depends, itself among them, in order of tickets, each with
-/// its direct causes; where not `all` are asked for, of them those that carried a value, and the one of this ticket.
+/// its nearest causes; where not `all` are asked for, of them those that carried a value, and the one of this ticket.
 /// `None` where no live event has the ticket. It takes one sweep down over the live events, which looks only at the
 /// past; where not `all` are asked for, then one up over the past for 64 of them at a time, which ends where none of
-/// these may be a direct cause any more. It is an error if there is no memory.
+/// these may be a nearest cause any more. It is an error if there is no memory.
 pub fn past_of_event(
     alloc: Global,
     live: &Live,

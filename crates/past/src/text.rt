@@ -1,9 +1,10 @@
 // The past of an event as text, a line for each event.
-ghost use Rattle.std.specs.Prelude.{◌≡◌, ◌++◌, OnOk, IfOk, slice_get, slice_set, reverse};
+ghost use Rattle.std.specs.Prelude.{◌≡◌, ◌++◌, OnOk, slice_get, reverse};
 ghost use Rattle.std.specs.List.{flat_map};
 ghost use Rattle.std.specs.Option.{option_copied};
 ghost use Rattle.past.specs.PastText as model;
 
+use crate::held::{Held, note, zeros};
 use crate::past::{Past, PastEvent};
 use dependence::Live;
 use event_places::line_after;
@@ -14,9 +15,9 @@ use system::{QualifiedName, System};
 use text_parts::{Piece, add_pieces, add_words};
 use value::Value;
 
-/// Adds a line for each of the events, which are live: its ticket, its line in the source, what it did, the values of
-/// the variables that it read, and the tickets of its direct causes. Then a line for those that are left out, if there
-/// are any. Without memory a part of it may be there.
+/// Adds a line for each of the events, which are live: its ticket, its line in the source, what it did, the variables
+/// that it read, each with its value then and the step that wrote that, and the tickets of its nearest causes. Then a
+/// line for those that are left out, if there are any. Without memory a part of it may be there.
 pub fn write_past(
     alloc: Global,
     out: &mut Vec<u8>,
@@ -57,16 +58,16 @@ fn write_next(
     checked: &Checked,
     live: &Live,
     told: &PastEvent,
-    values: &mut [u64],
+    values: &mut [Held],
 ) -> Result<(), AllocError>
     ensures text { OnOk result (out.new.items ≡ out.old.items
         ++ model.line_at checked.now live.now.live (slice_get live.now.live told.now.index) told.now values.old) }
     ensures values { OnOk result (values.new ≡ model.noted_at (slice_get live.now.live told.now.index) values.old) }
 {
     match live.pair_at(told.index as u64) {
-        Some((_, event)) => {
+        Some((ticket, event)) => {
             write_event(out, checked, live, event, told, values)?;
-            note(values, event);
+            note(values, ticket, event);
             Ok(())
         }
         None => Ok(()),
@@ -95,33 +96,6 @@ fn write_more_left_out(out: &mut Vec<u8>, count: usize) -> Result<(), AllocError
     add_pieces(out, &[number, words])
 }
 
-/// Every variable at 0.
-fn zeros(alloc: Global, system: &System) -> Result<Vec<u64>, AllocError>
-    ensures { IfOk result (λ values. values.items ≡ model.zeros system.now) }
-{
-    Ok(vec![in alloc; 0; system.variables.len()]?)
-}
-
-/// Keeps what the event wrote.
-fn note(values: &mut [u64], event: &Event)
-    ensures { values.new ≡ model.noted event.now values.old }
-{
-    if let (Some(variable), Some(value)) = (event.written, event.value) {
-        keep(values, variable, value.bits());
-    }
-}
-
-/// Keeps the value of a variable.
-#[tactic(auto, using(crate::proofs::Values::past_end, crate::proofs::Values::not_within))]
-fn keep(values: &mut [u64], variable: u32, bits: u64)
-    ensures { values.new ≡ slice_set values.old variable bits }
-{
-    let index = variable as usize;
-    if index < values.len() {
-        values[index] = bits;
-    }
-}
-
 /// Adds the line of an event.
 fn write_event(
     out: &mut Vec<u8>,
@@ -129,7 +103,7 @@ fn write_event(
     live: &Live,
     event: &Event,
     told: &PastEvent,
-    values: &[u64],
+    values: &[Held],
 ) -> Result<(), AllocError>
     ensures { OnOk result (out.new.items ≡ out.old.items
         ++ model.event_line checked.now live.now.live event.now told.now values.now) }
@@ -285,65 +259,96 @@ fn write_arm(out: &mut Vec<u8>, arm: Option<u32>) -> Result<(), AllocError>
     }
 }
 
-/// Adds the variables that the event read, with their values then, if it read any.
+/// Adds the variables that the event read, if it read any, with what each held then.
 fn write_reads(
     out: &mut Vec<u8>,
     system: &System,
     variables: &[u32],
-    values: &[u64],
+    values: &[Held],
 ) -> Result<(), AllocError>
     ensures { OnOk result (out.new.items ≡ out.old.items
         ++ model.reads_text system.now values.now variables.now) }
 {
-    if variables.is_empty() {
-        return Ok(());
+    match variables.split_first() {
+        Some((first, more)) => {
+            add_words(out, b", reads")?;
+            write_read(out, system, *first, values)?;
+            write_more_reads(out, system, more, values)
+        }
+        None => Ok(()),
     }
-    add_words(out, b", reads")?;
-    write_each_read(out, system, variables, values)
 }
 
-/// Adds each of the variables, with its value.
-fn write_each_read(
+/// Adds each further variable that it read, with what it held.
+fn write_more_reads(
     out: &mut Vec<u8>,
     system: &System,
     variables: &[u32],
-    values: &[u64],
+    values: &[Held],
 ) -> Result<(), AllocError>
     ensures { OnOk result (out.new.items ≡ out.old.items
-        ++ flat_map (model.read_text system.now values.now) variables.now) }
+        ++ flat_map (model.more_read_text system.now values.now) variables.now) }
 {
     for variable in variables {
-        write_read(out, system, *variable, values)?;
+        write_more_read(out, system, *variable, values)?;
     }
     Ok(())
 }
 
-/// Adds a variable, with its value.
+/// Adds a further variable, with what it held.
+fn write_more_read(
+    out: &mut Vec<u8>,
+    system: &System,
+    variable: u32,
+    values: &[Held],
+) -> Result<(), AllocError>
+    ensures { OnOk result (out.new.items ≡ out.old.items
+        ++ model.more_read_text system.now values.now variable) }
+{
+    add_words(out, b" and")?;
+    write_read(out, system, variable, values)
+}
+
+/// Adds a variable, with what it held.
 fn write_read(
     out: &mut Vec<u8>,
     system: &System,
     variable: u32,
-    values: &[u64],
+    values: &[Held],
 ) -> Result<(), AllocError>
     ensures { OnOk result (out.new.items ≡ out.old.items
         ++ model.read_text system.now values.now variable) }
 {
     write_variable(out, system, Some(variable))?;
+    add_words(out, b" =")?;
     write_held(out, values, variable)
 }
 
-/// Adds a space and the value of a variable.
-fn write_held(out: &mut Vec<u8>, values: &[u64], variable: u32) -> Result<(), AllocError>
+/// Adds a space, the value of a variable, and the step that wrote it.
+fn write_held(out: &mut Vec<u8>, values: &[Held], variable: u32) -> Result<(), AllocError>
     ensures { OnOk result (out.new.items ≡ out.old.items
         ++ model.held_text (slice_get values.now variable)) }
 {
     match values.get(variable as usize) {
-        Some(bits) => add_pieces(out, &[Piece::Words(b" "), Piece::Number(*bits)]),
+        Some(held) => {
+            add_pieces(out, &[Piece::Words(b" "), Piece::Number(held.bits)])?;
+            write_writer(out, held.writer)
+        }
         None => add_words(out, b" ?"),
     }
 }
 
-/// Adds the tickets of its direct causes, the least first, if there are any.
+/// Adds the step that wrote a value, if one did.
+fn write_writer(out: &mut Vec<u8>, writer: Option<u64>) -> Result<(), AllocError>
+    ensures { OnOk result (out.new.items ≡ out.old.items ++ model.writer_text writer) }
+{
+    match writer {
+        Some(ticket) => add_pieces(out, &[Piece::Words(b" of step "), Piece::Number(ticket)]),
+        None => Ok(()),
+    }
+}
+
+/// Adds the tickets of its nearest causes, the least first, if there are any.
 fn write_causes(out: &mut Vec<u8>, tickets: &[u64]) -> Result<(), AllocError>
     ensures { OnOk result (out.new.items ≡ out.old.items ++ model.causes_text tickets.now) }
 {

@@ -1,5 +1,5 @@
 // Of a whole past the events that are told where not all are: those that carried a value, and the one that is asked
-// for. Each has its direct causes among them.
+// for. Each has its nearest causes among them.
 ghost use Rattle.std.specs.Prelude.{◌≡◌, ◌<◌, [], ℕ, List, length, false, Some, slice_get, IfOk, OnOk};
 ghost use Rattle.syntax.specs.Lists.{In};
 ghost use Rattle.runs.specs.InOrder.{InOrder};
@@ -110,7 +110,7 @@ fn place_of(tickets: &[u64], ticket: u64) -> usize
     }
 }
 
-/// The told events, each with its direct causes, and how many are not told.
+/// The told events, each with its nearest causes, and how many are not told.
 fn list_told(
     alloc: Global,
     live: &Live,

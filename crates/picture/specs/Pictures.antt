@@ -1,5 +1,5 @@
 -- What comes of a picture that is asked for.
-use Rattle.std.specs.Prelude.{◌≡◌, ◌⊎◌, ℕ, List, [], ◌++◌, Option, None, Some, Result, Ok, Err, Vec, codes, length}
+use Rattle.std.specs.Prelude.{◌≡◌, ◌==◌, ◌⊎◌, ℕ, List, [], ◌++◌, Option, None, Some, Result, Ok, Err, Vec, codes, cond, length}
 use Rattle.std.specs.Fmt.{decimal}
 use Rattle.std.specs.Global.{Global}
 use Rattle.std.specs.List.{All}
@@ -67,11 +67,16 @@ IsDrawn m f Drawing.Page text = IsPage m f text
 IsDrawn m f Drawing.Data text = AreData m f text
 IsDrawn m f other text = Unit {0}
 
+-- the word behind a number of steps
+abbrev pub steps_word : ℕ → List ℕ
+steps_word count = cond (count == 1) (codes " step") (codes " steps")
+
 -- what is said of the step that is asked for, where a trace of so many steps does not have it
 abbrev pub missing_text : Option ℕ → ℕ → List ℕ
 missing_text None count = []
 missing_text (Some step) count =
-    codes "the trace has no step " ++ decimal step ++ codes ": it has " ++ decimal count ++ codes " steps\n"
+    codes "the trace has no step " ++ decimal step ++ codes ": it has " ++ decimal count ++ steps_word count
+    ++ codes "\n"
 
 -- these words say so of one that is asked for
 abbrev pub TellsMissing : Live → Option ℕ → List ℕ → Type 0

@@ -178,10 +178,18 @@ fn step_missing(alloc: Global, step: u64, count: usize) -> Result<Vec<u8>, Alloc
             Piece::Number(step),
             Piece::Words(b": it has "),
             Piece::Number(count as u64),
-            Piece::Words(b" steps\n"),
+            Piece::Words(steps_word(count)),
+            Piece::Words(b"\n"),
         ],
     )?;
     Ok(words)
+}
+
+/// The word behind a number of steps.
+fn steps_word(count: usize) -> &'static [u8]
+    ensures { result.now ≡ model.steps_word count }
+{
+    if count == 1 { b" step" } else { b" steps" }
 }
 
 /// The page.

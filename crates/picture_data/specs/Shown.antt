@@ -1,5 +1,5 @@
 -- What the picture of a run shows.
-use Rattle.std.specs.Prelude.{◌≡◌, ℕ, List, [], ◌∷◌, Option, None, Some}
+use Rattle.std.specs.Prelude.{◌≡◌, ◌↔◌, ℕ, List, [], ◌∷◌, IsTrue, Option, None, Some}
 use Rattle.syntax.specs.Lists.{Every}
 use Rattle.runs.specs.Live.{Live, events}
 use Rattle.runs.specs.Moves.{Place}
@@ -12,6 +12,7 @@ use Rattle.run_depths.specs.Races.{AreRaces}
 use Rattle.run_depths.specs.Since.{AreSince}
 use Rattle.typed.specs.declared.tree.Procedure.{Procedure}
 use Rattle.machine.specs.AtMachine.{AtMachine, object}
+use Rattle.waiting.specs.Lacking.{LacksInput}
 use Rattle.waiting.specs.Progress.{StandsLike}
 use Rattle.waiting.specs.Told.{TellsWaits}
 use Rattle.waiting.specs.declared.waiting.Waiting.{Waiting}
@@ -77,12 +78,14 @@ pub record ShowsWaits (m : AtMachine) (lanes : List Lane) (uses : List ChannelUs
       (places_of_sides (seen_of m lanes uses waiting end.ready) [] waiting.partners.items 0 waiting.actions)
       waiting.ring.items
 
--- the events that can be taken and where each stands, how the run stands, and who waits
+-- the events that can be taken and where each stands, how the run stands, whether it lacks nothing but input, and who
+-- waits
 pub record ShowsEnd (m : AtMachine) (lanes : List Lane) (uses : List ChannelUse) (depths : List ℕ) (end : End) :
     Type 0 where
   pub ready : (S : State) × Reaches (object m) S × ReadyList S end.ready
   pub actions : EachStandsIn m lanes end.ready end.ready_actions.items
   pub progress : (S : State) × Reaches (object m) S × StandsLike S end.progress
+  pub lacks_input : (S : State) × Reaches (object m) S × (IsTrue end.lacks_input ↔ LacksInput m S)
   pub waits : ShowsWaits m lanes uses depths end
 
 -- all of it, where the system was elaborated from these procedures

@@ -13,7 +13,7 @@ use crate::partners::Now;
 use crate::places::{Place, add_ready_places, waiting_places};
 use machine::Machine;
 use picture_lanes::{ChannelUse, LaneTable};
-use run_depths::greatest_depths;
+use run_depths::held_places;
 use runs::Event;
 use std::alloc::{AllocError, Global};
 use syntax::Items;
@@ -24,6 +24,8 @@ use waiting::{Progress, Waiting, who_waits};
 pub struct End {
     /// whether the run goes on, is done or is stuck
     pub progress: Progress,
+    /// whether it is stuck for want of input alone
+    pub lacks_input: bool,
     /// the events that can be taken, in order
     pub ready: Items<Event>,
     /// where each of these stands
@@ -52,7 +54,7 @@ pub(crate) fn end_of(
     let ready_actions = all_actions(alloc, machine, table, events)?;
     let actions = waiting.actions.as_slice();
     let live = machine.live_events();
-    let most = greatest_depths(alloc, depths)?;
+    let held = held_places(alloc, live, depths)?;
     let now = Now {
         table,
         uses,
@@ -60,7 +62,7 @@ pub(crate) fn end_of(
         ready: events,
         live,
         depths,
-        most: most.as_slice(),
+        held: &held,
     };
     let shown = waiting_places(alloc, machine, &now, &waiting)?;
     let ring_sides = waiting.ring.as_slice();
@@ -70,6 +72,7 @@ pub(crate) fn end_of(
     add_ready_places(alloc, machine, &now, &mut places)?;
     Ok(End {
         progress: waiting.progress,
+        lacks_input: waiting.lacks_input(machine),
         ready,
         ready_actions,
         places,

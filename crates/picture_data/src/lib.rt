@@ -18,3 +18,4 @@ pub use places::{Place, Role, Wanted};
 pub use prefix::prefix_length;
 pub use run_depths::Race;
 pub use steps::Steps;
+pub use waiting::Progress;

@@ -11,28 +11,29 @@ use address::{Address, Entry};
 use dependence::Live;
 use local_actions::LocalAction;
 use picture_lanes::{ChannelUse, LaneTable, Way};
+use run_depths::HeldPlaces;
 use runs::Event;
 use std::alloc::{AllocError, Global};
 use waiting::Partner;
 
 /// What stands now: the lanes and the uses of channels, the actions that wait and the events that can be taken, behind
-/// live events of these depths, of which these are the greatest up to each.
+/// live events of these depths, whose places are held.
 #[derive(Clone, Copy)]
-pub(crate) struct Now<'a> {
+pub(crate) struct Now<'a, 'b> {
     pub(crate) table: &'a LaneTable,
     pub(crate) uses: &'a [ChannelUse],
     pub(crate) actions: &'a [LocalAction],
     pub(crate) ready: &'a [Event],
     pub(crate) live: &'a Live,
     pub(crate) depths: &'a [usize],
-    pub(crate) most: &'a [usize],
+    pub(crate) held: &'a HeldPlaces<'b>,
 }
 
 /// The lanes for which an action in the lane waits: of what stands at the place behind which its partner is, and where
 /// that is nothing, of all that could be its partner. They ascend.
 pub(crate) fn wanted_lanes(
     alloc: Global,
-    now: &Now<'_>,
+    now: &Now<'_, '_>,
     partner: Option<&Partner>,
     own: Option<usize>,
     channel: u32,
@@ -59,7 +60,7 @@ fn is_none(lanes: &[usize]) -> bool
 /// The lanes of what stands at the place behind which the partner is, if it is behind one, or below it.
 fn lanes_behind(
     alloc: Global,
-    now: &Now<'_>,
+    now: &Now<'_, '_>,
     partner: Option<&Partner>,
 ) -> Result<Vec<usize>, AllocError>
     ensures { IfOk result (λ lanes.
@@ -75,7 +76,7 @@ fn lanes_behind(
 }
 
 /// The lanes of what stands at the place or below it.
-fn lanes_below(alloc: Global, now: &Now<'_>, place: &Address) -> Result<Vec<usize>, AllocError>
+fn lanes_below(alloc: Global, now: &Now<'_, '_>, place: &Address) -> Result<Vec<usize>, AllocError>
     ensures { IfOk result (λ lanes. lanes.items ≡ model.lanes_below (around_in now.now) place.now) }
 {
     let mut lanes = Vec::new(alloc);
@@ -87,7 +88,7 @@ fn lanes_below(alloc: Global, now: &Now<'_>, place: &Address) -> Result<Vec<usiz
 /// Adds the lanes of the actions that wait at the place or below it.
 fn add_actions_below(
     alloc: Global,
-    now: &Now<'_>,
+    now: &Now<'_, '_>,
     place: &Address,
     lanes: &mut Vec<usize>,
 ) -> Result<(), AllocError>
@@ -103,7 +104,7 @@ fn add_actions_below(
 /// Adds the lanes of the events that can be taken at the place or below it.
 fn add_ready_below(
     alloc: Global,
-    now: &Now<'_>,
+    now: &Now<'_, '_>,
     place: &Address,
     lanes: &mut Vec<usize>,
 ) -> Result<(), AllocError>
@@ -120,7 +121,7 @@ fn add_ready_below(
 /// Adds the lane of the second place of an event, if it has one, and that is the place or below it.
 fn add_second_below(
     alloc: Global,
-    now: &Now<'_>,
+    now: &Now<'_, '_>,
     place: &Address,
     event: &Event,
     lanes: &mut Vec<usize>,
@@ -140,7 +141,7 @@ fn add_second_below(
 /// Adds the lane of the other place, if that is the place or below it.
 fn add_under(
     alloc: Global,
-    now: &Now<'_>,
+    now: &Now<'_, '_>,
     place: &Address,
     other: &Address,
     lanes: &mut Vec<usize>,
@@ -185,7 +186,7 @@ fn is_same_entry(one: Entry, other: Entry) -> bool
 
 /// Adds the lanes of the uses of the channel that could be its partner, but for its own lane.
 fn add_uses(
-    now: &Now<'_>,
+    now: &Now<'_, '_>,
     own: Option<usize>,
     channel: u32,
     role: Role,
@@ -202,7 +203,7 @@ fn add_uses(
 
 /// Adds the lane of a use, if it is one of the channel that could be its partner.
 fn add_use(
-    now: &Now<'_>,
+    now: &Now<'_, '_>,
     own: Option<usize>,
     channel: u32,
     role: Role,

@@ -73,7 +73,7 @@ pub(crate) struct Standings {
 pub(crate) fn waiting_places(
     alloc: Global,
     machine: &Machine,
-    now: &Now<'_>,
+    now: &Now<'_, '_>,
     waiting: &Waiting,
 ) -> Result<Standings, AllocError>
     requires { KnowsDepths now.now }
@@ -116,7 +116,7 @@ fn partner_at<'a>(partners: &'a [Partner], index: usize) -> Option<&'a Partner>
 fn add_action(
     alloc: Global,
     machine: &Machine,
-    now: &Now<'_>,
+    now: &Now<'_, '_>,
     action: &LocalAction,
     partner: Option<&Partner>,
     places: &mut Vec<Place>,
@@ -141,7 +141,7 @@ fn add_action(
 fn place_for(
     alloc: Global,
     machine: &Machine,
-    now: &Now<'_>,
+    now: &Now<'_, '_>,
     action: &LocalAction,
     places: &mut Vec<Place>,
 ) -> Result<Place, AllocError>
@@ -165,7 +165,7 @@ fn place_for(
 fn new_place(
     alloc: Global,
     machine: &Machine,
-    now: &Now<'_>,
+    now: &Now<'_, '_>,
     action: &LocalAction,
 ) -> Result<Place, AllocError>
     requires { KnowsDepths now.now }
@@ -183,7 +183,7 @@ fn new_place(
 fn place_of(
     alloc: Global,
     machine: &Machine,
-    now: &Now<'_>,
+    now: &Now<'_, '_>,
     place: &Address,
     role: Role,
     wanted: Vec<Wanted>,
@@ -196,7 +196,7 @@ fn place_of(
 {
     let lane = lane_at(alloc, now.table, place)?;
     let line = line_of(machine, place);
-    let since = since_now(now.live, now.depths, now.most, place);
+    let since = since_now(now.held, place);
     let place = place.copy(alloc)?;
     Ok(Place {
         lane,
@@ -212,7 +212,7 @@ fn place_of(
 /// Adds what the action waits on to its place.
 fn add_wanted(
     alloc: Global,
-    now: &Now<'_>,
+    now: &Now<'_, '_>,
     offered: &LocalAction,
     partner: Option<&Partner>,
     place: &mut Place,
@@ -280,7 +280,7 @@ fn action_channel(action: &ActionKind) -> Option<u32>
 pub(crate) fn add_ready_places(
     alloc: Global,
     machine: &Machine,
-    now: &Now<'_>,
+    now: &Now<'_, '_>,
     places: &mut Vec<Place>,
 ) -> Result<(), AllocError>
     requires { KnowsDepths now.now }
@@ -297,7 +297,7 @@ pub(crate) fn add_ready_places(
 fn add_event_places(
     alloc: Global,
     machine: &Machine,
-    now: &Now<'_>,
+    now: &Now<'_, '_>,
     index: usize,
     event: &Event,
     places: &mut Vec<Place>,
@@ -335,7 +335,7 @@ fn add_event_places(
 fn add_ready_place(
     alloc: Global,
     machine: &Machine,
-    now: &Now<'_>,
+    now: &Now<'_, '_>,
     index: usize,
     place: &Address,
     role: Role,

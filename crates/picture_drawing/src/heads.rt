@@ -5,7 +5,7 @@ use crate::figure::Figure;
 use crate::ink::{Dash, Ink};
 use crate::labels::{add_cut, add_number, group_title};
 use crate::sheet::{Anchor, Area, LETTER, Point, Sheet, Style};
-use picture_data::{Lane, LaneKind};
+use picture_data::{End, Lane, LaneKind, Progress};
 use std::alloc::{AllocError, Global};
 
 /// Words over the columns.
@@ -150,8 +150,8 @@ pub(crate) fn draw_title(
     sheet.add("<text x=\"8\" y=\"11\" font-size=\"9\" fill=\"#5d6872\">")?;
     sheet.add_text(trace)?;
     sheet.add(": ")?;
-    sheet.add_number(figure.scene.live.len() as u64)?;
-    sheet.add(" events, ")?;
+    add_counted(sheet, figure.scene.live.len() as u64, " event")?;
+    sheet.add(", ")?;
     add_state(sheet, figure)?;
     if let Some(cones) = cones {
         add_cones(sheet, cones)?;
@@ -166,10 +166,25 @@ fn add_state(sheet: &mut Sheet, figure: &Figure<'_>) -> Result<(), AllocError> {
         return sheet.add("deadlock");
     }
     if end.ready.is_empty() {
-        return sheet.add("no step left");
+        return sheet.add(standing(end));
     }
     sheet.add_number(end.ready.len() as u64)?;
     sheet.add(" ready")
+}
+
+/// How a run stands that goes on no more, in the words of `waiting`.
+fn standing(end: &End) -> &'static str {
+    match end.progress {
+        Progress::GoesOn => "goes on",
+        Progress::Done => "done",
+        Progress::Stuck => {
+            if end.lacks_input {
+                "out of input"
+            } else {
+                "stuck"
+            }
+        }
+    }
 }
 
 /// Adds what is marked.
@@ -177,8 +192,23 @@ fn add_cones(sheet: &mut Sheet, cones: &Cones) -> Result<(), AllocError> {
     sheet.add("; step ")?;
     sheet.add_number(cones.ticket)?;
     sheet.add(", its <tspan fill=\"#0067b1\" font-weight=\"bold\">")?;
-    sheet.add_number((cones.causes.len() as u64).saturating_sub(1))?;
-    sheet.add(" causes</tspan> and <tspan fill=\"#c24a00\" font-weight=\"bold\">")?;
-    sheet.add_number((cones.consequences.len() as u64).saturating_sub(1))?;
-    sheet.add(" consequences</tspan>")
+    add_counted(
+        sheet,
+        (cones.causes.len() as u64).saturating_sub(1),
+        " cause",
+    )?;
+    sheet.add("</tspan> and <tspan fill=\"#c24a00\" font-weight=\"bold\">")?;
+    add_counted(
+        sheet,
+        (cones.consequences.len() as u64).saturating_sub(1),
+        " consequence",
+    )?;
+    sheet.add("</tspan>")
+}
+
+/// Adds how many there are of what this word is for.
+fn add_counted(sheet: &mut Sheet, count: u64, word: &str) -> Result<(), AllocError> {
+    sheet.add_number(count)?;
+    sheet.add(word)?;
+    sheet.add(if count == 1 { "" } else { "s" })
 }

@@ -170,19 +170,13 @@ pub(crate) fn group_title(
     }
 }
 
-/// Adds the name of the procedure of a block, and its number.
+/// Adds the name of a block as the outline has it: what stands before its names, and its procedure.
 fn add_block_title(scene: &Scene<'_>, block: usize, out: &mut Vec<u8>) -> Result<(), AllocError> {
     let Some(instance) = scene.picture.instances.get(block) else {
         return Ok(());
     };
-    out.extend_from_slice(instance.procedure.as_slice())?;
-    match instance.prefix.as_slice().split_last() {
-        Some((_, number)) => {
-            out.extend_from_slice(b" ")?;
-            out.extend_from_slice(number)
-        }
-        None => Ok(()),
-    }
+    out.extend_from_slice(instance.prefix.as_slice())?;
+    out.extend_from_slice(instance.procedure.as_slice())
 }
 
 /// The channel of the port that the lane is at.

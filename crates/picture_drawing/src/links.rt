@@ -41,7 +41,7 @@ pub(crate) fn draw_links(
     Ok(())
 }
 
-/// Finds the events that are drawn and follow the one at an index, directly or behind such as are left out.
+/// Finds the events that are drawn and follow the one at an index, by itself or behind such as are left out.
 fn find_followers(
     figure: &Figure<'_>,
     index: usize,
@@ -158,7 +158,7 @@ fn made_joint(
     }
 }
 
-/// Draws what joins two events, but for an order that only a shared variable makes between one and its direct follower.
+/// Draws what joins two events, but for an order that only a shared variable makes between one and its follower.
 fn draw_link(
     sheet: &mut Sheet,
     figure: &Figure<'_>,

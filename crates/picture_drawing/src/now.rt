@@ -332,18 +332,27 @@ fn tell_place(
     if place.role == Role::Held {
         text.extend_from_slice(b"held ")?;
     }
-    let mut none_left = true;
+    let mut none_comes = true;
     for (index, wanted) in place.wanted.as_slice().iter().enumerate() {
-        none_left = none_left && !wanted.can_come;
+        none_comes = none_comes && !wanted.can_come;
         if index > 0 {
             text.extend_from_slice(b" | ")?;
         }
         add_channel(figure, wanted.channel, whole, text)?;
     }
-    if none_left && !place.wanted.is_empty() {
-        text.extend_from_slice(b" (none left)")?;
+    if none_comes && !place.wanted.is_empty() {
+        text.extend_from_slice(never(place.role))?;
     }
     Ok(())
+}
+
+/// What is said of a place whose partner never comes.
+fn never(role: Role) -> &'static [u8] {
+    if role == Role::Held {
+        b" (for ever)"
+    } else {
+        b" (none comes)"
+    }
 }
 
 /// Adds the name of a channel, or its beginning.

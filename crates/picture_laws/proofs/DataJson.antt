@@ -165,7 +165,7 @@ run-json system l p = (
       (
         named (codes "ready") (list_text (ready_rows system p.end.ready_actions.items 0 p.end.ready))
             (list-json (ready_rows system p.end.ready_actions.items 0 p.end.ready) (all-ready system p.end.ready_actions.items 0 p.end.ready)),
-        (named (codes "places") (list_text (map place_row p.end.places.items)) (listed place_row p.end.places.items place), (named (codes "rings") (rings_text p.end.ring.items) (rings p.end.ring.items), (named (codes "progress") (string_text (progress_text p.end.progress)) (string-json (progress_text p.end.progress)), tt))),
+        (named (codes "places") (list_text (map place_row p.end.places.items)) (listed place_row p.end.places.items place), (named (codes "rings") (rings_text p.end.ring.items) (rings p.end.ring.items), (named (codes "progress") (string_text (progress_text p.end.progress p.end.lacks_input)) (string-json (progress_text p.end.progress p.end.lacks_input)), tt))),
       ),
     ),
   ),

@@ -1,4 +1,5 @@
 mod DataJson
+mod InShownLanes
 mod OneOrder
 mod OnePage
 mod OnePicture

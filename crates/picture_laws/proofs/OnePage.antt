@@ -1,5 +1,5 @@
 -- Equal runs in the canonical order have one page.
-use Rattle.std.proofs.Common.{◌≡◌, ℕ, suc, ◌+◌, List, [], ◌∷◌, ◌++◌, length, map, refl, sym, ◌∙◌, ap, subst}
+use Rattle.std.proofs.Common.{◌≡◌, ℕ, suc, ◌+◌, Bool, List, [], ◌∷◌, ◌++◌, length, map, refl, sym, ◌∙◌, ap, subst}
 use Rattle.std.specs.Prelude.{codes, slice_get}
 use Rattle.std.specs.Fmt.{decimal}
 use Rattle.address.specs.Text.{text_of}
@@ -14,6 +14,7 @@ use Rattle.depth_laws.specs.Laws.{AreEqualRuns}
 use Rattle.typed.specs.declared.tree.Procedure.{Procedure}
 use Rattle.machine.specs.AtMachine.{AtMachine}
 use Rattle.run_depths.specs.declared.races.Race.{Race}
+use Rattle.waiting.specs.Told.{OneRing}
 use Rattle.waiting.specs.Waits.{OneList}
 use Rattle.picture_lanes.specs.declared.lane.Feed.{Feed}
 use Rattle.picture_lanes.specs.declared.lane.Instance.{Instance}
@@ -128,57 +129,58 @@ same-system system p q one =
     ∙ ap (λ (fs : List Feed). made q.instances.items q.lanes.items fs) one.ground.feeds
 
 -- how the run stands, in one text
-abbrev ends : System → Live → List (List ℕ) → List Race → List Actions → List Event → List (List ℕ) → List ℕ → Progress → List (List ℕ)
-ends system l rows races actions ready places ring progress =
+abbrev ends : System → Live → List (List ℕ) → List Race → List Actions → List Event → List (List ℕ) → List ℕ → Progress → Bool → List (List ℕ)
+ends system l rows races actions ready places ring progress lacks =
     member_text (codes "tickets") (tickets_text l)
     ∷ member_text (codes "events") (list_text rows)
     ∷ member_text (codes "races") (list_text (map race_text races))
     ∷ member_text (codes "ready") (list_text (ready_rows system actions 0 ready))
     ∷ member_text (codes "places") (list_text places)
     ∷ member_text (codes "rings") (rings_text ring)
-    ∷ member_text (codes "progress") (string_text (progress_text progress))
+    ∷ member_text (codes "progress") (string_text (progress_text progress lacks))
     ∷ []
 
-same-run : (system : System) (l : Live) (p q : Picture) → IsOnePicture p q → p.end.ring.items ≡ q.end.ring.items →
+same-run : (system : System) (l : Live) (p q : Picture) → IsOnePicture p q →
     run_members system l p ≡ run_members system l q
-same-run system l p q one ring =
+same-run system l p q one =
     let rows = same-rows system p.steps q.steps 0 l one.actions one.depths one.ahead one.since in
     let places = place-rows p.end.places.items q.end.places.items one.end.places in
     let a = event_rows system q.steps 0 l in
     let b = map place_row q.end.places.items in
     ap (λ (x : List (List ℕ)). ends system l x p.steps.races.items p.end.ready_actions.items p.end.ready (map place_row p.end.places.items)
-    p.end.ring.items p.end.progress) rows
-    ∙ ap (λ (x : List Race). ends system l a x p.end.ready_actions.items p.end.ready (map place_row p.end.places.items) p.end.ring.items p.end.progress) one.races
-    ∙ ap (λ (x : List Actions). ends system l a q.steps.races.items x p.end.ready (map place_row p.end.places.items) p.end.ring.items p.end.progress)
+    p.end.ring.items p.end.progress p.end.lacks_input) rows
+    ∙ ap (λ (x : List Race). ends system l a x p.end.ready_actions.items p.end.ready (map place_row p.end.places.items) p.end.ring.items p.end.progress p.end.lacks_input) one.races
+    ∙ ap (λ (x : List Actions). ends system l a q.steps.races.items x p.end.ready (map place_row p.end.places.items) p.end.ring.items p.end.progress p.end.lacks_input)
     one.end.ready_actions
-    ∙ ap (λ (x : List Event). ends system l a q.steps.races.items q.end.ready_actions.items x (map place_row p.end.places.items) p.end.ring.items p.end.progress)
+    ∙ ap (λ (x : List Event). ends system l a q.steps.races.items q.end.ready_actions.items x (map place_row p.end.places.items) p.end.ring.items p.end.progress p.end.lacks_input)
     one.end.ready
-    ∙ ap (λ (x : List (List ℕ)). ends system l a q.steps.races.items q.end.ready_actions.items q.end.ready x p.end.ring.items p.end.progress) places
-    ∙ ap (λ (x : List ℕ). ends system l a q.steps.races.items q.end.ready_actions.items q.end.ready b x p.end.progress) ring
-    ∙ ap (λ (x : Progress). ends system l a q.steps.races.items q.end.ready_actions.items q.end.ready b q.end.ring.items x) one.end.progress
+    ∙ ap (λ (x : List (List ℕ)). ends system l a q.steps.races.items q.end.ready_actions.items q.end.ready x p.end.ring.items p.end.progress p.end.lacks_input) places
+    ∙ ap (λ (x : List ℕ). ends system l a q.steps.races.items q.end.ready_actions.items q.end.ready b x p.end.progress p.end.lacks_input) one.end.ring
+    ∙ ap (λ (x : Progress). ends system l a q.steps.races.items q.end.ready_actions.items q.end.ready b q.end.ring.items x p.end.lacks_input) one.end.progress
+    ∙ ap (λ (x : Bool). ends system l a q.steps.races.items q.end.ready_actions.items q.end.ready b q.end.ring.items q.end.progress x) one.end.lacks_input
 
-one-text : (system : System) (l : Live) (p q : Picture) (source file stimulus trace : List ℕ) → IsOnePicture p q → p.end.ring.items ≡ q.end.ring.items →
+one-text : (system : System) (l : Live) (p q : Picture) (source file stimulus trace : List ℕ) → IsOnePicture p q →
     data_text system l p source file stimulus trace ≡ data_text system l q source file stimulus trace
-one-text system l p q source file stimulus trace one ring =
+one-text system l p q source file stimulus trace one =
     let made : List (List ℕ) → List (List ℕ) → List ℕ = λ xs ys. object_text (head_members file stimulus trace source ++ (xs ++ ys)) in
     ap (λ (xs : List (List ℕ)). made xs (run_members system l p)) (same-system system p q one)
-    ∙ ap (λ (ys : List (List ℕ)). made (system_members system q) ys) (same-run system l p q one ring)
+    ∙ ap (λ (ys : List (List ℕ)). made (system_members system q) ys) (same-run system l p q one)
 
 -- ---- one page
 
-pub one-page : OneList → (m n : AtMachine) (procedures : List Procedure) (p q : Picture) → m.checked ≡ n.checked → AreEqualRuns m.checked m.live n.live →
+pub one-page : OneList → OneRing → (m n : AtMachine) (procedures : List Procedure) (p q : Picture) → m.checked ≡ n.checked → AreEqualRuns m.checked m.live n.live →
     IsInOrder m → IsInOrder n → Shows m procedures p → Shows n procedures q → HaveOnePage m n p q
-one-page lists m n procedures p q one equal order other here there =
+one-page lists rings m n procedures p q one equal order other here there =
     let is : m ≡ n = one-machine m n one equal order other in
     let picture : IsOnePicture p q =
-    one-picture lists m procedures p q equal.low equal.next equal.rising here (subst (λ (x : AtMachine). Shows x procedures q) (sym is) there) in
-    let text : p.end.ring.items ≡ q.end.ring.items → (source file stimulus trace : List ℕ) →
+    one-picture lists rings m procedures p q equal.low equal.next equal.rising here (subst (λ (x : AtMachine). Shows x procedures q) (sym is) there) in
+    let text : (source file stimulus trace : List ℕ) →
     data_text m.checked m.live p source file stimulus trace ≡ data_text n.checked n.live q source file stimulus trace =
-    λ ring source file stimulus trace.
-    one-text m.checked m.live p q source file stimulus trace picture ring
+    λ source file stimulus trace.
+    one-text m.checked m.live p q source file stimulus trace picture
     ∙ ap (λ (x : AtMachine). data_text x.checked x.live q source file stimulus trace) is in
     record {
       picture = picture;
       data_of = text;
-      page = λ ring source file stimulus trace. ap page_text (text ring source file stimulus trace);
+      page = λ source file stimulus trace. ap page_text (text source file stimulus trace);
     }

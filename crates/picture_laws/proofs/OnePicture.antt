@@ -8,6 +8,7 @@ use Rattle.runs.specs.declared.event.Event.{Event}
 use Rattle.depth_laws.specs.Laws.{AreEqualRuns}
 use Rattle.typed.specs.declared.tree.Procedure.{Procedure}
 use Rattle.machine.specs.AtMachine.{AtMachine, object}
+use Rattle.waiting.specs.Told.{OneRing}
 use Rattle.waiting.specs.Waits.{OneList}
 use Rattle.picture_data.specs.Shown.{Shows}
 use Rattle.picture_data.specs.declared.picture.Picture.{Picture}
@@ -39,9 +40,9 @@ itself m S low next rising reaches = record {
   other_rising = rising;
 }
 
-pub one-picture : OneList → (m : AtMachine) (procedures : List Procedure) (p q : Picture) (low next : ℕ) → Rising low m.live next →
+pub one-picture : OneList → OneRing → (m : AtMachine) (procedures : List Procedure) (p q : Picture) (low next : ℕ) → Rising low m.live next →
     Shows m procedures p → Shows m procedures q → IsOnePicture p q
-one-picture lists m procedures p q low next rising here there =
+one-picture lists ring m procedures p q low next rising here there =
     let list = here.end.ready in
     let equal = itself m list.0 low next rising list.1 in
     let ground = one-ground m m procedures p q refl here there in
@@ -57,5 +58,5 @@ one-picture lists m procedures p q low next rising here there =
           (since-agrees m.checked m.live m.live p.steps.depths.items q.steps.depths.items equal here.steps.depths there.steps.depths)
           here.steps.since there.steps.since;
       races = one-races m.live p.steps.races.items q.steps.races.items here.steps.races there.steps.races;
-      end = one-end lists m m procedures p q refl equal here there;
+      end = one-end lists ring m m procedures p q refl equal here there;
     }

@@ -1,5 +1,5 @@
 -- Pictures of equal runs show the same.
-use Rattle.std.proofs.Common.{◌≡◌, ℕ, zero, suc, ◌+◌, ◌||◌, ◌&&◌, Bool, List, [], ◌∷◌, ◌++◌, map, Option, None, Some, refl, sym, ◌∙◌, ap, subst, arith}
+use Rattle.std.proofs.Common.{◌≡◌, ℕ, zero, suc, ◌+◌, ◌||◌, ◌&&◌, Bool, true, false, ◌↔◌, IsTrue, List, [], ◌∷◌, ◌++◌, map, Option, None, Some, refl, sym, ◌∙◌, ap, subst, arith}
 use Rattle.std.proofs.Math.Path.{fun_ext}
 use Rattle.std.specs.Prelude.{is_some, slice_get}
 use Rattle.syntax.specs.Lists.{In}
@@ -23,12 +23,13 @@ use Rattle.typed.specs.declared.tree.Procedure.{Procedure}
 use Rattle.machine.specs.AtMachine.{AtMachine, object}
 use Rattle.local_actions.specs.declared.action.LocalAction.{LocalAction}
 use Rattle.rings.specs.Partners.{partner_in}
-use Rattle.rings.specs.Rings.{Helped, IsRing}
 use Rattle.rings.specs.declared.partner.Partner.{Partner}
 use Rattle.rings.specs.declared.partner.Partner.TheVariants as partner
+use Rattle.rings.specs.Rings.{IsDeadlocked}
 use Rattle.waiting.specs.Input.{fed_channel, helped_in, is_starved, takes_input}
+use Rattle.waiting.specs.Lacking.{LacksInput}
 use Rattle.waiting.specs.Progress.{StandsLike, is_in_body, is_outlet}
-use Rattle.waiting.specs.Told.{IsTold}
+use Rattle.waiting.specs.Told.{IsTold, OneRing}
 use Rattle.waiting.specs.Waits.{OneList, Waits}
 use Rattle.waiting.specs.declared.waiting.Waiting.{Waiting}
 use Rattle.picture_lanes.specs.Ground.{found_in, lanes_of, uses_of, with_feeds}
@@ -36,10 +37,9 @@ use Rattle.picture_lanes.specs.declared.lane.Lane.{Lane}
 use Rattle.picture_lanes.specs.declared.walk.ChannelUse.{ChannelUse}
 use Rattle.picture_data.specs.Lines.{line_of, line_or_zero}
 use Rattle.picture_data.specs.Shown.{EachStandsIn, Shows, StandsIn, seen_of}
-use Rattle.picture_data.specs.Spots.{ShowsRing, Spot, ready_spots, spot_of, waiting_spots, with_sides}
+use Rattle.picture_data.specs.Spots.{Spot, places_of_sides, ready_spots, ring_of, spot_of, waiting_spots, with_sides}
 use Rattle.picture_data.specs.Wanted.{Seen}
 use Rattle.picture_data.specs.declared.picture.Picture.{Picture}
-use Rattle.picture_data.specs.declared.places.Place.{Place as Shown}
 use Rattle.picture_data.specs.declared.actions.Actions.{Actions}
 use Rattle.picture_laws.specs.EqualPictures.{IsOneEnd, IsOneGround, ShowTheSame, StandsInBoth}
 use Rattle.picture_laws.proofs.OneRun.{one-progress}
@@ -53,7 +53,7 @@ same-lines m n one equal a =
 
 -- ---- where events stand
 
-event-at : (l : Live) (i t : ℕ) (e : Event) → slice_get l i ≡ Some (t, e) → slice_get (events l) i ≡ Some e
+pub event-at : (l : Live) (i t : ℕ) (e : Event) → slice_get l i ≡ Some (t, e) → slice_get (events l) i ≡ Some e
 event-at [] i t e at = none-some (t, e) at
 event-at (x ∷ l) zero t e at = ap (λ (o : Option (ℕ × Event)). told o) at
   where
@@ -62,7 +62,7 @@ event-at (x ∷ l) zero t e at = ap (λ (o : Option (ℕ × Event)). told o) at
     told (Some y) = Some y.1
 event-at (x ∷ l) (suc i) t e at = event-at l i t e at
 
-stands-at : (m : AtMachine) (lanes : List Lane) (es : List Event) (ss : List Actions) (i : ℕ) (e : Event) (s : Actions) → EachStandsIn m lanes es ss →
+pub stands-at : (m : AtMachine) (lanes : List Lane) (es : List Event) (ss : List Actions) (i : ℕ) (e : Event) (s : Actions) → EachStandsIn m lanes es ss →
     slice_get es i ≡ Some e → slice_get ss i ≡ Some s → StandsIn m lanes e s
 stands-at m lanes [] ss i e s each at told = none-some e at
 stands-at m lanes (f ∷ es) [] i e s each at told = none-some s told
@@ -91,15 +91,34 @@ starved-agree m n x (Some partner.Gone) one equal = takes-agree m n x one
 starved-agree m n x (Some (partner.Behind a)) one equal = refl
 starved-agree m n x (Some partner.Open) one equal = refl
 
-helped-agree : (m n : AtMachine) (S : State) → m.checked ≡ n.checked → AreEqualRuns m.checked m.live n.live → helped_in n S ≡ helped_in m S
-helped-agree m n S one equal =
-    λ i. λ (x : LocalAction). ap (λ (b : Bool). is_outlet x.action || b) (sym (starved-agree m n x (Some (partner_in S.residual x)) one equal)) i
+helped-agree : (m n : AtMachine) (S : State) → m.checked ≡ n.checked → AreEqualRuns m.checked m.live n.live → (x : LocalAction) → helped_in m S x ≡ helped_in n S x
+helped-agree m n S one equal x = ap (λ (b : Bool). is_outlet x.action || b) (starved-agree m n x (Some (partner_in S.residual x)) one equal)
 
-no-ring : (m n : AtMachine) (S : State) (places others : List Shown) (ring other : List ℕ) → helped_in n S ≡ helped_in m S → ShowsRing m S places ring →
-    ShowsRing n S others other → ring ≡ [] → other ≡ []
-no-ring m n S places others ring [] same here there none = refl
-no-ring m n S places others ring (k ∷ other) same here there none =
-    absurd (subst (ShowsRing m S places) none here there.0 (subst (λ (h : Helped). IsRing (Waits S) h S.residual there.0) same there.2))
+-- so is whether nothing lacks but input
+lacks-too : (m n : AtMachine) (S : State) → ((x : LocalAction) → helped_in m S x ≡ helped_in n S x) →
+    ((x : LocalAction) → takes_input m x ≡ takes_input n x) → LacksInput m S → LacksInput n S
+lacks-too m n S helped takes lacks =
+    let back : helped_in n S ≡ helped_in m S = fun_ext (λ x. sym (helped x)) in
+    let one = lacks.starved in
+    record {
+      stuck = lacks.stuck;
+      free = λ x waits idle dead.
+          lacks.free x waits idle (subst (λ (h : LocalAction → Bool). IsDeadlocked (Waits S) h S.residual x.place) back dead);
+      starved = (one.0, one.1, sym (takes one.0) ∙ one.2, one.3);
+      settled = lacks.settled;
+    }
+
+one-flag : (b c : Bool) → (b ≡ true → c ≡ true) → (c ≡ true → b ≡ true) → b ≡ c
+one-flag true c forth back = sym (forth refl)
+one-flag false true forth back = back refl
+one-flag false false forth back = refl
+
+one-lack : (m n : AtMachine) (S : State) (b c : Bool) → ((x : LocalAction) → helped_in m S x ≡ helped_in n S x) →
+    ((x : LocalAction) → takes_input m x ≡ takes_input n x) → IsTrue b ↔ LacksInput m S → IsTrue c ↔ LacksInput n S → b ≡ c
+one-lack m n S b c helped takes here there =
+    let forth : LacksInput m S → LacksInput n S = lacks-too m n S helped takes in
+    let back : LacksInput n S → LacksInput m S = lacks-too n m S (λ x. sym (helped x)) (λ x. sym (takes x)) in
+    one-flag b c (λ h. there.1 (forth (here.0 h))) (λ h. here.1 (back (there.0 h)))
 
 -- what both are drawn on
 pub one-ground : (m n : AtMachine) (procedures : List Procedure) (p q : Picture) → m.checked ≡ n.checked → Shows m procedures p → Shows n procedures q →
@@ -116,17 +135,20 @@ one-ground m n procedures p q one here there =
           ∙ sym there.feeds;
     }
 
--- two answers that say the same, but for which ring there is
+-- two answers that say the same
 record SameWait (v w : Waiting) : Type 0 where
   pub actions : v.actions ≡ w.actions
   pub partners : v.partners.items ≡ w.partners.items
+  pub ring : v.ring.items ≡ w.ring.items
 
-same-wait : OneList → (m n : AtMachine) (S : State) (v w : Waiting) → IsTold m S v → IsTold n S w → SameWait v w
-same-wait lists m n S v w here there =
+same-wait : OneList → OneRing → (m n : AtMachine) (S : State) (v w : Waiting) → ((x : LocalAction) → helped_in m S x ≡ helped_in n S x) → IsTold m S v →
+    IsTold n S w → SameWait v w
+same-wait lists ring m n S v w helped here there =
     let actions : v.actions ≡ w.actions = lists S v.actions w.actions here.actions there.actions in
     record {
       actions = actions;
       partners = here.partners ∙ ap (λ (xs : List LocalAction). map (partner_in S.residual) xs) actions ∙ sym there.partners;
+      ring = ring m n S v w helped here there;
     }
 
 -- what there is to see is the same of both
@@ -152,9 +174,19 @@ same-spots s t v w es fs seen same ready =
     ∙ ap (λ (xs : List LocalAction). made t w.partners.items xs es) same.actions
     ∙ ap (λ (rs : List Event). made t w.partners.items w.actions rs) ready
 
-pub one-end : OneList → (m n : AtMachine) (procedures : List Procedure) (p q : Picture) → m.checked ≡ n.checked → AreEqualRuns m.checked m.live n.live →
+-- so is the ring
+same-ring : (s t : Seen) (v w : Waiting) → s ≡ t → SameWait v w →
+    ring_of (places_of_sides s [] v.partners.items 0 v.actions) v.ring.items ≡ ring_of (places_of_sides t [] w.partners.items 0 w.actions) w.ring.items
+same-ring s t v w seen same =
+    let made : Seen → List Partner → List LocalAction → List ℕ → List ℕ = λ x ps xs ring. ring_of (places_of_sides x [] ps 0 xs) ring in
+    ap (λ (x : Seen). made x v.partners.items v.actions v.ring.items) seen
+    ∙ ap (λ (ps : List Partner). made t ps v.actions v.ring.items) same.partners
+    ∙ ap (λ (xs : List LocalAction). made t w.partners.items xs v.ring.items) same.actions
+    ∙ ap (λ (ring : List ℕ). made t w.partners.items w.actions ring) same.ring
+
+pub one-end : OneList → OneRing → (m n : AtMachine) (procedures : List Procedure) (p q : Picture) → m.checked ≡ n.checked → AreEqualRuns m.checked m.live n.live →
     Shows m procedures p → Shows n procedures q → IsOneEnd p q
-one-end lists m n procedures p q one equal here there =
+one-end lists rings m n procedures p q one equal here there =
     let ground = one-ground m n procedures p q one here there in
     let same = same-lines m n one equal in
     let list = here.end.ready in
@@ -166,24 +198,23 @@ one-end lists m n procedures p q one equal here there =
     let goes2 = there.end.progress in
     let progress_here : StandsLike goes.0 q.end.progress =
     subst (λ (S : State). StandsLike S q.end.progress) (both-reach m n goes.0 goes2.0 one equal goes.1 goes2.1) goes2.2 in
+    let lacks = here.end.lacks_input in
+    let lacks2 = there.end.lacks_input in
+    let lacks_here : IsTrue q.end.lacks_input ↔ LacksInput n lacks.0 =
+    subst (λ (S : State). IsTrue q.end.lacks_input ↔ LacksInput n S) (both-reach m n lacks.0 lacks2.0 one equal lacks.1 lacks2.1) lacks2.2 in
     let waits = here.end.waits in
     let waits2 = there.end.waits in
     let told = waits.told in
     let told2 = waits2.told in
     let told_here : IsTold n told.0 waits2.waiting =
     subst (λ (S : State). IsTold n S waits2.waiting) (both-reach m n told.0 told2.0 one equal told.1 told2.1) told2.2 in
-    let wait = same-wait lists m n told.0 waits.waiting waits2.waiting told.2 told_here in
+    let wait = same-wait lists rings m n told.0 waits.waiting waits2.waiting (helped-agree m n told.0 one equal) told.2 told_here in
     let s = seen_of m p.lanes.items (uses_of procedures m.checked) waits.waiting p.end.ready in
     let t = seen_of n q.lanes.items (uses_of procedures n.checked) waits2.waiting q.end.ready in
     let seen : s ≡ t =
     seen-too m n procedures p.lanes.items q.lanes.items waits.waiting waits2.waiting p.end.ready q.end.ready one same ground.lanes wait.actions ready in
     let places : map spot_of p.end.places.items ≡ map spot_of q.end.places.items =
     waits.places ∙ same-spots s t waits.waiting waits2.waiting p.end.ready q.end.ready seen wait ready ∙ sym waits2.places in
-    let ring = waits.ring in
-    let ring2 = waits2.ring in
-    let helped = helped-agree m n ring.0 one equal in
-    let ring_here : ShowsRing n ring.0 q.end.places.items q.end.ring.items =
-    subst (λ (S : State). ShowsRing n S q.end.places.items q.end.ring.items) (both-reach m n ring.0 ring2.0 one equal ring.1 ring2.1) ring2.2 in
     record {
       ready = ready;
       ready_actions =
@@ -191,14 +222,15 @@ one-end lists m n procedures p q one equal here there =
           here.end.actions
           (subst (λ (es : List Event). EachStandsIn n q.lanes.items es q.end.ready_actions.items) (sym ready) there.end.actions);
       progress = one-progress goes.0 p.end.progress q.end.progress goes.2 progress_here;
+      lacks_input =
+          one-lack m n lacks.0 p.end.lacks_input q.end.lacks_input (helped-agree m n lacks.0 one equal) (λ x. takes-agree m n x one) lacks.2 lacks_here;
       places = places;
       places_since =
           places-since (record { live = m.live; depths = p.steps.depths.items }) (record { live = n.live; depths = q.steps.depths.items })
           p.end.places.items q.end.places.items
           (since-agrees m.checked m.live n.live p.steps.depths.items q.steps.depths.items equal here.steps.depths there.steps.depths) places
           waits.since waits2.since;
-      ring = no-ring m n ring.0 p.end.places.items q.end.places.items p.end.ring.items q.end.ring.items helped ring.2 ring_here;
-      other_ring = no-ring n m ring.0 q.end.places.items p.end.places.items q.end.ring.items p.end.ring.items (sym helped) ring_here ring.2;
+      ring = waits.ring_told ∙ same-ring s t waits.waiting waits2.waiting seen wait ∙ sym waits2.ring_told;
     }
 
 -- ---- the steps
@@ -231,9 +263,9 @@ since-too m n procedures p q i j e s r equal here there both at-i at-j =
     (since-agrees m.checked m.live n.live p.steps.depths.items q.steps.depths.items equal here.steps.depths there.steps.depths)
     (here.steps.since.each i both.ticket e s both.here at-i) (there.steps.since.each j both.other e r both.there at-j)
 
-pub show-the-same : OneList → (m n : AtMachine) (procedures : List Procedure) (p q : Picture) → m.checked ≡ n.checked →
+pub show-the-same : OneList → OneRing → (m n : AtMachine) (procedures : List Procedure) (p q : Picture) → m.checked ≡ n.checked →
     AreEqualRuns m.checked m.live n.live → Shows m procedures p → Shows n procedures q → ShowTheSame m n p q
-show-the-same lists m n procedures p q one equal here there = record {
+show-the-same lists rings m n procedures p q one equal here there = record {
   ground = one-ground m n procedures p q one here there;
   depths = λ i j e both.
       depths-agree m.checked m.live n.live p.steps.depths.items q.steps.depths.items i j both.ticket both.other e equal here.steps.depths
@@ -248,5 +280,5 @@ show-the-same lists m n procedures p q one equal here there = record {
   races = λ race i j e f within first second.
       races-agree m.checked m.live n.live p.steps.races.items q.steps.races.items race i j first.ticket second.ticket first.other second.other e f equal
       here.steps.races there.steps.races within first.here second.here first.there second.there;
-  end = one-end lists m n procedures p q one equal here there;
+  end = one-end lists rings m n procedures p q one equal here there;
 }

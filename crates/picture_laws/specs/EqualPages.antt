@@ -22,14 +22,13 @@ pub record IsInOrder (m : AtMachine) : Type 0 where
   pub next : m.next ≡ suc (length m.live)
   pub canonical : IsCanonicalOrder (events m.live) (events m.live)
 
--- one picture, and where both tell one ring or none, the bytes of the data and of the page are one, whatever the names of
--- the files
+-- one picture, and the bytes of the data and of the page are one, whatever the names of the files
 pub record HaveOnePage (m n : AtMachine) (p q : Picture) : Type 0 where
   pub picture : IsOnePicture p q
-  pub data_of : p.end.ring.items ≡ q.end.ring.items → (source file stimulus trace : List ℕ) →
+  pub data_of : (source file stimulus trace : List ℕ) →
       data_text m.checked m.live p source file stimulus trace
       ≡ data_text n.checked n.live q source file stimulus trace
-  pub page : p.end.ring.items ≡ q.end.ring.items → (source file stimulus trace : List ℕ) →
+  pub page : (source file stimulus trace : List ℕ) →
       page_text (data_text m.checked m.live p source file stimulus trace)
       ≡ page_text (data_text n.checked n.live q source file stimulus trace)
 

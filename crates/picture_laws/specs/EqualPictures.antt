@@ -1,5 +1,5 @@
 -- The pictures of equal runs: those that differ only in the order of independent steps.
-use Rattle.std.specs.Prelude.{◌≡◌, ℕ, ◌+◌, List, [], map, Some, slice_get, slice_index}
+use Rattle.std.specs.Prelude.{◌≡◌, ℕ, ◌+◌, List, map, Some, slice_get, slice_index}
 use Rattle.syntax.specs.Lists.{In}
 use Rattle.runs.specs.Live.{Rising}
 use Rattle.runs.specs.declared.event.Event.{Event}
@@ -30,16 +30,16 @@ pub record IsOneGround (p q : Picture) : Type 0 where
 abbrev pub since_of : Shown → ℕ
 since_of p = p.since
 
--- both show one end: the events that can be taken, how the run stands, and who waits, where, for which lanes and since
--- when. The one has a ring exactly where the other has; which, where there are several, is left open.
+-- both show one end: the events that can be taken, how the run stands, whether it lacks nothing but input, who waits,
+-- where, for which lanes and since when, and one ring, or none
 pub record IsOneEnd (p q : Picture) : Type 0 where
   pub ready : p.end.ready ≡ q.end.ready
   pub ready_actions : p.end.ready_actions.items ≡ q.end.ready_actions.items
   pub progress : p.end.progress ≡ q.end.progress
+  pub lacks_input : p.end.lacks_input ≡ q.end.lacks_input
   pub places : map spot_of p.end.places.items ≡ map spot_of q.end.places.items
   pub places_since : map since_of p.end.places.items ≡ map since_of q.end.places.items
-  pub ring : p.end.ring.items ≡ [] → q.end.ring.items ≡ []
-  pub other_ring : q.end.ring.items ≡ [] → p.end.ring.items ≡ []
+  pub ring : p.end.ring.items ≡ q.end.ring.items
 
 -- the two pictures show the same of each event, by whatever ticket and index
 pub record ShowTheSame (m n : AtMachine) (p q : Picture) : Type 0 where

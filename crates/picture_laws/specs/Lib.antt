@@ -1,3 +1,4 @@
 pub mod DataRead
 pub mod EqualPages
 pub mod EqualPictures
+pub mod LaneChains

@@ -1,5 +1,5 @@
 -- The data of a picture as one JSON text, value by value.
-use Rattle.std.specs.Prelude.{ℕ, ◌+◌, ◌==◌, ◌&&◌, List, [], ◌∷◌, ◌++◌, Bool, true, cond, Option, None, Some, map, codes, slice_get}
+use Rattle.std.specs.Prelude.{ℕ, ◌+◌, ◌==◌, ◌&&◌, List, [], ◌∷◌, ◌++◌, Bool, true, false, cond, Option, None, Some, map, codes, slice_get}
 use Rattle.std.specs.Fmt.{decimal}
 use Rattle.std.specs.List.{flat_map}
 use Rattle.address.specs.Text.{text_of}
@@ -181,11 +181,16 @@ abbrev pub rings_text : List ℕ → List ℕ
 rings_text [] = list_text []
 rings_text (i ∷ ring) = list_text (numbers_text (i ∷ ring) ∷ [])
 
--- how the run stands, in a word
-abbrev pub progress_text : Progress → List ℕ
-progress_text Progress.GoesOn = codes "goes on"
-progress_text Progress.Done = codes "done"
-progress_text Progress.Stuck = codes "stuck"
+-- one that is stuck, and whether it lacks nothing but input
+abbrev pub stuck_text : Bool → List ℕ
+stuck_text true = codes "out of input"
+stuck_text false = codes "stuck"
+
+-- how the run stands, in the words of `waiting`
+abbrev pub progress_text : Progress → Bool → List ℕ
+progress_text Progress.GoesOn lacks = codes "goes on"
+progress_text Progress.Done lacks = codes "done"
+progress_text Progress.Stuck lacks = stuck_text lacks
 
 -- ---- all of it
 
@@ -213,7 +218,7 @@ run_members system l p =
     ∷ member_text (codes "ready") (list_text (ready_rows system p.end.ready_actions.items 0 p.end.ready))
     ∷ member_text (codes "places") (list_text (map place_row p.end.places.items))
     ∷ member_text (codes "rings") (rings_text p.end.ring.items)
-    ∷ member_text (codes "progress") (string_text (progress_text p.end.progress))
+    ∷ member_text (codes "progress") (string_text (progress_text p.end.progress p.end.lacks_input))
     ∷ []
 
 -- of the run of these live events, with the source, and the names of the three files

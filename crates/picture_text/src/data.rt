@@ -100,5 +100,5 @@ fn add_run(
     add_ready(json, system, &picture.end, &mut scratch)?;
     add_places(json, &picture.end, &mut scratch)?;
     add_ring(json, picture.end.ring.as_slice())?;
-    add_progress(json, picture.end.progress)
+    add_progress(json, picture.end.progress, picture.end.lacks_input)
 }

@@ -185,30 +185,45 @@ fn add_rings(json: &mut Json, ring: &[usize]) -> Result<(), AllocError>
     json.close_list()
 }
 
-/// Adds how the run stands.
+/// Adds how the run stands; of one that is stuck, whether it lacks input.
 #[tactic(auto, using(json_text::proofs::public::Growing::member_added))]
-pub(crate) fn add_progress(json: &mut Json, progress: Progress) -> Result<(), AllocError>
+pub(crate) fn add_progress(
+    json: &mut Json,
+    progress: Progress,
+    lacks_input: bool,
+) -> Result<(), AllocError>
     ensures { OnOk result (json.new ≡ with_value json.old
-        (member_text (codes "progress") (string_text (model.progress_text progress)))) }
+        (member_text (codes "progress") (string_text (model.progress_text progress lacks_input)))) }
 {
     json.name("progress")?;
-    add_progress_word(json, progress)
+    add_progress_words(json, progress, lacks_input)
 }
 
-/// Adds the word.
-fn add_progress_word(json: &mut Json, progress: Progress) -> Result<(), AllocError>
-    ensures { OnOk result (json.new ≡ with_value json.old (string_text (model.progress_text progress))) }
+/// Adds the words.
+fn add_progress_words(
+    json: &mut Json,
+    progress: Progress,
+    lacks_input: bool,
+) -> Result<(), AllocError>
+    ensures { OnOk result (json.new ≡ with_value json.old (string_text (model.progress_text progress lacks_input))) }
 {
-    json.text(progress_text(progress).as_bytes())
+    json.text(progress_text(progress, lacks_input).as_bytes())
 }
 
-/// How a run stands, in a word.
-fn progress_text(progress: Progress) -> &'static str
-    ensures { result.now ≡ model.progress_text progress }
+/// How a run stands, in the words of `waiting`.
+fn progress_text(progress: Progress, lacks_input: bool) -> &'static str
+    ensures { result.now ≡ model.progress_text progress lacks_input }
 {
     match progress {
         Progress::GoesOn => "goes on",
         Progress::Done => "done",
-        Progress::Stuck => "stuck",
+        Progress::Stuck => stuck_text(lacks_input),
     }
+}
+
+/// How a run stands that is stuck, and may lack nothing but input.
+fn stuck_text(lacks_input: bool) -> &'static str
+    ensures { result.now ≡ model.stuck_text lacks_input }
+{
+    if lacks_input { "out of input" } else { "stuck" }
 }

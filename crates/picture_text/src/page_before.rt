@@ -1,6 +1,6 @@
-// What stands in the page before the data. Made by scripts/picture_page of page/page.html, which is edited in place of this file.
+// What stands in the page before the script of the data. Made by scripts/picture_page of page/page.html, which is edited in place of this file.
 
-/// What stands in the page before the data.
+/// What stands in the page before the script of the data.
 pub(crate) const BEFORE: &str = r#"<!doctype html>
 <html lang="en"><head><meta charset="utf-8"><meta name="viewport" content="width=device-width">
 <title>balsadbg: picture of a run</title>
@@ -481,6 +481,36 @@ svg .on {
 .rg0 {
   color: var(--ring)
 }
+@media screen and (max-width: 760px) {
+  header {
+    flex-wrap: wrap
+  }
+  main {
+    flex-direction: column
+  }
+  #map {
+    display: none
+  }
+  #view {
+    flex: 1 1 55%
+  }
+  aside {
+    width: auto;
+    flex: 1 1 45%;
+    overflow: auto;
+    border-left: 0;
+    border-top: 1px solid var(--hair)
+  }
+  #card,
+  #vals {
+    max-height: none;
+    overflow: visible
+  }
+  #src {
+    flex: none;
+    max-height: 200px
+  }
+}
 @media print {
   @page {
     margin: 12mm
@@ -563,4 +593,4 @@ A green bar is an arm that a handshake encloses, a hatched one the side that is 
 A dotted lane waits. A dashed purple curve is an order that only a shared variable gives: a race.
 Click the name of a block to fold it.</div>
 <h2>To go on from here</h2><code id="again"></code></div>
-<script id="run" type="application/json">"#;
+"#;

@@ -1,7 +1,7 @@
-// What stands in the page behind the data, with its drawing. Made by scripts/picture_page of page/page.html, which is edited in place of this file.
+// What stands in the page behind the script of the data, with its drawing. Made by scripts/picture_page of page/page.html, which is edited in place of this file.
 
-/// What stands in the page behind the data, with its drawing.
-pub(crate) const DRAWING: &str = r#"</script>
+/// What stands in the page behind the script of the data, with its drawing.
+pub(crate) const DRAWING: &str = r#"
 <script>
 'use strict';
 // ---- the run: everything here is in the data or follows from it
@@ -54,7 +54,7 @@ for (const e of E) {
   if (e.b >= 0) L[e.b].evs.push(e.i)
 }
 const inst = k => L[k].inst < 0 ? null : R.instances[L[k].inst];
-const named = i => i[0] + (i[1] ? ' ' + i[1].slice(0, -1) : '');
+const named = i => i[1] + i[0]; // as the outline and the variables have it: 5:fork
 const who = k => L[k].side === 'body' ? named(inst(k)) : (L[k].side === 'out' ? 'output ' : L[k].side === 'in' ?
   'input ' : 'sync port ') + R.channels[L[k].chan][0];
 const short = (name, k) => {
@@ -405,8 +405,8 @@ function place() {
       const t = X[colOf[R.places[ringOf.get(i)][0]]];
       xs = [t]
     }
-    const t = p[3] === 'halt' ? 'halt' : (p[3] === 'held' ? 'held ' : '') + p[4].map(o => short(R.channels[o[0]]
-        [0], p[0])).join(' | ') + (p[4].length && p[4].every(o => !o[2]) ? ' (none left)' : ''),
+    const t = (p[3] === 'held' ? 'held ' : '') + p[4].map(o => short(R.channels[o[0]][0], p[0])).join(' | ') +
+      (!p[4].length || p[4].some(o => o[2]) ? '' : p[3] === 'held' ? ' (for ever)' : ' (none comes)'),
       l = Math.min(xa, ...xs),
       h = Math.max(xa, ...xs),
       end = h > xa && l === xa ? l + 20 + t.length * CW : h;

@@ -74,17 +74,18 @@ function card() {
         `<div class="soft">reads ${e.reads.map(v=>`<span class="m">${R.variables[v][0]} = ${vals0[v][0]}</span>`).join(', ')}</div>` :
         '') +
       `<table><tr><td><span class="sw" style="background:var(--past)">` +
-        `</span>${p} cause${p===1?'':'s'}<td>directly ${some(e.from,'cp')}<tr><td>` +
+        `</span>${p} cause${p===1?'':'s'}<td>nearest ${some(e.from,'cp')}<tr><td>` +
         `<span class="sw" style="background:var(--next)">` +
-        `</span>${f} consequence${f===1?'':'s'}<td>directly ${some(e.to,'cf')}<tr><td>` +
+        `</span>${f} consequence${f===1?'':'s'}<td>nearest ${some(e.to,'cf')}<tr><td>` +
         `<span class="sw" style="background:var(--faint)">` +
         `</span>${N-1-p-f} independent<td>depth ${e.depth}</table>` +
       `<div class="cmd">${copy((f?'roll ':'undo ')+e.t)}<span class="soft">${f?`takes back ${f+1} events`:'nothing needs it'}</span>` +
         `</div>`
   } else {
     const ring = R.rings[0],
-      wait = R.places.filter(p => !p[5] && L[p[0]].side === 'body');
-    o = `<h2>Now, after ${N} events</h2>`;
+      body = R.places.filter(p => !p[5] && L[p[0]].side === 'body'),
+      wait = body.concat(R.places.filter(p => L[p[0]].side !== 'body' && p[3] === 'held' && !p[4][0][2]));
+    o = `<h2>Now, after ${N} event${N===1?'':'s'}</h2>`;
     if (ring) o +=
       `<div class="rg">` +
         `<b>Deadlock.</b> ${ring.length} places wait in a ring, each for the next.</div>${ringPicture(ring)}`;
@@ -94,11 +95,7 @@ function card() {
         `<div class="cmd">${copy(r[5].replace(/ 0$/,''))}<span class="m soft" style="font-size:11px">${esc(r[0].split(' /')[0])}</span>` +
           `</div>`
         ).join('');
-    else if (!ring) o +=
-      `<div>` +
-        `<b>No step can be taken.</b> ` + (R.progress === 'done'? 'All is done.': wait.length?
-        'What is left waits for more from the environment, or for a branch that has ended. There is no ring.':
-        'The circuit has come to a halt.') + `</div>`;
+    else if (!ring) o += `<div><b>No step can be taken.</b> ${standing(body)}</div>`;
     if (wait.length) o += `<h2>Waits</h2><table>` + wait.slice(0, 60).map(p =>
       `<tr><td>${esc(who(p[0]))}${lineLink(p[2])}<td>${waitText(p)}`).join('') + '</table>'
   }
@@ -110,22 +107,33 @@ const VERB = {
     sync: 'syncs on',
     open: 'opens on',
     held: 'is held on',
-    close: 'closes',
-    halt: 'halts for ever'
+    close: 'closes'
   },
   TO = {
-    send: 'to ',
-    receive: 'from ',
-    sync: 'with ',
-    open: 'from '
+    send: ' to ',
+    receive: ' from ',
+    sync: ' with ',
+    open: ' from '
   };
 
+// the ports for which the stimulus has values or handshakes
+const fed = new Set(L.filter(l => l.side === 'in' || l.side === 'sync').map(l => l.chan)),
+  lacks = p => TO[p[3]] && p[3] !== 'send' ? p[4].filter(o => !o[2] && fed.has(o[0])).map(o => o[0]) : [];
+
+// how a run without a ring stands that goes on no more, where these places of the body wait
+function standing(body) {
+  if (R.progress === 'done') return 'The circuit has ended.';
+  if (R.progress === 'out of input') return 'It waits for more stimulus on ' + [...new Set(body.flatMap(lacks))].map(
+    c => `<span class="m">${esc(R.channels[c][0])}</span>`).join(' or ') + '.';
+  return body.length ? 'Some of what waits never goes on, whatever the stimulus.' :
+    'The circuit is at a <b>halt</b>, which never ends.'
+}
+
 function waitText(p) {
-  if (p[3] === 'halt') return VERB.halt;
-  return p[4].map((o, i) => `${i?'or':VERB[p[3]]} <span class="m">${esc(short(R.channels[o[0]][0],p[0]))}</span> ` +
-    (p[3] === 'held' ? 'till the arm ends in ' : o[2] ? TO[p[3]] || '' :
-      `<span class="soft">none left${o[1].length?' in':''}</span> `) + [...new Set(o[1].map(who))].slice(0, 3)
-    .map(esc).join(', ')).join('<br>')
+  return p[4].map((o, i) => `${i?'or':VERB[p[3]]} <span class="m">${esc(short(R.channels[o[0]][0],p[0]))}</span>` +
+    (p[3] === 'held' ? (o[2] ? ' till the arm ends in ' : ' by an arm that never ends in ') : o[2] ? TO[p[3]] || ' ' :
+      `<span class="soft">, none ${lacks(p).includes(o[0])?'left':'comes any more'}${o[1].length?' in':''}</span> `) +
+    [...new Set(o[1].map(who))].slice(0, 3).map(esc).join(', ')).join('<br>')
 }
 
 function ringPicture(ring) {
@@ -644,13 +652,12 @@ addEventListener('afterprint', () => $('sheets').innerHTML = '');
   document.title = (base || 'balsadbg') + ': picture of a run';
   const ring = R.rings.length,
     s = $('state');
-  s.textContent = ring ? 'deadlock' : R.ready.length ? R.ready.length + ' ready' : 'no step left';
+  s.textContent = ring ? 'deadlock' : R.ready.length ? R.ready.length + ' ready' : R.progress;
   s.className = 'chip' + (ring ? ' ring' : R.ready.length ? ' go' : '');
   const depth = E.reduce((m, e) => Math.max(m, e.depth), -1) + 1;
-  $('sub').textContent = `${N} event${N===1?'':'s'}, depth ${depth}, ${L.length} lanes · ${R.files[2]}`;
-  $('again').textContent =
-    `(tail -n +2 ${R.files[2].split('/').at(-1)}; echo 'undo ${N}') | ` +
-    `balsadbg debug ${R.files[0].split('/').at(-1)} ${R.files[1].split('/').at(-1)}`;
+  $('sub').textContent = `${N} event${N===1?'':'s'}, depth ${depth}, ${L.length} lane${L.length===1?'':'s'} · ${R.files[2]}`;
+  const word = f => /^[\w./+:@%-]+$/.test(f) ? f : `'${f.replaceAll("'", "'\\''")}'`;
+  $('again').textContent = 'balsadbg shell ' + R.files.map(word).join(' ');
   for (const w of q) {
     if (w === 'quiet=0') quiet = false;
     if (w === 'quiet=1') quiet = true;
@@ -662,16 +669,19 @@ addEventListener('afterprint', () => $('sheets').innerHTML = '');
   $('bq').setAttribute('aria-pressed', quiet);
   sourceText();
   layout();
-  const e = [...q].map(w => w.match(/^e(\d+)$/)).find(Boolean);
-  if (e) {
-    const i = E.findIndex(x => x.t === +e[1]);
+  const linked = t => {
+    const i = E.findIndex(x => x.t === +t);
+    if (i < 0) $('sub').textContent = `this run has no event ${t} · ` + $('sub').textContent;
     select(i)
-  } else refocus(false);
+  };
+  const e = [...q].map(w => w.match(/^e(\d+)$/)).find(Boolean);
+  if (e) linked(e[1]);
+  else refocus(false);
   if (q.has('now')) KEYS.w();
   paint();
   addEventListener('hashchange', () => {
     const m = location.hash.match(/^#e(\d+)/);
-    if (m) select(E.findIndex(x => x.t === +m[1]))
+    if (m) linked(m[1])
   })
 }
 </script></body></html>

@@ -1,5 +1,5 @@
 -- What a question about a run is answered.
-use Rattle.std.specs.Prelude.{◌≡◌, ◌⊎◌, ℕ, List, Bool, Option, Some, None}
+use Rattle.std.specs.Prelude.{◌≡◌, ◌≢◌, ◌⊎◌, ℕ, List, Bool, Option, Some, None}
 use Rattle.decimal.specs.Reading.{Reads, IsNoNumber}
 use Rattle.system.specs.Named.{variable_from}
 use Rattle.system.specs.declared.system.System.{System}
@@ -10,6 +10,8 @@ use Rattle.machine.specs.AtMachine.{AtMachine}
 use Rattle.trace_file.specs.Loading.{IsLoaded, ticketed}
 use Rattle.trace_file.specs.TraceText.{StandsFor}
 use Rattle.past.specs.Past.{ListsPast}
+use Rattle.described.specs.Description.{Describes}
+use Rattle.described.specs.Told.{TellsNothing}
 use Rattle.described.specs.declared.Described.{Described}
 use Rattle.outline.specs.OutlineText.{outline_text}
 use Rattle.outline.specs.Outlined.{Outlines}
@@ -17,6 +19,10 @@ use Rattle.outline.specs.declared.outline.Outline.{Outline}
 use Rattle.waiting.specs.Told.{TellsWaits}
 use Rattle.waiting.specs.WaitingText.{waiting_text}
 use Rattle.waiting.specs.declared.waiting.Waiting.{Waiting}
+use Rattle.typed.specs.declared.tree.Procedure.{Procedure}
+use Rattle.typed_source.specs.Source.{IsRefused, IsTyped}
+use Rattle.typed_source.specs.declared.fault.Fault as typing
+use Rattle.typed_source.specs.declared.fault.Fault.TheVariants as not_typed
 use Rattle.questions.specs.declared.reason.Reason.{Reason}
 use Rattle.questions.specs.declared.why.Why.{Why}
 
@@ -76,9 +82,17 @@ abbrev pub IsWaitingText : System → List ℕ → List ℕ → Type 0
 IsWaitingText system trace text =
     (m : AtMachine) × (w : Waiting) × IsLoaded system trace m × TellsWaits m w × (text ≡ waiting_text m w)
 
+-- this is told of a system beside what it has itself: what the source tells, of its procedures; or the source is no
+-- description without a fault, and nothing is told
+abbrev pub TellsOfSource : List ℕ → System → Described → Type 0
+TellsOfSource source system d =
+    ((procedures : List Procedure) × IsTyped source procedures × Describes source procedures system d)
+    ⊎ ((fault : typing.Fault) × IsRefused source fault × (fault ≢ not_typed.Memory) × TellsNothing d)
+
 -- the text of the outline of the system, with what the source tells beside it
-abbrev pub IsOutlineText : System → List ℕ → Type 0
-IsOutlineText system text = (o : Outline) × (d : Described) × Outlines system o × (text ≡ outline_text o d)
+abbrev pub IsOutlineText : List ℕ → System → List ℕ → Type 0
+IsOutlineText source system text =
+    (o : Outline) × (d : Described) × Outlines system o × TellsOfSource source system d × (text ≡ outline_text o d)
 
 -- it stands for events, and behind them this is answered
 abbrev pub IsAnswered : System → List ℕ → List ℕ → Why → Type 0

@@ -1,5 +1,5 @@
 -- The text that tells why.
-use Rattle.std.specs.Prelude.{◌≡◌, ℕ, List, [], ◌++◌, Bool, Option, None, Some, MatchOption, codes, length}
+use Rattle.std.specs.Prelude.{◌≡◌, ◌==◌, ℕ, List, [], ◌++◌, Bool, Option, None, Some, MatchOption, codes, cond, length}
 use Rattle.std.specs.Fmt.{decimal}
 use Rattle.value.specs.Word.{Word}
 use Rattle.system.specs.declared.system.System.{System}
@@ -59,9 +59,13 @@ step_text m t past = codes "step " ++ decimal t ++ ending ++ past_text m.checked
 abbrev pub unwritten_text : List ℕ → List ℕ
 unwritten_text name = codes "no step of the trace wrote `" ++ name ++ codes "`, so it is 0\n"
 
+-- the word behind a number of steps
+abbrev pub steps_word : ℕ → List ℕ
+steps_word count = cond (count == 1) (codes " step") (codes " steps")
+
 abbrev pub missing_text : List ℕ → ℕ → List ℕ
 missing_text subject count =
-    codes "the trace has no step " ++ subject ++ codes ": it has " ++ decimal count ++ codes " steps" ++ ending
+    codes "the trace has no step " ++ subject ++ codes ": it has " ++ decimal count ++ steps_word count ++ ending
 
 -- ---- all of it
 

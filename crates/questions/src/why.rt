@@ -205,8 +205,16 @@ fn missing_text(alloc: Global, subject: &str, count: usize) -> Result<Vec<u8>, A
             Piece::Words(subject.as_bytes()),
             Piece::Words(b": it has "),
             Piece::Number(count as u64),
-            Piece::Words(b" steps\n"),
+            Piece::Words(steps_word(count)),
+            Piece::Words(b"\n"),
         ],
     )?;
     Ok(text)
+}
+
+/// The word behind a number of steps.
+fn steps_word(count: usize) -> &'static [u8]
+    ensures { result.now ≡ model.steps_word count }
+{
+    if count == 1 { b" step" } else { b" steps" }
 }

@@ -1,3 +1,6 @@
+ghost use Rattle.std.specs.Prelude.{◌≡◌, ◌++◌, IfOk, string_bytes};
+ghost use Rattle.refusal_pages.specs.PageText as spec;
+
 use std::alloc::{AllocError, Global};
 
 /// What is said of a refusal.
@@ -17,8 +20,10 @@ pub struct Page {
 }
 
 /// Adds each line of a text, with blanks before it.
-fn add_indented(text: &mut String, lines: &str) -> Result<(), AllocError> {
-    for line in lines.lines() {
+fn add_indented(text: &mut String, shown: &str) -> Result<(), AllocError>
+    ensures { IfOk result (λ _. string_bytes text.new ≡ string_bytes text.old ++ spec.indented shown.now) }
+{
+    for line in shown.lines() {
         text.push_str("    ")?;
         text.push_str(line)?;
         text.push_str("\n")?;
@@ -26,32 +31,55 @@ fn add_indented(text: &mut String, lines: &str) -> Result<(), AllocError> {
     Ok(())
 }
 
+/// Adds the example, if there is one.
+fn add_example(text: &mut String, source: &str, told: &str) -> Result<(), AllocError>
+    ensures { IfOk result (λ _. string_bytes text.new ≡ string_bytes text.old ++ spec.example source.now told.now) }
+{
+    if told.is_empty() {
+        return Ok(());
+    }
+    text.push_str("\n")?;
+    add_indented(text, source)?;
+    add_indented(text, told)?;
+    Ok(())
+}
+
+/// Adds a part between two others, where it is not empty.
+fn add_part(text: &mut String, before: &str, part: &str, behind: &str) -> Result<(), AllocError>
+    ensures { IfOk result (λ _. string_bytes text.new ≡ string_bytes text.old
+        ++ spec.part before.now part.now behind.now) }
+{
+    if part.is_empty() {
+        return Ok(());
+    }
+    text.push_str(before)?;
+    text.push_str(part)?;
+    text.push_str(behind)?;
+    Ok(())
+}
+
 /// The page as `balsadbg explain N` prints it. It ends with the end of a line.
-pub fn page_text(alloc: Global, page: &Page) -> Result<String, AllocError> {
+pub fn page_text(alloc: Global, page: &Page) -> Result<String, AllocError>
+    ensures { IfOk result (λ text. string_bytes text ≡ spec.page_text page.now) }
+{
     let mut text = summary(alloc, page)?;
     text.push_str("\n")?;
     text.push_str(page.meaning)?;
     text.push_str("\n")?;
-    if !page.told.is_empty() {
-        text.push_str("\n")?;
-        add_indented(&mut text, page.source)?;
-        add_indented(&mut text, page.told)?;
-    }
-    if !page.causes.is_empty() {
-        text.push_str("\nUsual causes: ")?;
-        text.push_str(page.causes)?;
-        text.push_str("\n")?;
-    }
+    add_example(&mut text, page.source, page.told)?;
+    add_part(&mut text, "\nUsual causes: ", page.causes, "\n")?;
     Ok(text)
 }
 
 /// The first line of the page: number, what stands behind it, and name.
-pub fn summary(alloc: Global, page: &Page) -> Result<String, AllocError> {
+pub fn summary(alloc: Global, page: &Page) -> Result<String, AllocError>
+    ensures { IfOk result (λ text. string_bytes text ≡ spec.summary page.now) }
+{
     let number = page.number;
-    let name = page.name;
-    let field = page.field;
-    if field.is_empty() {
-        return format!(in alloc; "refused {number}: {name}\n");
-    }
-    format!(in alloc; "refused {number} {field}: {name}\n")
+    let mut text = format!(in alloc; "refused {number}")?;
+    add_part(&mut text, " ", page.field, "")?;
+    text.push_str(": ")?;
+    text.push_str(page.name)?;
+    text.push_str("\n")?;
+    Ok(text)
 }

@@ -21,7 +21,7 @@ use Rattle.rings.specs.declared.partner.Partner.{Partner}
 use Rattle.rings.specs.declared.partner.Partner.TheVariants.{Behind, Gone, Open}
 use Rattle.rings.specs.declared.sought.Sought.{Sought}
 use Rattle.rings.specs.internal.Placed.{Placed}
-use Rattle.rings.specs.internal.Ends.{channel_of, channels, same_sought, with_end, counted, partner_by, partner_from, is_open, HasEnds, wants, MarksAlso, WantsEach, Sum, finished, working, proc_sum}
+use Rattle.rings.specs.internal.Ends.{channel_of, channels, same_sought, with_end, counted, partner_by, partner_from, is_open, HasEnds, wants, MarksAlso, WantsEach, Sum, finished, working, ends_in, proc_sum}
 use Rattle.rings.specs.internal.Loosened.{is_marked}
 use Rattle.rings.specs.internal.Seen.{seen}
 use Rattle.rings.proofs.Counted.{other-end, open-more, same-sought-true}
@@ -145,10 +145,6 @@ set-marks old w n less kept = (
 )
 
 -- ---- what is found from the root is the partner of an action that is offered
-abbrev pub ends_in : Sum → List Placed
-ends_in finished = []
-ends_in (working e es) = es
-
 told-partner : (x : Sum) (s : Sought) (a : Place) (y : Standing) → Tells x s (Some a) y → counted s (Some a) (ends_in x) ≡ partner_standing y
 told-partner finished s a y h = sym (ap partner_standing h)
 told-partner (working e es) s a y h = sym h.0

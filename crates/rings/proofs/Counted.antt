@@ -13,7 +13,7 @@ use Rattle.rings.specs.declared.partner.Partner.TheVariants.{Behind, Gone, Open}
 use Rattle.rings.specs.declared.sought.Sought.{Sought}
 use Rattle.rings.specs.declared.sought.Sought.TheVariants as sought
 use Rattle.rings.specs.internal.Placed.{Placed}
-use Rattle.rings.specs.internal.Ends.{same_sought, has, clear, counts, behind_both, behind_too, or_end, or_end_if, with_end, counted, under, behind_entry, later, all_here, here, gathered, Sum, finished, working}
+use Rattle.rings.specs.internal.Ends.{same_sought, has, clear, counts, behind_both, behind_too, or_end, or_end_if, with_end, counted, under, soughts, is_among, behind_entry, later, all_here, here, gathered, Sum, finished, working}
 
 -- ---- tests
 pub entry-itself : (x : Entry) → same_entry x x ≡ true
@@ -177,65 +177,78 @@ counted-under s x own (e ∷ es) =
     ap₂ (λ (l : Bool) (r : Partner). or_end_if (same_sought s e.sought) l e.kind (x ∷ e.place) r) (counts-under own e.kind x e.place) (counted-under s x own es)
     ∙ end-pre x (same_sought s e.sought) (counts (below own x) e.kind e.place) e.kind e.place (counted s (below own x) es)
 
+-- ---- what stands behind a child
+pub among-soughts : (s : Sought) (es : List Placed) → is_among s (soughts es) ≡ has s es
+among-soughts s [] = refl
+among-soughts s (e ∷ es) = ap (λ (b : Bool). same_sought s e.sought || b) (among-soughts s es)
+
+pub among-append : (s : Sought) (ss ts : List Sought) → is_among s (ss ++ ts) ≡ (is_among s ss || is_among s ts)
+among-append s [] ts = refl
+among-append s (t ∷ ss) ts = ap (λ (b : Bool). same_sought s t || b) (among-append s ss ts) ∙ assoc (same_sought s t)
+  where
+    assoc : (a : Bool) → (a || (is_among s ss || is_among s ts)) ≡ ((a || is_among s ss) || is_among s ts)
+    assoc true = refl
+    assoc false = refl
+
 -- ---- behind the child at an entry
 module _ (s : Sought) (x : Entry) (es : List Placed) (K : List Placed) where
   -- what is in the child is not sought behind it
-  pub later-held : (own : Option Place) (rs : List Placed) → has s es ≡ true → counted s own (later x es rs ++ K) ≡ counted s own K
+  pub later-held : (own : Option Place) (ss : List Sought) → has s es ≡ true → counted s own (later x es ss ++ K) ≡ counted s own K
   later-held own [] h = refl
-  later-held own (r ∷ rs) h = pick (later-held own rs h) (has r.sought es) refl
+  later-held own (r ∷ ss) h = pick (later-held own ss h) (has r es) refl
     where
-      pick : counted s own (later x es rs ++ K) ≡ counted s own K → (b : Bool) → has r.sought es ≡ b → counted s own (cond b (later x es rs) (behind_entry x r.sought ∷ later x es rs) ++ K) ≡ counted s own K
+      pick : counted s own (later x es ss ++ K) ≡ counted s own K → (b : Bool) → has r es ≡ b → counted s own (cond b (later x es ss) (behind_entry x r ∷ later x es ss) ++ K) ≡ counted s own K
       pick rest true i = rest
       pick rest false i =
-          other-end s own (behind_entry x r.sought) (counted s own (later x es rs ++ K)) (apart (same_sought s r.sought) refl) ∙ rest
+          other-end s own (behind_entry x r) (counted s own (later x es ss ++ K)) (apart (same_sought s r) refl) ∙ rest
         where
-          apart : (m : Bool) → same_sought s r.sought ≡ m → m ≡ false
-          apart true g = absurd (true≢false (sym h ∙ ap (λ (t : Sought). has t es) (same-sought-true s r.sought g) ∙ i))
+          apart : (m : Bool) → same_sought s r ≡ m → m ≡ false
+          apart true g = absurd (true≢false (sym h ∙ ap (λ (t : Sought). has t es) (same-sought-true s r g) ∙ i))
           apart false g = refl
 
-  pub later-none : (own : Option Place) (rs : List Placed) → has s rs ≡ false → counted s own (later x es rs ++ K) ≡ counted s own K
+  pub later-none : (own : Option Place) (ss : List Sought) → is_among s ss ≡ false → counted s own (later x es ss ++ K) ≡ counted s own K
   later-none own [] h = refl
-  later-none own (r ∷ rs) h = pick (later-none own rs (or-false (same_sought s r.sought) (has s rs) h).1) (has r.sought es)
+  later-none own (r ∷ ss) h = pick (later-none own ss (or-false (same_sought s r) (is_among s ss) h).1) (has r es)
     where
-      pick : counted s own (later x es rs ++ K) ≡ counted s own K → (b : Bool) → counted s own (cond b (later x es rs) (behind_entry x r.sought ∷ later x es rs) ++ K) ≡ counted s own K
+      pick : counted s own (later x es ss ++ K) ≡ counted s own K → (b : Bool) → counted s own (cond b (later x es ss) (behind_entry x r ∷ later x es ss) ++ K) ≡ counted s own K
       pick rest true = rest
       pick rest false =
-          other-end s own (behind_entry x r.sought) (counted s own (later x es rs ++ K)) (or-false (same_sought s r.sought) (has s rs) h).0 ∙ rest
+          other-end s own (behind_entry x r) (counted s own (later x es ss ++ K)) (or-false (same_sought s r) (is_among s ss) h).0 ∙ rest
 
   behind-again : behind_too (x ∷ []) (Behind (x ∷ [])) ≡ Behind (x ∷ [])
   behind-again = ap (λ (b : Bool). cond b (Behind (x ∷ [])) Open) (place-itself (x ∷ []))
 
-  pub later-some : (rs : List Placed) → has s es ≡ false → counted s None K ≡ Gone → has s rs ≡ true → counted s None (later x es rs ++ K) ≡ Behind (x ∷ [])
+  pub later-some : (ss : List Sought) → has s es ≡ false → counted s None K ≡ Gone → is_among s ss ≡ true → counted s None (later x es ss ++ K) ≡ Behind (x ∷ [])
   later-some [] h g t = cc
-  later-some (r ∷ rs) h g t =
-      pick (λ k. later-some rs h g k) (rest (λ k. later-some rs h g k) (has s rs) refl) (same_sought s r.sought) refl (has r.sought es) refl t
+  later-some (r ∷ ss) h g t =
+      pick (λ k. later-some ss h g k) (rest (λ k. later-some ss h g k) (is_among s ss) refl) (same_sought s r) refl (has r es) refl t
     where
-      rest : (has s rs ≡ true → counted s None (later x es rs ++ K) ≡ Behind (x ∷ [])) → (b : Bool) → has s rs ≡ b
-          → behind_too (x ∷ []) (counted s None (later x es rs ++ K)) ≡ Behind (x ∷ [])
+      rest : (is_among s ss ≡ true → counted s None (later x es ss ++ K) ≡ Behind (x ∷ [])) → (b : Bool) → is_among s ss ≡ b
+          → behind_too (x ∷ []) (counted s None (later x es ss ++ K)) ≡ Behind (x ∷ [])
       rest more true i = ap (behind_too (x ∷ [])) (more i) ∙ behind-again
-      rest more false i = ap (behind_too (x ∷ [])) (later-none None rs i ∙ g)
+      rest more false i = ap (behind_too (x ∷ [])) (later-none None ss i ∙ g)
 
-      pick : (has s rs ≡ true → counted s None (later x es rs ++ K) ≡ Behind (x ∷ []))
-          → behind_too (x ∷ []) (counted s None (later x es rs ++ K)) ≡ Behind (x ∷ []) → (m : Bool) → same_sought s r.sought ≡ m → (b : Bool) → has r.sought es ≡ b → (m || has s rs) ≡ true
-          → counted s None (cond b (later x es rs) (behind_entry x r.sought ∷ later x es rs) ++ K) ≡ Behind (x ∷ [])
-      pick more again true i true j n = absurd (true≢false (sym j ∙ ap (λ (z : Sought). has z es) (sym (same-sought-true s r.sought i)) ∙ h))
-      pick more again true i false j n = ap (λ (m : Bool). or_end_if m true Later (x ∷ []) (counted s None (later x es rs ++ K))) i ∙ again
+      pick : (is_among s ss ≡ true → counted s None (later x es ss ++ K) ≡ Behind (x ∷ []))
+          → behind_too (x ∷ []) (counted s None (later x es ss ++ K)) ≡ Behind (x ∷ []) → (m : Bool) → same_sought s r ≡ m → (b : Bool) → has r es ≡ b → (m || is_among s ss) ≡ true
+          → counted s None (cond b (later x es ss) (behind_entry x r ∷ later x es ss) ++ K) ≡ Behind (x ∷ [])
+      pick more again true i true j n = absurd (true≢false (sym j ∙ ap (λ (z : Sought). has z es) (sym (same-sought-true s r i)) ∙ h))
+      pick more again true i false j n = ap (λ (m : Bool). or_end_if m true Later (x ∷ []) (counted s None (later x es ss ++ K))) i ∙ again
       pick more again false i true j n = more n
       pick more again false i false j n =
-          other-end s None (behind_entry x r.sought) (counted s None (later x es rs ++ K)) i ∙ more n
+          other-end s None (behind_entry x r) (counted s None (later x es ss ++ K)) i ∙ more n
 
   clear-itself : (b : Place) → clear (x ∷ []) (x ∷ b) ≡ false
   clear-itself b = ap (λ (t : Bool). cond t false true) (entry-itself x)
 
   -- for an action in the child nothing behind it counts
-  pub later-own : (b : Place) (rs : List Placed) → counted s (Some (x ∷ b)) (later x es rs ++ K) ≡ counted s (Some (x ∷ b)) K
+  pub later-own : (b : Place) (ss : List Sought) → counted s (Some (x ∷ b)) (later x es ss ++ K) ≡ counted s (Some (x ∷ b)) K
   later-own b [] = refl
-  later-own b (r ∷ rs) = pick (later-own b rs) (has r.sought es)
+  later-own b (r ∷ ss) = pick (later-own b ss) (has r es)
     where
-      pick : counted s (Some (x ∷ b)) (later x es rs ++ K) ≡ counted s (Some (x ∷ b)) K → (t : Bool) → counted s (Some (x ∷ b)) (cond t (later x es rs) (behind_entry x r.sought ∷ later x es rs) ++ K) ≡ counted s (Some (x ∷ b)) K
+      pick : counted s (Some (x ∷ b)) (later x es ss ++ K) ≡ counted s (Some (x ∷ b)) K → (t : Bool) → counted s (Some (x ∷ b)) (cond t (later x es ss) (behind_entry x r ∷ later x es ss) ++ K) ≡ counted s (Some (x ∷ b)) K
       pick rest true = rest
       pick rest false =
-          passed-end (same_sought s r.sought) (clear (x ∷ []) (x ∷ b)) Later (x ∷ []) (counted s (Some (x ∷ b)) (later x es rs ++ K)) (clear-itself b)
+          passed-end (same_sought s r) (clear (x ∷ []) (x ∷ b)) Later (x ∷ []) (counted s (Some (x ∷ b)) (later x es ss ++ K)) (clear-itself b)
           ∙ rest
 
 -- ---- side by side

@@ -11,3 +11,6 @@ mod PlaceRows
 mod Edging
 mod Tallied
 mod Trailing
+mod FirstFound
+mod OneRing
+mod Turns

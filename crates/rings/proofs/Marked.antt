@@ -30,7 +30,7 @@ same-or-not i j = pick (i == j) refl
     pick false h = inr (λ e. true≢false (sym (eq-eqb i j e) ∙ h))
 
 -- a mark of another kind than the one that is set was there before
-kept-mark : (l : List Seen) (k i : ℕ) (v x : Seen) → k < length l → (v ≡ x → ⊥) → slice_get (slice_set l k v) i ≡ Some x → slice_get l i ≡ Some x
+pub kept-mark : (l : List Seen) (k i : ℕ) (v x : Seen) → k < length l → (v ≡ x → ⊥) → slice_get (slice_set l k v) i ≡ Some x → slice_get l i ≡ Some x
 kept-mark l k i v x less other h = elim (same-or-not k i) [
   | inl is ↦ absurd (other (some-injective v x (sym (got-same l k v less) ∙ ap (slice_get (slice_set l k v)) is ∙ h)))
   | inr apart ↦ sym (got-other l k i v apart) ∙ h
@@ -47,7 +47,7 @@ mark-within (y ∷ l) zero x h = omega arith
 mark-within (y ∷ l) (suc i) x h = let rest = mark-within l i x h in omega (arith, rest)
 
 -- what is not open is done
-is-done : (l : List Seen) (i : ℕ) → i < length l → is_open (slice_get l i) ≡ false → slice_get l i ≡ Some Done
+pub is-done : (l : List Seen) (i : ℕ) → i < length l → is_open (slice_get l i) ≡ false → slice_get l i ≡ Some Done
 is-done l i h closed = let at = mark-at l i h in at.1 ∙ ap (λ (x : Seen). Some x) (pick at.0 (sym (ap is_open at.1) ∙ closed))
   where
     pick : (x : Seen) → is_open (Some x) ≡ false → x ≡ Done
@@ -128,7 +128,7 @@ on-is-new e = cc
 done-is-new : Done ≡ New → ⊥
 done-is-new e = cc
 
-on-is-done : OnWay ≡ Done → ⊥
+pub on-is-done : OnWay ≡ Done → ⊥
 on-is-done e = cc
 
 done-is-on : Done ≡ OnWay → ⊥

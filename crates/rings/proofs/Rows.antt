@@ -21,12 +21,12 @@ use Rattle.process_tree.specs.declared.proc.Proc as made
 use Rattle.local_actions.proofs.public.Begun.{begun-row, row-at}
 use Rattle.local_actions.proofs.public.Endings.{row-past-at}
 use Rattle.local_actions.proofs.public.OneByOne.{fresh-at}
-use Rattle.rings.specs.internal.Ends.{Sum, finished, after, beside, sum_in_turn, sum_abreast, code_sum, codes_sum, proc_sum, procs_sum, SumAt}
+use Rattle.rings.specs.internal.Ends.{Sum, finished, in_row, beside, Tail, no_tail, tail_before, tail_in_turn, sum_in_turn, sum_abreast, code_sum, codes_sum, proc_sum, procs_sum, SumAt}
 use Rattle.rings.proofs.Summed.{started-sum}
 
 -- ---- one child, as the code looks at it
-pub turned : (X : Sum) (e entry : Entry) (x rest y : Sum) → entry ≡ e → x ≡ X → y ≡ after entry x rest → y ≡ after e X rest
-turned X e entry x rest y is found made = made ∙ ap₂ (λ (z : Entry) (c : Sum). after z c rest) is found
+pub turned : (X : Sum) (e entry : Entry) (x rest y : Sum) (t : Tail) → entry ≡ e → x ≡ X → y ≡ in_row entry x rest t → y ≡ in_row e X rest t
+turned X e entry x rest y t is found made = made ∙ ap₂ (λ (z : Entry) (c : Sum). in_row z c rest t) is found
 
 pub branched : (X : Sum) (e entry : Entry) (x rest y : Sum) → entry ≡ e → x ≡ X → y ≡ beside entry x rest → y ≡ beside e X rest
 branched X e entry x rest y is found made = made ∙ ap₂ (λ (z : Entry) (c : Sum). beside z c rest) is found
@@ -37,17 +37,26 @@ branched X e entry x rest y is found made = made ∙ ap₂ (λ (z : Entry) (c : 
 abbrev pub fresh-in-turn : List Bool → List Code → ℕ → Sum
 fresh-in-turn w cs i = sum_in_turn i (codes_sum w (row_of (map code_view (drop i cs))))
 
+abbrev pub fresh-tail : List Bool → List Code → ℕ → Tail
+fresh-tail w cs i = tail_in_turn (codes_sum w (row_of (map code_view (drop i cs))))
+
 abbrev pub fresh-abreast : List Bool → List Code → ℕ → Sum
 fresh-abreast w cs i = sum_abreast i (codes_sum w (row_of (map code_view (drop i cs))))
 
 next-code : (cs : List Code) (i : ℕ) (c : Code) → i < length cs → c ≡ slice_index_or cs i c → drop i cs ≡ c ∷ drop (i + 1) cs
 next-code cs i c l e = drop_more cs i c l ∙ ap (λ (x : Code). x ∷ drop (i + 1) cs) (sym e)
 
-pub fresh-turn : (w : List Bool) (cs : List Code) (i j : ℕ) (c : Code) (rest y : Sum) → j ≡ i + 1 → i < length cs → c ≡ slice_index_or cs i c
-    → rest ≡ fresh-in-turn w cs j → y ≡ after (Ordered i) (code_sum w (code_view c)) rest → y ≡ fresh-in-turn w cs i
-fresh-turn w cs i j c rest y n l e r is =
-    is ∙ ap (after (Ordered i) (code_sum w (code_view c))) (r ∙ ap (fresh-in-turn w cs) n)
+pub fresh-turn : (w : List Bool) (cs : List Code) (i j : ℕ) (c : Code) (rest y : Sum) (t : Tail) → j ≡ i + 1 → i < length cs → c ≡ slice_index_or cs i c
+    → rest ≡ fresh-in-turn w cs j → t ≡ fresh-tail w cs j → y ≡ in_row (Ordered i) (code_sum w (code_view c)) rest t → y ≡ fresh-in-turn w cs i
+fresh-turn w cs i j c rest y t n l e r b is =
+    is ∙ ap₂ (in_row (Ordered i) (code_sum w (code_view c))) (r ∙ ap (fresh-in-turn w cs) n) (b ∙ ap (fresh-tail w cs) n)
     ∙ sym (ap (λ (xs : List Code). sum_in_turn i (codes_sum w (row_of (map code_view xs)))) (next-code cs i c l e))
+
+pub fresh-behind : (w : List Bool) (cs : List Code) (i j : ℕ) (c : Code) (x : Sum) (t y : Tail) → j ≡ i + 1 → i < length cs → c ≡ slice_index_or cs i c
+    → x ≡ code_sum w (code_view c) → t ≡ fresh-tail w cs j → y ≡ tail_before x t → y ≡ fresh-tail w cs i
+fresh-behind w cs i j c x t y n l e f b is =
+    is ∙ ap₂ tail_before f (b ∙ ap (fresh-tail w cs) n)
+    ∙ sym (ap (λ (xs : List Code). tail_in_turn (codes_sum w (row_of (map code_view xs)))) (next-code cs i c l e))
 
 pub fresh-branch : (w : List Bool) (cs : List Code) (i j : ℕ) (c : Code) (rest y : Sum) → j ≡ i + 1 → i < length cs → c ≡ slice_index_or cs i c
     → rest ≡ fresh-abreast w cs j → y ≡ beside (Branch i) (code_sum w (code_view c)) rest → y ≡ fresh-abreast w cs i
@@ -57,6 +66,9 @@ fresh-branch w cs i j c rest y n l e r is =
 
 pub fresh-end : (w : List Bool) (cs : List Code) (i : ℕ) → length cs ≤ i → finished ≡ fresh-in-turn w cs i
 fresh-end w cs i l = sym (ap (λ (xs : List Code). sum_in_turn i (codes_sum w (row_of (map code_view xs)))) (drop_all i cs l))
+
+pub fresh-no-tail : (w : List Bool) (cs : List Code) (i : ℕ) → length cs ≤ i → no_tail ≡ fresh-tail w cs i
+fresh-no-tail w cs i l = sym (ap (λ (xs : List Code). tail_in_turn (codes_sum w (row_of (map code_view xs)))) (drop_all i cs l))
 
 pub fresh-last : (w : List Bool) (cs : List Code) (i : ℕ) → length cs ≤ i → finished ≡ fresh-abreast w cs i
 fresh-last w cs i l = sym (ap (λ (xs : List Code). sum_abreast i (codes_sum w (row_of (map code_view xs)))) (drop_all i cs l))
@@ -83,14 +95,32 @@ from-none (proc q ps) (suc i) h = from-none ps i h
 abbrev pub procs-in-turn : List Bool → Procs → ℕ → Sum
 procs-in-turn w ps i = sum_in_turn i (procs_sum w (from-number i ps))
 
-pub procs-turn : (w : List Bool) (ps : Procs) (i j : ℕ) (p : Proc) (rest y : Sum) → j ≡ i + 1 → proc_at ps i ≡ Some p
-    → rest ≡ procs-in-turn w ps j → SumAt w ps i rest y → y ≡ procs-in-turn w ps i
-procs-turn w ps i j p rest y n at r is =
+abbrev pub procs-tail : List Bool → Procs → ℕ → Tail
+procs-tail w ps i = tail_in_turn (procs_sum w (from-number i ps))
+
+tail-next : (w : List Bool) (ps : Procs) (i j : ℕ) → j ≡ i + 1 → procs-tail w ps j ≡ procs-tail w ps (suc i)
+tail-next w ps i j n =
     let more : i + 1 ≡ suc i = omega arith in
-    is p at
-    ∙ ap (after (Ordered i) (proc_sum w p))
+    ap (procs-tail w ps) n ∙ ap (procs-tail w ps) more
+
+pub procs-turn : (w : List Bool) (ps : Procs) (i j : ℕ) (p : Proc) (e : Entry) (x rest y : Sum) (t : Tail) → j ≡ i + 1 → proc_at ps i ≡ Some p → e ≡ Ordered i
+    → rest ≡ procs-in-turn w ps j → t ≡ procs-tail w ps j → SumAt w ps i x → y ≡ in_row e x rest t → y ≡ procs-in-turn w ps i
+procs-turn w ps i j p e x rest y t n at entry r b found is =
+    let more : i + 1 ≡ suc i = omega arith in
+    is ∙ ap₂ (λ (z : Entry) (c : Sum). in_row z c rest t) entry (found p at)
+    ∙ ap₂ (in_row (Ordered i) (proc_sum w p))
     (r ∙ ap (λ k. sum_in_turn k (procs_sum w (from-number k ps))) n ∙ ap (λ k. sum_in_turn (i + 1) (procs_sum w (from-number k ps))) more)
+    (b ∙ tail-next w ps i j n)
     ∙ sym (ap (λ (xs : Procs). sum_in_turn i (procs_sum w xs)) (from-some ps i p at))
+
+pub procs-behind : (w : List Bool) (ps : Procs) (i j : ℕ) (p : Proc) (x : Sum) (t y : Tail) → j ≡ i + 1 → proc_at ps i ≡ Some p
+    → t ≡ procs-tail w ps j → SumAt w ps i x → y ≡ tail_before x t → y ≡ procs-tail w ps i
+procs-behind w ps i j p x t y n at b found is =
+    is ∙ ap₂ tail_before (found p at) (b ∙ tail-next w ps i j n)
+    ∙ sym (ap (λ (xs : Procs). tail_in_turn (procs_sum w xs)) (from-some ps i p at))
+
+pub procs-no-tail : (w : List Bool) (ps : Procs) (i : ℕ) → proc_at ps i ≡ None → no_tail ≡ procs-tail w ps i
+procs-no-tail w ps i h = sym (ap (λ (xs : Procs). tail_in_turn (procs_sum w xs)) (from-none ps i h))
 
 pub procs-end : (w : List Bool) (ps : Procs) (i : ℕ) → proc_at ps i ≡ None → finished ≡ procs-in-turn w ps i
 procs-end w ps i h = sym (ap (λ (xs : Procs). sum_in_turn i (procs_sum w xs)) (from-none ps i h))
@@ -110,23 +140,23 @@ pub procs-last : (w : List Bool) (ps : List made.Proc) (i : ℕ) → length ps �
 procs-last w ps i l = sym (ap (λ (xs : List made.Proc). sum_abreast i (procs_sum w (procs_of (map proc_view xs)))) (drop_all i ps l))
 
 -- a child that has not begun is its command
-pub fresh-sum-at : (w : List Bool) (xs : List made.Proc) (row : Row) (i : ℕ) (cs : List Code) (c : Code) (rest y : Sum)
+pub fresh-sum-at : (w : List Bool) (xs : List made.Proc) (row : Row) (i : ℕ) (cs : List Code) (c : Code) (y : Sum)
     → length xs ≤ i → cs ≡ row.codes → i < length row.codes → c ≡ slice_index_or cs i c
-    → y ≡ after (Ordered i) (code_sum w (code_view c)) rest → SumAt w (begun-row xs row) i rest y
-fresh-sum-at w xs row i cs c rest y past all less e is p at =
+    → y ≡ code_sum w (code_view c) → SumAt w (begun-row xs row) i y
+fresh-sum-at w xs row i cs c y past all less e is p at =
     let within : i < length cs = subst (λ (k : List Code). i < length k) (sym all) less in
     let there : proc_at (begun-row xs row) i ≡ Some (started (code_view c)) =
     row-past-at xs row i (omega (arith, past)) ∙ ap (λ (k : List Code). proc_at (all_started (row_of (map code_view k))) i) (sym all) ∙ fresh-at cs i c within e in
     let same : started (code_view c) ≡ p = some-injective (started (code_view c)) p (sym there ∙ at) in
-    is ∙ ap (λ (a : Sum). after (Ordered i) a rest) (sym (started-sum w (code_view c)) ∙ ap (proc_sum w) same)
+    is ∙ sym (started-sum w (code_view c)) ∙ ap (proc_sum w) same
 
 -- one that has begun is a process
-pub begun-sum-at : (w : List Bool) (xs : List made.Proc) (row : Row) (i : ℕ) (x : made.Proc) (rest y : Sum)
+pub begun-sum-at : (w : List Bool) (xs : List made.Proc) (row : Row) (i : ℕ) (x : made.Proc) (y : Sum)
     → i < length xs → i < length row.codes → x ≡ slice_index_or xs i x
-    → y ≡ after (Ordered i) (proc_sum w (proc_view x)) rest → SumAt w (begun-row xs row) i rest y
-begun-sum-at w xs row i x rest y l m e is p at =
+    → y ≡ proc_sum w (proc_view x) → SumAt w (begun-row xs row) i y
+begun-sum-at w xs row i x y l m e is p at =
     let same : proc_view x ≡ p = some-injective (proc_view x) p (sym (row-at xs row i x l m e) ∙ at) in
-    is ∙ ap (λ (q : Proc). after (Ordered i) (proc_sum w q) rest) same
+    is ∙ ap (proc_sum w) same
 
 -- an arm that opened, as it stands in memory
 opened-view : (ds : List ℕ) (cs : Codes) (c : ℕ) (v : Option Word) (closed : Bool) (q : Box made.Proc) → gate_view (made_gate.Opened c v closed q) ds cs ≡ opened_of closed ds cs c v (proc_view q.value)

@@ -19,9 +19,9 @@ use Rattle.rings.specs.declared.sought.Sought.{Sought}
 use Rattle.rings.specs.declared.sought.Sought.TheVariants as sought
 use Rattle.rings.specs.internal.Ends as sums
 use Rattle.rings.specs.internal.Placed.{Placed}
-use Rattle.rings.specs.internal.Ends.{channel_of, same_sought, has, wants, or_end_if, counted, under, later, here, gathered, Sum, finished, working, after, in_turns, if_wanted, one, once_sum, sync_sum, sender_sum, arm, arm_ends, tested, armed, sum_in_turn, sum_abreast, code_sum, codes_sum, again_sum, proc_sum, procs_sum}
+use Rattle.rings.specs.internal.Ends.{channel_of, same_sought, has, wants, or_end_if, counted, under, Tail, no_tail, tail, soughts, is_among, tail_of, tail_before, later, here, gathered, Sum, finished, working, in_row, after, in_turns, if_wanted, one, once_sum, sync_sum, sender_sum, arm, arm_ends, tested, armed, tail_in_turn, sum_in_turn, sum_abreast, code_sum, codes_sum, again_sum, proc_sum, procs_sum}
 use Rattle.rings.specs.internal.Seen.{Walk, is_once, is_sender, walk_in_turn, walk_abreast, any_found, code_seen, codes_seen, again_seen, seen, procs_seen}
-use Rattle.rings.proofs.Counted.{same-sought-true, none-counted, some-counted, gone_as, shown, shown-partner, found-has, pre, below-itself, counted-under, later-held, later-none, later-some, later-own, tog, StartsApart, AllApart, counted-beside, counted-apart, AllAt, here-at, gathered-at, has-append, has-here, here_if, within-all, later-all, open-more, later-here}
+use Rattle.rings.proofs.Counted.{same-sought-true, none-counted, some-counted, gone_as, shown, shown-partner, found-has, among-soughts, among-append, pre, below-itself, counted-under, later-held, later-none, later-some, later-own, tog, StartsApart, AllApart, counted-beside, counted-apart, AllAt, here-at, gathered-at, has-append, has-here, here_if, within-all, later-all, open-more, later-here}
 use Rattle.rings.proofs.Left.{left-seen}
 
 abbrev pub is_over : Standing → Bool
@@ -82,11 +82,6 @@ after-held x f partner.Open z h = refl
 after-none : (x : Entry) (f : Bool) → standing.later x None (gone_as f) ≡ gone_as f
 after-none x true = refl
 after-none x false = refl
-
-after-some : (x : Entry) (f : Bool) (r : Partner) → (r ≡ partner.Gone → ⊥) → standing.later x None (shown f r) ≡ behind (x ∷ [])
-after-some x f partner.Gone h = absurd (h refl)
-after-some x f (partner.Behind p) h = refl
-after-some x f partner.Open h = refl
 
 -- side by side
 tog-standing : (x : Entry) (y z : Standing) → partner_standing (together (in_branch x y) z) ≡ tog (pre x (partner_standing y)) (partner_standing z)
@@ -379,50 +374,136 @@ module _ (w : List Bool) where
     | inr passed ↦ absurd (over-shown e (counted s None es) (sym (sc s h None tt) ∙ passed.0 s None))
   ]
 
-  two-after : (x : Entry) (s : Sought) (f : Bool) (es rs : List Placed) (y z : Standing) → y ≡ shown false (counted s None es) → z ≡ shown f (counted s None rs)
-      → standing.after x None y z ≡ shown f (counted s None (later x es rs ++ under x es))
-  two-after x s f es rs y z here there_too =
-      ap₂ (standing.after x None) here there_too ∙ pick (has s es) refl (has s rs) refl
+  -- what stands behind a child tells of each that is wanted whether it comes there
+  abbrev TellsTail : Tail → Sought → Standing → Type 0
+  TellsTail no_tail s z = z ≡ over
+  TellsTail (tail e ss) s z = (is_among s ss ≡ is_found z) × (is_found z ≡ false → z ≡ gone_as e)
+
+  abbrev Tails : Tail → Walks → Type 0
+  Tails t walk = (s : Sought) → wants w (channel_of s) ≡ true → TellsTail t s (walk s None)
+
+  tail-tells : (e : Bool) (s : Sought) (c : Partner) (ss : List Sought) (z : Standing) → z ≡ shown e c → is_among s ss ≡ is_found (shown e c) → TellsTail (tail e ss) s z
+  tail-tells e s c ss z is found = (found ∙ sym (ap is_found is), λ h. is ∙ lost e c (sym (ap is_found is) ∙ h))
     where
-      C : Partner
-      C = counted s None es
+      lost : (e : Bool) (c : Partner) → is_found (shown e c) ≡ false → shown e c ≡ gone_as e
+      lost e partner.Gone h = refl
+      lost e (partner.Behind p) h = absurd (true≢false h)
+      lost e partner.Open h = absurd (true≢false h)
 
-      pick : (b : Bool) → has s es ≡ b → (t : Bool) → has s rs ≡ t
-          → standing.after x None (shown false (counted s None es)) (shown f (counted s None rs)) ≡ shown f (counted s None (later x es rs ++ under x es))
+  found-pre : (x : Entry) (e : Bool) (c : Partner) → is_found (shown e c) ≡ is_found (shown e (pre x c))
+  found-pre x e partner.Gone = refl
+  found-pre x e (partner.Behind p) = refl
+  found-pre x e partner.Open = refl
+
+  -- of one part alone
+  tail-alone : (r : Sum) (F : Place → Type 0) (g : Walks) → Sums r F g → Tails (tail_of r) g
+  tail-alone finished F g sr s h = sr s h None tt
+  tail-alone (working e es) F g sr s h =
+      tail-tells e s (counted s None es) (soughts es) (g s None) (sr s h None tt) (among-soughts s es ∙ found-has e s es)
+
+  later-found : (x : Entry) (z : Standing) → is_found z ≡ true → standing.later x None z ≡ behind (x ∷ [])
+  later-found x over h = absurd (true≢false (sym h))
+  later-found x nowhere h = absurd (true≢false (sym h))
+  later-found x never h = absurd (true≢false (sym h))
+  later-found x (behind a) h = refl
+  later-found x at_hand h = refl
+
+  found-later : (x : Entry) (z : Standing) → is_found z ≡ is_found (standing.later x None z)
+  found-later x over = refl
+  found-later x nowhere = refl
+  found-later x never = refl
+  found-later x (behind a) = refl
+  found-later x at_hand = refl
+
+  -- a child before it
+  longer-tells : (x : Entry) (f : Bool) (es : List Placed) (ss : List Sought) (s : Sought) (y z : Standing) → y ≡ shown false (counted s None es)
+      → TellsTail (tail f ss) s z → TellsTail (tail f (ss ++ soughts es)) s (standing.after x None y z)
+  longer-tells x f es ss s y z here tells = pick (has s es) refl
+    where
+      both : is_among s (ss ++ soughts es) ≡ (is_found z || has s es)
+      both = among-append s ss (soughts es) ∙ ap₂ (λ (a b : Bool). a || b) tells.0 (among-soughts s es)
+
+      or-true : (a : Bool) → (a || true) ≡ true
+      or-true true = refl
+      or-true false = refl
+
+      or-none : (a : Bool) → (a || false) ≡ a
+      or-none true = refl
+      or-none false = refl
+
+      pick : (b : Bool) → has s es ≡ b → TellsTail (tail f (ss ++ soughts es)) s (standing.after x None y z)
+      pick true h =
+          tail-tells f s (pre x (counted s None es)) (ss ++ soughts es) (standing.after x None y z)
+          (ap (λ (t : Standing). standing.after x None t z) here ∙ after-held x f (counted s None es) z (some-counted s es h))
+          (both ∙ ap (λ (b : Bool). is_found z || b) h ∙ or-true (is_found z) ∙ sym h ∙ found-has f s es ∙ found-pre x f (counted s None es))
+      pick false h =
+          let moved : standing.after x None y z ≡ standing.later x None z =
+          ap (λ (t : Standing). standing.after x None t z) (here ∙ ap (shown false) (none-counted s None es h)) in (
+            both ∙ ap (λ (b : Bool). is_found z || b) h ∙ or-none (is_found z) ∙ found-later x z ∙ sym (ap is_found moved),
+            λ g. moved
+                ∙ ap (standing.later x None) (tells.1 (found-later x z ∙ sym (ap is_found moved) ∙ g))
+                ∙ after-none x f,
+          )
+
+  tail-longer : (x : Entry) (f g : Walks) (F : Place → Type 0) (c : Sum) (t : Tail) → Sums c F f → Tails t g
+      → Tails (tail_before c t) (λ s own. standing.after x (below own x) (f s (below own x)) (g s own))
+  tail-longer x f g F finished t sc st s h =
+      subst (λ (y : Standing). TellsTail t s (standing.after x None y (g s None))) (sym (sc s h None tt)) (st s h)
+  tail-longer x f g F (working true es) t sc st s h =
+      tail-tells true s (pre x (counted s None es)) (soughts es) (standing.after x None (f s None) (g s None))
+      (ap (λ (y : Standing). standing.after x None y (g s None)) (sc s h None tt) ∙ after-endless x (counted s None es) (g s None))
+      (among-soughts s es ∙ found-has true s es ∙ found-pre x true (counted s None es))
+  tail-longer x f g F (working false es) no_tail sc st s h =
+      tail-tells false s (pre x (counted s None es)) (soughts es) (standing.after x None (f s None) (g s None))
+      (ap₂ (standing.after x None) (sc s h None tt) (st s h) ∙ after-last x (counted s None es))
+      (among-soughts s es ∙ found-has false s es ∙ found-pre x false (counted s None es))
+  tail-longer x f g F (working false es) (tail e ss) sc st s h = longer-tells x e es ss s (f s None) (g s None) (sc s h None tt) (st s h)
+
+  two-after : (x : Entry) (s : Sought) (f : Bool) (es : List Placed) (ss : List Sought) (y z : Standing) → y ≡ shown false (counted s None es) → TellsTail (tail f ss) s z
+      → standing.after x None y z ≡ shown f (counted s None (later x es ss ++ under x es))
+  two-after x s f es ss y z here tells =
+      ap (λ (t : Standing). standing.after x None t z) here ∙ pick (has s es) refl (is_found z) refl
+    where
+      pick : (b : Bool) → has s es ≡ b → (t : Bool) → is_found z ≡ t
+          → standing.after x None (shown false (counted s None es)) z ≡ shown f (counted s None (later x es ss ++ under x es))
       pick true h t k =
-          after-held x f (counted s None es) (shown f (counted s None rs)) (some-counted s es h)
-          ∙ ap (shown f) (sym (later-held s x es (under x es) None rs h ∙ counted-under s x None es))
+          after-held x f (counted s None es) z (some-counted s es h)
+          ∙ ap (shown f) (sym (later-held s x es (under x es) None ss h ∙ counted-under s x None es))
       pick false h true k =
-          ap (λ (c : Partner). standing.after x None (shown false c) (shown f (counted s None rs))) (none-counted s None es h)
-          ∙ after-some x f (counted s None rs) (some-counted s rs k)
-          ∙ ap (shown f) (sym (later-some s x es (under x es) rs h (counted-under s x None es ∙ ap (pre x) (none-counted s None es h)) k))
+          ap (λ (c : Partner). standing.after x None (shown false c) z) (none-counted s None es h)
+          ∙ later-found x z k
+          ∙ ap (shown f) (sym (later-some s x es (under x es) ss h (counted-under s x None es ∙ ap (pre x) (none-counted s None es h)) (tells.0 ∙ k)))
       pick false h false k =
-          ap₂ (λ (c r : Partner). standing.after x None (shown false c) (shown f r)) (none-counted s None es h) (none-counted s None rs k)
+          ap₂ (λ (c : Partner) (r : Standing). standing.after x None (shown false c) r) (none-counted s None es h) (tells.1 k)
           ∙ after-none x f
-          ∙ ap (shown f) (sym (later-none s x es (under x es) None rs k ∙ counted-under s x None es ∙ ap (pre x) (none-counted s None es h)))
+          ∙ ap (shown f) (sym (later-none s x es (under x es) None ss (tells.0 ∙ k) ∙ counted-under s x None es ∙ ap (pre x) (none-counted s None es h)))
 
-  after-sums : (x : Entry) (f g : Walks) (Fc Fr F : Place → Type 0) → Enters x f Fc Fr F → Alive f Fc → (c r : Sum) → Sums c Fc f → Sums r Fr g
-      → Sums (after x c r) F (λ s own. standing.after x (below own x) (f s (below own x)) (g s own))
-  after-sums x f g Fc Fr F enters alive finished r sc sr s h None fit =
+  row-sums : (x : Entry) (f g : Walks) (Fc Fr F : Place → Type 0) → Enters x f Fc Fr F → Alive f Fc → (c r : Sum) (t : Tail) → Sums c Fc f → Sums r Fr g → Tails t g
+      → Sums (in_row x c r t) F (λ s own. standing.after x (below own x) (f s (below own x)) (g s own))
+  row-sums x f g Fc Fr F enters alive finished r t sc sr st s h None fit =
       subst (λ (z : Standing). Tells r s None (standing.after x None z (g s None))) (sym (sc s h None tt)) (sr s h None tt)
-  after-sums x f g Fc Fr F enters alive finished r sc sr s h (Some a) fit = elim (enters a fit) [
+  row-sums x f g Fc Fr F enters alive finished r t sc sr st s h (Some a) fit = elim (enters a fit) [
     | inl in_child ↦ absurd (alive in_child.0 in_child.2 s (sc s h (Some in_child.0) in_child.2))
     | inr passed ↦
         subst (λ (z : Standing). Tells r s (Some a) (standing.after x (below (Some a) x) z (g s (Some a)))) (sym (passed.0 s (below (Some a) x))) (sr s h (Some a) passed.1)
   ]
-  after-sums x f g Fc Fr F enters alive (working true es) r sc sr s h None fit =
+  row-sums x f g Fc Fr F enters alive (working true es) r t sc sr st s h None fit =
       ap (λ (z : Standing). standing.after x None z (g s None)) (sc s h None tt)
       ∙ after-endless x (counted s None es) (g s None) ∙ ap (shown true) (sym (counted-under s x None es))
-  after-sums x f g Fc Fr F enters alive (working true es) r sc sr s h (Some a) fit =
+  row-sums x f g Fc Fr F enters alive (working true es) r t sc sr st s h (Some a) fit =
       held-after x f g Fc Fr F true true es (under x es) s a enters sc h fit (λ b. refl)
-  after-sums x f g Fc Fr F enters alive (working false es) finished sc sr s h None fit =
-      ap₂ (standing.after x None) (sc s h None tt) (sr s h None tt) ∙ after-last x (counted s None es) ∙ ap (shown false) (sym (counted-under s x None es))
-  after-sums x f g Fc Fr F enters alive (working false es) finished sc sr s h (Some a) fit =
+  row-sums x f g Fc Fr F enters alive (working false es) r no_tail sc sr st s h None fit =
+      ap₂ (standing.after x None) (sc s h None tt) (st s h) ∙ after-last x (counted s None es) ∙ ap (shown false) (sym (counted-under s x None es))
+  row-sums x f g Fc Fr F enters alive (working false es) r no_tail sc sr st s h (Some a) fit =
       held-after x f g Fc Fr F false false es (under x es) s a enters sc h fit (λ b. refl)
-  after-sums x f g Fc Fr F enters alive (working false es) (working d rs) sc sr s h None fit =
-      two-after x s d es rs (f s None) (g s None) (sc s h None tt) (sr s h None tt)
-  after-sums x f g Fc Fr F enters alive (working false es) (working d rs) sc sr s h (Some a) fit =
-      held-after x f g Fc Fr F false d es (later x es rs ++ under x es) s a enters sc h fit (λ b. later-own s x es (under x es) b rs)
+  row-sums x f g Fc Fr F enters alive (working false es) r (tail d ss) sc sr st s h None fit =
+      two-after x s d es ss (f s None) (g s None) (sc s h None tt) (st s h)
+  row-sums x f g Fc Fr F enters alive (working false es) r (tail d ss) sc sr st s h (Some a) fit =
+      held-after x f g Fc Fr F false d es (later x es ss ++ under x es) s a enters sc h fit (λ b. later-own s x es (under x es) b ss)
+
+  after-sums : (x : Entry) (f g : Walks) (Fc Fr F : Place → Type 0) → Enters x f Fc Fr F → Alive f Fc → (c r : Sum) → Sums c Fc f → Sums r Fr g
+      → Sums (after x c r) F (λ s own. standing.after x (below own x) (f s (below own x)) (g s own))
+  after-sums x f g Fc Fr F enters alive c r sc sr = row-sums x f g Fc Fr F enters alive c r (tail_of r) sc sr (tail-alone r Fr g sr)
 
   -- ---- a branch and those beside it
   abbrev EntersBranch : Entry → Walks → (Place → Type 0) → (Place → Type 0) → (Place → Type 0) → Type 0
@@ -691,8 +772,14 @@ module _ (w : List Bool) where
     turn-codes : (cs : Codes) (n : ℕ) → Sums (sum_in_turn n (codes_sum w cs)) Nowhere (λ s. walk_in_turn n (codes_seen s cs))
     turn-codes no_code n s h own fit = refl
     turn-codes (code c cs) n s h own fit =
-        after-sums (Ordered n) (λ t. code_seen t c) (λ t. walk_in_turn (n + 1) (codes_seen t cs)) Nowhere Nowhere Nowhere (λ a f. absurd f) (λ b f t k. f)
-        (code_sum w c) (sum_in_turn (n + 1) (codes_sum w cs)) (code-sums c) (turn-codes cs (n + 1)) s h own fit
+        row-sums (Ordered n) (λ t. code_seen t c) (λ t. walk_in_turn (n + 1) (codes_seen t cs)) Nowhere Nowhere Nowhere (λ a f. absurd f) (λ b f t k. f)
+        (code_sum w c) (sum_in_turn (n + 1) (codes_sum w cs)) (tail_in_turn (codes_sum w cs)) (code-sums c) (turn-codes cs (n + 1)) (tail-codes cs (n + 1)) s h own fit
+
+    tail-codes : (cs : Codes) (n : ℕ) → Tails (tail_in_turn (codes_sum w cs)) (λ s. walk_in_turn n (codes_seen s cs))
+    tail-codes no_code n s h = refl
+    tail-codes (code c cs) n s h =
+        tail-longer (Ordered n) (λ t. code_seen t c) (λ t. walk_in_turn (n + 1) (codes_seen t cs)) Nowhere (code_sum w c) (tail_in_turn (codes_sum w cs))
+        (code-sums c) (tail-codes cs (n + 1)) s h
 
     abreast-codes : (cs : Codes) (n : ℕ) → Sums (sum_abreast n (codes_sum w cs)) Nowhere (λ s. walk_abreast n (codes_seen s cs))
     abreast-codes no_code n s h own fit = refl
@@ -751,8 +838,15 @@ module _ (w : List Bool) where
     turn-procs : (ps : Procs) (n : ℕ) → Sums (sum_in_turn n (procs_sum w ps)) (FrontsInTurn n ps) (λ s. walk_in_turn n (procs_seen s ps))
     turn-procs no_procs n s h own fit = refl
     turn-procs (proc p ps) n s h own fit =
-        after-sums (Ordered n) (λ t. seen t p) (λ t. walk_in_turn (n + 1) (procs_seen t ps)) (Fronts p) (FrontsInTurn (n + 1) ps) (FrontsInTurn n (proc p ps))
-        (λ a f. enter-turn n p ps a f) (alive p) (proc_sum w p) (sum_in_turn (n + 1) (procs_sum w ps)) (proc-sums p) (turn-procs ps (n + 1)) s h own fit
+        row-sums (Ordered n) (λ t. seen t p) (λ t. walk_in_turn (n + 1) (procs_seen t ps)) (Fronts p) (FrontsInTurn (n + 1) ps) (FrontsInTurn n (proc p ps))
+        (λ a f. enter-turn n p ps a f) (alive p) (proc_sum w p) (sum_in_turn (n + 1) (procs_sum w ps)) (tail_in_turn (procs_sum w ps)) (proc-sums p)
+        (turn-procs ps (n + 1)) (tail-procs ps (n + 1)) s h own fit
+
+    tail-procs : (ps : Procs) (n : ℕ) → Tails (tail_in_turn (procs_sum w ps)) (λ s. walk_in_turn n (procs_seen s ps))
+    tail-procs no_procs n s h = refl
+    tail-procs (proc p ps) n s h =
+        tail-longer (Ordered n) (λ t. seen t p) (λ t. walk_in_turn (n + 1) (procs_seen t ps)) (Fronts p) (proc_sum w p) (tail_in_turn (procs_sum w ps))
+        (proc-sums p) (tail-procs ps (n + 1)) s h
 
     abreast-procs : (ps : Procs) (n : ℕ) → Sums (sum_abreast n (procs_sum w ps)) (FrontsAbreast n ps) (λ s. walk_abreast n (procs_seen s ps))
     abreast-procs no_procs n s h own fit = refl

@@ -98,7 +98,11 @@ nexts-all seen old left row below none h j u = elim (cases_Bool (is_open (slice_
 
 pub nexts-some : (seen : List Seen) (old left : UseTable) (row below next : ℕ) → LastUse left row below next → is_open (slice_get seen next) ≡ true
     → Nexts seen old left row below → NextIn seen old row (Some next)
-nexts-some seen old left row below next last on h = (h.fewer.sound row next last.uses, on)
+nexts-some seen old left row below next last on h = (
+  h.fewer.sound row next last.uses,
+  on,
+  λ k u open_. let there : Uses left row k = h.fewer.kept row k u open_ in last.last k there (h.upto k there (open-within seen k open_)),
+)
 
 -- ---- one for which an action waits
 module _ (waiters : PlaceUses) (xs : List LocalAction) (ps : List Partner) (marks : List Bool) (seen : List Seen) (top : ℕ) where
@@ -166,6 +170,7 @@ module _ (waiters : PlaceUses) (xs : List LocalAction) (ps : List Partner) (mark
           and_from (is_marked (slice_get marks top)) (behind_at (slice_get ps top) (slice_get xs j))
               (and_parts (is_marked (slice_get marks top)) (comes_behind (slice_get ps top)) may).0 (under-behind j s),
           h.1,
+          λ k less w on. h.2 k (opens.kept row k (behind-under k (waits-behind k w)) on) on,
         )
     next-told left None opens may h = λ j less w. elim (cases_Bool (is_open (slice_get seen j))) [
       | inl on ↦ h j (opens.kept row j (behind-under j (waits-behind j w)) on)

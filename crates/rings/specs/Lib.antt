@@ -1,3 +1,4 @@
+pub mod FirstRing
 pub mod Partners
 pub mod Rings
 pub mod internal

@@ -1,4 +1,5 @@
 pub mod Ends
+pub mod FirstSearch
 pub mod Loosened
 pub mod Loosening
 pub mod Placed

@@ -1,5 +1,5 @@
 // The ends of channels that a walk through a tree finds, for all that is sought at once.
-ghost use Rattle.std.specs.Prelude.{◌≡◌, ◌++◌, ◌∷◌, [], IfOk, OnOk};
+ghost use Rattle.std.specs.Prelude.{◌≡◌, ◌++◌, ◌∷◌, [], false, IfOk, OnOk};
 ghost use Rattle.rings.specs.internal.Ends as model;
 
 use crate::sought::Sought;
@@ -35,13 +35,72 @@ impl Model for End {
     ghost view = { λ end. placed end.sought end.place.items end.kind };
 }
 
+/// An end that a walk has found in the part that it looks at. The way to it from the root of that part is kept from its
+/// last entry to the first, so that an entry comes before it without another being moved.
+#[derive(Drop)]
+pub(crate) struct Found {
+    pub(crate) sought: Sought,
+    way: Vec<Entry>,
+    kind: Kind,
+}
+
+impl Model for Found {
+    ghost use Rattle.std.specs.Prelude.{reverse};
+    ghost use Rattle.rings.specs.internal.Placed.{Placed, placed};
+
+    ghost Value = { Placed };
+
+    ghost view = { λ found. placed found.sought (reverse found.way.items) found.kind };
+}
+
 /// What a walk has found in a part of a tree.
 #[derive(Drop)]
 pub(crate) enum Summary {
     /// nothing is left to do there
     Over,
     /// something is: whether it never ends, and the ends there
-    AtWork(bool, Vec<End>),
+    AtWork(bool, Vec<Found>),
+    /// a loop: whether it never ends, and what is sought in its turns. A loop around it takes this list as it is.
+    InTurns(bool, Vec<Sought>),
+}
+
+/// The ends with their places.
+pub(crate) fn placed_ends(alloc: Global, found: Summary) -> Result<Vec<End>, AllocError>
+    ensures { IfOk result (λ ends. ends.items ≡ model.ends_in (model.sum_of found)) }
+{
+    match found {
+        Summary::Over => Ok(Vec::new(alloc)),
+        Summary::AtWork(_, ends) => all_placed(alloc, ends),
+        Summary::InTurns(_, soughts) => all_placed(alloc, within(alloc, soughts.as_slice())?),
+    }
+}
+
+/// These ends with their places.
+fn all_placed(alloc: Global, found: Vec<Found>) -> Result<Vec<End>, AllocError>
+    ensures { IfOk result (λ ends. ends.items ≡ found.items) }
+{
+    let mut ends = Vec::with_capacity(alloc, found.len())?;
+    for one in found {
+        ends.push(one_placed(one))?;
+    }
+    Ok(ends)
+}
+
+/// The end with its place.
+fn one_placed(one: Found) -> End
+    ensures { result ≡ one }
+{
+    let Found {
+        sought,
+        way: mut place,
+        kind,
+    } = one;
+    place.reverse();
+    End {
+        sought,
+        place,
+        kind,
+    }
 }
 
 /// What is left to do here, of which nothing is sought.
@@ -74,7 +133,7 @@ pub(crate) fn add_both(
     channel: u32,
     one: Sought,
     other: Sought,
-    ends: &mut Vec<End>,
+    ends: &mut Vec<Found>,
 ) -> Result<(), AllocError>
     ensures { OnOk result (ends.new.items
         ≡ ends.old.items ++ model.if_wanted wanted.now channel (model.there one ∷ model.there other ∷ [])) }
@@ -87,12 +146,12 @@ pub(crate) fn add_both(
 }
 
 /// An end that is there.
-fn there(alloc: Global, sought: Sought) -> End
+fn there(alloc: Global, sought: Sought) -> Found
     ensures { result ≡ model.there sought }
 {
-    End {
+    Found {
         sought,
-        place: Vec::new(alloc),
+        way: Vec::new(alloc),
         kind: Kind::There,
     }
 }
@@ -102,13 +161,14 @@ pub(crate) fn add_here(
     alloc: Global,
     kind: Kind,
     part: &Summary,
-    ends: &mut Vec<End>,
+    ends: &mut Vec<Found>,
 ) -> Result<(), AllocError>
     ensures { OnOk result (ends.new.items ≡ ends.old.items ++ model.here kind (model.sum_of part.now)) }
 {
     match part {
         Summary::Over => Ok(()),
         Summary::AtWork(_, others) => add_all_here(alloc, kind, others.as_slice(), ends),
+        Summary::InTurns(_, soughts) => add_each_here(alloc, kind, soughts.as_slice(), ends),
     }
 }
 
@@ -116,94 +176,95 @@ pub(crate) fn add_here(
 fn add_all_here(
     alloc: Global,
     kind: Kind,
-    others: &[End],
-    ends: &mut Vec<End>,
+    others: &[Found],
+    ends: &mut Vec<Found>,
 ) -> Result<(), AllocError>
     ensures { OnOk result (ends.new.items ≡ ends.old.items ++ model.all_here kind others.now) }
 {
     for other in others {
-        ends.push(End {
+        ends.push(Found {
             sought: other.sought,
-            place: Vec::new(alloc),
+            way: Vec::new(alloc),
             kind,
         })?;
     }
     Ok(())
 }
 
+/// Adds ends where each of these is sought as those that come from somewhere here.
+fn add_each_here(
+    alloc: Global,
+    kind: Kind,
+    soughts: &[Sought],
+    ends: &mut Vec<Found>,
+) -> Result<(), AllocError>
+    ensures { OnOk result (ends.new.items
+        ≡ ends.old.items ++ model.all_here kind (model.within soughts.now)) }
+{
+    for sought in soughts {
+        ends.push(Found {
+            sought: *sought,
+            way: Vec::new(alloc),
+            kind,
+        })?;
+    }
+    Ok(())
+}
+
+/// The ends in turns in which these are sought.
+#[tactic(auto, using(crate::proofs::Turns::here_within))]
+pub(crate) fn within(alloc: Global, soughts: &[Sought]) -> Result<Vec<Found>, AllocError>
+    ensures { IfOk result (λ ends. ends.items ≡ model.within soughts.now) }
+{
+    let mut ends = Vec::with_capacity(alloc, soughts.len())?;
+    add_each_here(alloc, Kind::Within, soughts, &mut ends)?;
+    Ok(ends)
+}
+
 /// In the turns of a loop with this body.
-pub(crate) fn in_turns(alloc: Global, endless: bool, body: &Summary) -> Result<Summary, AllocError>
-    ensures { IfOk result (λ made. model.sum_of made ≡ model.in_turns endless (model.sum_of body.now)) }
+#[tactic(auto, using(crate::proofs::Turns::here_within))]
+pub(crate) fn in_turns(alloc: Global, endless: bool, body: Summary) -> Result<Summary, AllocError>
+    ensures { IfOk result (λ made. model.sum_of made ≡ model.in_turns endless (model.sum_of body)) }
 {
-    let mut ends = Vec::new(alloc);
-    add_here(alloc, Kind::Within, body, &mut ends)?;
-    Ok(Summary::AtWork(endless, ends))
-}
-
-/// In the child at this entry, or in what comes behind it.
-pub(crate) fn after(
-    alloc: Global,
-    entry: Entry,
-    child: Summary,
-    rest: Summary,
-) -> Result<Summary, AllocError>
-    ensures { IfOk result (λ made.
-        model.sum_of made ≡ model.after entry (model.sum_of child) (model.sum_of rest)) }
-{
-    match child {
-        Summary::Over => Ok(rest),
-        Summary::AtWork(endless, ends) => {
-            behind_work(alloc, entry, endless, ends.as_slice(), &rest)
-        }
+    match body {
+        Summary::Over => Ok(none_here(alloc, endless)),
+        Summary::AtWork(_, ends) => sought_in_turns(alloc, endless, ends.as_slice()),
+        Summary::InTurns(_, soughts) => Ok(Summary::InTurns(endless, soughts)),
     }
 }
 
-/// In the child at this entry, where these ends are and something is left to do, or in what comes behind it.
-fn behind_work(
-    alloc: Global,
-    entry: Entry,
-    endless: bool,
-    ends: &[End],
-    rest: &Summary,
-) -> Result<Summary, AllocError>
+/// In the turns of a loop with these ends in its body.
+#[tactic(auto, using(crate::proofs::Turns::here_soughts))]
+fn sought_in_turns(alloc: Global, endless: bool, ends: &[Found]) -> Result<Summary, AllocError>
     ensures { IfOk result (λ made.
-        model.sum_of made ≡ model.behind_work entry endless ends.now (model.sum_of rest.now)) }
+        model.sum_of made ≡ model.in_turns endless (model.working false ends.now)) }
 {
-    if endless {
-        return at_entry(alloc, entry, true, ends);
+    let mut soughts = Vec::with_capacity(alloc, ends.len())?;
+    add_soughts(ends, &mut soughts)?;
+    Ok(Summary::InTurns(endless, soughts))
+}
+
+/// Adds what is sought at these ends.
+pub(crate) fn add_soughts(ends: &[Found], soughts: &mut Vec<Sought>) -> Result<(), AllocError>
+    ensures { OnOk result (soughts.new.items ≡ soughts.old.items ++ model.soughts ends.now) }
+{
+    for end in ends {
+        soughts.push(end.sought)?;
     }
-    match rest {
-        Summary::Over => at_entry(alloc, entry, false, ends),
-        Summary::AtWork(endless, others) => {
-            both_in_turn(alloc, entry, ends, *endless, others.as_slice())
-        }
-    }
+    Ok(())
 }
 
 /// In the child at this entry alone.
-fn at_entry(alloc: Global, entry: Entry, endless: bool, ends: &[End]) -> Result<Summary, AllocError>
-    ensures { IfOk result (λ made. model.sum_of made ≡ model.working endless (model.under entry ends.now)) }
-{
-    let mut all = Vec::new(alloc);
-    add_under(alloc, entry, ends, &mut all)?;
-    Ok(Summary::AtWork(endless, all))
-}
-
-/// In the child at this entry, and behind it what is not in it.
-fn both_in_turn(
+pub(crate) fn at_entry(
     alloc: Global,
     entry: Entry,
-    ends: &[End],
     endless: bool,
-    others: &[End],
+    ends: Vec<Found>,
 ) -> Result<Summary, AllocError>
-    ensures { IfOk result (λ made.
-        model.sum_of made
-        ≡ model.working endless (model.later entry ends.now others.now ++ model.under entry ends.now)) }
+    ensures { IfOk result (λ made. model.sum_of made ≡ model.working endless (model.under entry ends.items)) }
 {
-    let mut all = Vec::new(alloc);
-    add_later(alloc, entry, ends, others, &mut all)?;
-    add_under(alloc, entry, ends, &mut all)?;
+    let mut all = Vec::with_capacity(alloc, ends.len())?;
+    add_under(entry, ends, &mut all)?;
     Ok(Summary::AtWork(endless, all))
 }
 
@@ -219,8 +280,10 @@ pub(crate) fn beside(
 {
     match child {
         Summary::Over => Ok(rest),
-        Summary::AtWork(endless, ends) => {
-            beside_work(alloc, entry, endless, ends.as_slice(), rest)
+        Summary::AtWork(endless, ends) => beside_work(alloc, entry, endless, ends, rest),
+        Summary::InTurns(endless, soughts) => {
+            let ends = within(alloc, soughts.as_slice())?;
+            beside_work(alloc, entry, endless, ends, rest)
         }
     }
 }
@@ -230,89 +293,62 @@ fn beside_work(
     alloc: Global,
     entry: Entry,
     endless: bool,
-    ends: &[End],
+    ends: Vec<Found>,
     rest: Summary,
 ) -> Result<Summary, AllocError>
     ensures { IfOk result (λ made.
-        model.sum_of made ≡ model.beside_work entry endless ends.now (model.sum_of rest)) }
+        model.sum_of made ≡ model.beside_work entry endless ends.items (model.sum_of rest)) }
 {
     match rest {
         Summary::Over => at_entry(alloc, entry, endless, ends),
         Summary::AtWork(other, mut all) => {
-            add_under(alloc, entry, ends, &mut all)?;
+            add_under(entry, ends, &mut all)?;
+            Ok(Summary::AtWork(endless || other, all))
+        }
+        Summary::InTurns(other, soughts) => {
+            let mut all = within(alloc, soughts.as_slice())?;
+            add_under(entry, ends, &mut all)?;
             Ok(Summary::AtWork(endless || other, all))
         }
     }
 }
 
 /// Adds the ends of the child at this entry.
-fn add_under(
-    alloc: Global,
+pub(crate) fn add_under(
     entry: Entry,
-    others: &[End],
-    ends: &mut Vec<End>,
+    others: Vec<Found>,
+    ends: &mut Vec<Found>,
 ) -> Result<(), AllocError>
-    ensures { OnOk result (ends.new.items ≡ ends.old.items ++ model.under entry others.now) }
+    ensures { OnOk result (ends.new.items ≡ ends.old.items ++ model.under entry others.items) }
 {
     for other in others {
-        ends.push(farther(alloc, entry, other)?)?;
+        ends.push(farther(entry, other)?)?;
     }
     Ok(())
 }
 
 /// An end behind an entry.
-fn farther(alloc: Global, entry: Entry, one: &End) -> Result<End, AllocError>
-    ensures { IfOk result (λ made. made ≡ model.farther entry one.now) }
+fn farther(entry: Entry, one: Found) -> Result<Found, AllocError>
+    ensures { IfOk result (λ made. made ≡ model.farther entry one) }
 {
-    let mut place = Vec::with_capacity(alloc, one.place.len().saturating_add(1))?;
-    place.push(entry)?;
-    place.extend_from_slice(one.place.as_slice())?;
-    Ok(End {
-        sought: one.sought,
-        place,
-        kind: one.kind,
-    })
-}
-
-/// Adds the ends that come behind the child at this entry, but for those that are in the child.
-fn add_later(
-    alloc: Global,
-    entry: Entry,
-    child: &[End],
-    others: &[End],
-    ends: &mut Vec<End>,
-) -> Result<(), AllocError>
-    ensures { OnOk result (ends.new.items ≡ ends.old.items ++ model.later entry child.now others.now) }
-{
-    for other in others {
-        if !has(other.sought, child) {
-            ends.push(behind_entry(alloc, entry, other.sought)?)?;
-        }
-    }
-    Ok(())
+    let Found {
+        sought,
+        mut way,
+        kind,
+    } = one;
+    way.push(entry)?;
+    Ok(Found { sought, way, kind })
 }
 
 /// An end that comes behind what stands at this entry.
-fn behind_entry(alloc: Global, entry: Entry, sought: Sought) -> Result<End, AllocError>
+pub(crate) fn behind_entry(alloc: Global, entry: Entry, sought: Sought) -> Result<Found, AllocError>
     ensures { IfOk result (λ made. made ≡ model.behind_entry entry sought) }
 {
-    let mut place = Vec::new(alloc);
-    place.push(entry)?;
-    Ok(End {
+    let mut way = Vec::new(alloc);
+    way.push(entry)?;
+    Ok(Found {
         sought,
-        place,
+        way,
         kind: Kind::Later,
     })
-}
-
-/// Whether one of the ends is what is sought.
-fn has(sought: Sought, ends: &[End]) -> bool
-    ensures { result ≡ model.has sought ends.now }
-{
-    for end in ends {
-        if sought.is_same(end.sought) {
-            return true;
-        }
-    }
-    false
 }

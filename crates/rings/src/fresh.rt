@@ -5,8 +5,9 @@ ghost use Rattle.process_tree.specs.View.{await_view, code_view, once_view, repe
 ghost use Rattle.rings.specs.internal.Ends as model;
 
 use crate::ends::{
-    End, Kind, Summary, add_both, add_here, after, beside, in_turns, none_here, one_here,
+    Found, Kind, Summary, add_both, add_here, beside, in_turns, none_here, one_here,
 };
+use crate::line::{Line, in_line, with_first};
 use crate::sought::Sought;
 use crate::way::{branch, ordered};
 use process_tree::{Await, Code, Once, Repeat, Sender};
@@ -91,7 +92,7 @@ pub(crate) fn look_again(
         ≡ model.again_sum wanted.now (repeat_view repeat.now).0 (repeat_view repeat.now).1) }
 {
     let body = look_fresh(alloc, &repeat.body, wanted)?;
-    in_turns(alloc, repeat.guard.is_none(), &body)
+    in_turns(alloc, repeat.guard.is_none(), body)
 }
 
 /// The ends in the arms of a test.
@@ -138,7 +139,7 @@ fn add_arms(
     alloc: Global,
     channels: &[u32],
     wanted: &[bool],
-    ends: &mut Vec<End>,
+    ends: &mut Vec<Found>,
 ) -> Result<(), AllocError>
     ensures { OnOk result (ends.new.items ≡ ends.old.items ++ model.arm_ends wanted.now channels.now) }
 {
@@ -162,7 +163,7 @@ fn gather(
     codes: &[Code],
     kind: Kind,
     wanted: &[bool],
-    ends: &mut Vec<End>,
+    ends: &mut Vec<Found>,
 ) -> Result<(), AllocError>
     ensures { OnOk result (ends.new.items
         ≡ ends.old.items ++ model.gathered kind (model.codes_sum wanted.now (row_of (map code_view codes.now)))) }
@@ -181,15 +182,15 @@ fn look_in_turn(alloc: Global, codes: &[Code], wanted: &[bool]) -> Result<Summar
         model.sum_of found
         ≡ model.sum_in_turn 0 (model.codes_sum wanted.now (row_of (map code_view codes.now)))) }
 {
-    let mut found = Summary::Over;
+    let mut line = Line::Over;
     let mut number = codes.len();
     'children: while number > 0 {
         number -= 1;
         let entry = ordered(number as u64)?;
         let child = look_fresh(alloc, &codes[number], wanted)?;
-        found = after(alloc, entry, child, found)?;
+        line = with_first(alloc, entry, child, line)?;
     }
-    Ok(found)
+    in_line(alloc, line)
 }
 
 /// The ends in commands side by side.

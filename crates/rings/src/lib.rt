@@ -7,6 +7,8 @@ mod counts;
 mod deadlock;
 mod ends;
 mod fresh;
+mod laws;
+mod line;
 mod look;
 mod partner;
 mod place_uses;
@@ -18,5 +20,6 @@ mod wanted;
 mod way;
 
 pub use deadlock::deadlocked_among;
+pub use laws::first_rings_are_one;
 pub use partner::{Partner, partners_of};
 pub use ring::ring_among;

@@ -8,8 +8,9 @@ ghost use Rattle.process_tree.specs.View.{await_view, begun_of, decide_view, onc
 ghost use Rattle.process_tree.specs.internal.Parts.{gate_view, tested_view, turns_view};
 ghost use Rattle.rings.specs.internal.Ends as model;
 
-use crate::ends::{Summary, after, beside, none_here, one_here};
+use crate::ends::{Summary, beside, none_here, one_here};
 use crate::fresh::{look_again, look_arms, look_fresh, look_tests, look_unmade, look_waiting};
+use crate::line::{Line, after, in_line, with_first};
 use crate::sought::Sought;
 use crate::way::{branch, ordered};
 use local_actions::body_of_turn;
@@ -200,16 +201,18 @@ fn look_sequence(
         model.sum_of found
         ≡ model.proc_sum wanted.now (proc.sequence (begun_of (map proc_view begun.now) (row_view row.now)))) }
 {
-    let mut found = Summary::Over;
+    let mut line = Line::Over;
     let mut number = row.codes.len();
     'children: while number > 0 {
         number -= 1;
-        found = look_number(alloc, begun, row, number, wanted, found)?;
+        let entry = ordered(number as u64)?;
+        let child = look_number(alloc, begun, row, number, wanted)?;
+        line = with_first(alloc, entry, child, line)?;
     }
-    Ok(found)
+    in_line(alloc, line)
 }
 
-/// The ends in the child of this number of a sequence, or in what comes behind it.
+/// The ends in the child of this number of a sequence.
 #[cycle(look)]
 fn look_number(
     alloc: Global,
@@ -217,19 +220,16 @@ fn look_number(
     row: &Row,
     number: usize,
     wanted: &[bool],
-    rest: Summary,
 ) -> Result<Summary, AllocError>
     requires { number < length row.now.codes }
     ensures { IfOk result (λ found.
         model.SumAt wanted.now (begun_of (map proc_view begun.now) (row_view row.now)) number
-        (model.sum_of rest) (model.sum_of found)) }
+        (model.sum_of found)) }
 {
     if number < begun.len() {
-        return look_child(alloc, &begun[number], number as u64, wanted, rest);
+        return look(alloc, &begun[number], wanted);
     }
-    let entry = ordered(number as u64)?;
-    let found = look_fresh(alloc, &row.codes.as_slice()[number], wanted)?;
-    after(alloc, entry, found, rest)
+    look_fresh(alloc, &row.codes.as_slice()[number], wanted)
 }
 
 /// The ends in branches.

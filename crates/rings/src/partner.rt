@@ -11,7 +11,7 @@ ghost use Rattle.rings.specs.Partners.{partner_in};
 ghost use Rattle.rings.specs.internal.Ends as model;
 
 use crate::among::among;
-use crate::ends::{End, Summary};
+use crate::ends::{End, placed_ends};
 use crate::look::look;
 use crate::sought::Sought;
 use crate::wanted::{uses_of, wanted_by};
@@ -47,10 +47,8 @@ pub fn partners_of(
 {
     let wanted = wanted_by(alloc, actions)?;
     let found = look(alloc, tree.root(), wanted.as_slice())?;
-    match &found {
-        Summary::Over => partners_among(alloc, &[], actions),
-        Summary::AtWork(_, ends) => partners_among(alloc, ends.as_slice(), actions),
-    }
+    let ends = placed_ends(alloc, found)?;
+    partners_among(alloc, ends.as_slice(), actions)
 }
 
 /// For each of the actions its partner among the ends.

@@ -2,9 +2,11 @@
 ghost use Rattle.std.specs.Prelude.{◌≡◌, ◌<◌, ℕ, List, [], true, length, slice_get, slice_set, drop, Some, map, IfOk, MatchOption};
 ghost use Rattle.syntax.specs.Lists.{In};
 ghost use Rattle.system.specs.Residual.{Residual};
+ghost use Rattle.rings.specs.FirstRing.{IsFirstRing};
 ghost use Rattle.rings.specs.Partners.{partner_in};
 ghost use Rattle.rings.specs.Rings.{Helped, TellsDeadlocked, TellsRing};
 ghost use Rattle.local_actions.specs.declared.action.LocalAction as any;
+ghost use Rattle.rings.specs.internal.FirstSearch as found;
 ghost use Rattle.rings.specs.internal.Search as model;
 ghost use Rattle.rings.specs.internal.Standing.{HasAbove, HasTables, HasWaiters, Sound, row_of};
 ghost use Rattle.rings.specs.internal.Trails as trails;
@@ -38,8 +40,9 @@ struct Trail {
 
 /// The indexes of actions whose places are a ring of deadlocked ones, each once, where these are the partners of the
 /// actions, and `marks` says which are deadlocked, in their order: each action waits for the place of the next, and the
-/// last for that of the first. None where there is no ring. It takes as many steps as their places have entries, each by
-/// halves. It is an error if there is no memory.
+/// last for that of the first. None where there is no ring. Where there are several it is the one that a search from
+/// the first action on comes to first, so it depends on what is given alone. It takes as many steps as their places
+/// have entries, each by halves. It is an error if there is no memory.
 pub fn ring_among(
     alloc: Global,
     actions: &[LocalAction],
@@ -47,8 +50,9 @@ pub fn ring_among(
     marks: &[bool],
 ) -> Result<Vec<usize>, AllocError>
     requires { length partners.now ≡ length actions.now }
-    ensures { (r : Residual) (help : Helped) → partners.now ≡ map (partner_in r) actions.now
+    ensures ring { (r : Residual) (help : Helped) → partners.now ≡ map (partner_in r) actions.now
         → TellsDeadlocked help r actions.now marks.now → IfOk result (λ ring. TellsRing help r actions.now ring.items) }
+    ensures first { IfOk result (λ ring. IsFirstRing actions.now partners.now marks.now ring.items) }
 {
     ring_of_indexes(alloc, actions, partners, marks)
 }
@@ -61,9 +65,10 @@ fn ring_of_indexes(
     marks: &[bool],
 ) -> Result<Vec<usize>, AllocError>
     requires { length partners.now ≡ length actions.now }
-    ensures { IfOk result (λ ring.
+    ensures ring { IfOk result (λ ring.
         model.Names (length actions.now) (model.waits actions.now partners.now marks.now) (model.same_at actions.now)
         ring.items) }
+    ensures first { IfOk result (λ ring. IsFirstRing actions.now partners.now marks.now ring.items) }
 {
     let tables = Tables::of(alloc, actions, partners)?;
     let mut trail = trail_of(alloc, &tables, actions)?;
@@ -111,7 +116,7 @@ fn all_new(alloc: Global, count: usize) -> Result<Vec<Seen>, AllocError>
     Ok(vec![in alloc; Seen::New; count]?)
 }
 
-/// A ring that is found on the ways from this action on.
+/// The first ring that is found on the ways from this action on.
 fn ring_from(
     alloc: Global,
     actions: &[LocalAction],
@@ -124,12 +129,15 @@ fn ring_from(
     requires sizes { length partners.now ≡ length actions.now }
     requires tables { HasTables tables.now actions.now partners.now }
     requires start { slice_get trail.old.seen.items start ≡ Some Seen.New }
+    requires before { (i : ℕ) → i < start → slice_get trail.old.seen.items i ≡ Some Seen.New → ⊥ }
     requires so_far { model.Searching (length actions.now) (model.waits actions.now partners.now marks.now)
         (model.same_at actions.now) trail.old.seen.items [] }
     requires sound { trails.SoundTrail tables.now actions.now trail.old [] }
     ensures ring { IfOk result (λ ring.
         model.Searched (length actions.now) (model.waits actions.now partners.now marks.now) (model.same_at actions.now)
         trail.old.seen.items trail.new.seen.items start ring.items) }
+    ensures first { (before : List ℕ) → found.DoneAt trail.old.seen.items before → IfOk result (λ ring.
+        found.EndsWith actions.now partners.now marks.now before trail.new.seen.items ring.items) }
     ensures sound { IfOk result (λ ring. trails.SoundTrail tables.now actions.now trail.new []) }
 {
     let mut way = Vec::new(alloc);

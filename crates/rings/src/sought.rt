@@ -49,6 +49,18 @@ impl Sought {
         }
     }
 
+    /// A number that nothing else has.
+    pub(crate) fn number(self) -> u64
+        ensures { result ≡ ends.number_of self }
+    {
+        match self {
+            Sought::Receiver(channel) => 4 * u64::from(channel),
+            Sought::Sender(channel) => 4 * u64::from(channel) + 1,
+            Sought::Partner(channel) => 4 * u64::from(channel) + 2,
+            Sought::Close(channel) => 4 * u64::from(channel) + 3,
+        }
+    }
+
     /// Whether both are one.
     pub(crate) fn is_same(self, other: Sought) -> bool
         ensures { result ≡ ends.same_sought self other }

@@ -1,3 +1,5 @@
 pub mod public
+mod ForkLaws
+mod HeldLaws
 mod RaceLaws
 mod SinceLaws

@@ -21,8 +21,7 @@ use Rattle.dependence.proofs.public.Standing.{index-rises}
 use Rattle.dependence.proofs.public.Tabling.{one-at, place-is, put-only}
 use Rattle.run_depths.specs.Depths.{AreDepths, StandsAt}
 use Rattle.run_depths.specs.Since.{AreSince, IsEventSince, IsPlaceAt, IsSince}
-use Rattle.run_depths.specs.internal.Greatest.{AreGreatest, GreatestTo}
-use Rattle.run_depths.specs.internal.PlacesHeld.{BehindLast, GreatestBehind, HoldsTo, SinceFrom, SinceTo, WithEvent}
+use Rattle.run_depths.specs.internal.PlacesHeld.{BehindLast, GreatestBehind, HoldsTo, SinceTo}
 use Rattle.run_depths.proofs.public.Deepening.{in-here, in-next, in-still, one-place}
 
 -- ---- how places of live events stand to one another
@@ -223,39 +222,6 @@ held-then l n t e old new holds at put b i one =
       | inr own ↦ subst (λ (k : ℕ). IsPlaceAt l k b) (sym own.1) (t, e, at, inl own.0)
     ]
 
--- ---- behind all events
-
--- an index counts from the end
-pub since-start : (l : Live) (depths : List ℕ) (a : Place) → AreDepths l depths → SinceFrom l depths a (length l) 0
-since-start l depths a are = record {
-  above = λ i b high at before. let within : i < length l = slice_get_within l i (at.0, at.1) at.2 in absurd (omega arith);
-  reached = inl refl;
-}
-
-pub since-earlier : (l : Live) (depths : List ℕ) (a : Place) (k t d m : ℕ) (e : Event) → slice_get l k ≡ Some (t, e) → SinceFrom l depths a (k + 1) d →
-    WithEvent (get_or depths k 0) e a d m → SinceFrom l depths a k m
-since-earlier l depths a k t d m e at from more = record {
-  above = λ i b high one before.
-      elim (cases_lt k i) [
-        | inl after ↦ let deep = from.above i b (omega arith) one before in let kept = more.kept in omega arith
-        | inr low ↦
-            let is : i ≡ k = omega arith in
-            let there : In b (places e) = place-at l k t e b at (subst (λ (n : ℕ). IsPlaceAt l n b) is one) in
-            subst (λ (n : ℕ). get_or depths n 0 < m) (sym is) (more.above (b, there, before))
-      ];
-  reached =
-      elim more.reached [
-        | inl still ↦ elim from.reached [
-          | inl none ↦ inl (still ∙ none)
-          | inr some ↦ inr (some.0, some.1, some.2, some.3, still ∙ some.4)
-        ]
-        | inr new ↦ inr (k, new.0.0, (t, e, at, new.0.1), new.0.2, new.1)
-      ];
-}
-
-pub since-at-start : (l : Live) (depths : List ℕ) (a : Place) (d : ℕ) → SinceFrom l depths a 0 d → IsSince l depths a d
-since-at-start l depths a d from = record { above = λ i b at before. from.above i b (omega arith) at before; reached = from.reached }
-
 -- ---- the greatest
 
 pub greatest-none : (depths : List ℕ) → GreatestBehind depths [] 0
@@ -342,60 +308,3 @@ pub found-inside : (depths : List ℕ) (table : PlaceTable) (a : Place) (before 
 found-inside depths table a before found shown inside none last is i within =
     let told = found-last table a before found shown none last is in
     elim (told.sound i within) [ inl nothing ↦ absurd nothing | inr one ↦ inside one.0 i one.1 ]
-
--- ---- the greatest depths
-
-number-more : (xs : List ℕ) (x k : ℕ) → k < length xs → get_or (xs ++ x ∷ []) k 0 ≡ get_or xs k 0
-number-more [] x k h = absurd (omega arith)
-number-more (y ∷ xs) x zero h = refl
-number-more (y ∷ xs) x (suc k) h = let less : k < length xs = omega arith in number-more xs x k less
-
-number-end : (xs : List ℕ) (x k : ℕ) → k ≡ length xs → get_or (xs ++ x ∷ []) k 0 ≡ x
-number-end [] x zero h = refl
-number-end [] x (suc k) h = absurd (omega arith)
-number-end (y ∷ xs) x zero h = absurd (omega arith)
-number-end (y ∷ xs) x (suc k) h = let same : k ≡ length xs = omega arith in number-end xs x k same
-
-pub no-depth : (depths : List ℕ) (m : ℕ) → GreatestTo depths 0 [] m
-no-depth depths m = record {
-  size = refl;
-  each = λ i j up less. absurd (omega arith);
-  last = λ j less. absurd (omega arith);
-}
-
-pub depth-pushed : (depths most new : List ℕ) (n g d m : ℕ) → GreatestTo depths n most g → d ≡ get_or depths n 0 → m ≡ max g d →
-    new ≡ most ++ m ∷ [] → GreatestTo depths (n + 1) new m
-depth-pushed depths most new n g d m to at-end is made =
-    let was : length most ≡ n = to.size in
-    let all : (j : ℕ) → j < n + 1 → get_or depths j 0 ≤ m =
-    λ j less. elim (cases_lt j n) [
-      | inl low ↦ let small = to.last j low in omega arith
-      | inr high ↦
-          let at : j ≡ n = omega arith in
-          let same : get_or depths j 0 ≡ d = ap (λ (k : ℕ). get_or depths k 0) at ∙ sym at-end in
-          omega arith
-    ] in
-    subst (λ (xs : List ℕ). GreatestTo depths (n + 1) xs m) (sym made)
-    (record {
-      size = let parts = length-append most (m ∷ []) in omega arith;
-      each = λ i j up less.
-          elim (cases_lt i n) [
-            | inl low ↦
-                let within : i < length most = omega arith in
-                let same : get_or (most ++ m ∷ []) i 0 ≡ get_or most i 0 = number-more most m i within in
-                let small = to.each i j up low in
-                omega arith
-            | inr high ↦
-                let last : i ≡ length most = omega arith in
-                let same : get_or (most ++ m ∷ []) i 0 ≡ m = number-end most m i last in
-                let below : j < n + 1 = omega arith in
-                let small = all j below in
-                omega arith
-          ];
-      last = all;
-    })
-
-pub depths-ended : (depths most : List ℕ) (n m : ℕ) → length depths ≤ n → n ≤ length depths → GreatestTo depths n most m → AreGreatest depths most
-depths-ended depths most n m past within to =
-    let was : length most ≡ n = to.size in
-    record { size = omega arith; each = λ i j up less. let low : i < n = omega arith in to.each i j up low }

@@ -1,3 +1,3 @@
-pub mod Greatest
+pub mod Held
 pub mod PlacesHeld
 pub mod RacesSoFar

@@ -1,5 +1,5 @@
 // Depths.
-ghost use Rattle.std.specs.Prelude.{ℕ, ◌≡◌, ◌≤◌, ◌<◌, length, max, IfOk};
+ghost use Rattle.std.specs.Prelude.{ℕ, ◌≡◌, ◌+◌, ◌≤◌, ◌<◌, length, max, slice_index, IfOk};
 ghost use Rattle.runs.specs.Live.{IsLive};
 ghost use Rattle.dependence.specs.Followers.{Follower};
 ghost use Rattle.run_depths.specs.Depths.{AreDepths, IsDepth, StandsAt, AreBelow, IsBehind};
@@ -61,4 +61,14 @@ fn depth_behind(live: &Live, depths: &[usize], ticket: u64) -> usize
         Some(index) => depths[index] + 1,
         None => unreachable!(),
     }
+}
+
+/// One more than the depth of the event at an index.
+pub(crate) fn depth_after(depths: &[usize], index: usize) -> usize
+    requires inside { index < length depths.now }
+    requires small { AreBelow depths.now }
+    ensures depth { result ≡ slice_index depths.now index + 1 }
+    ensures small { result ≤ length depths.now }
+{
+    depths[index] + 1
 }

@@ -4,12 +4,12 @@
 
 mod ahead;
 mod depth;
-mod greatest;
+mod held;
 mod races;
 mod since;
 
 pub use ahead::all_ahead;
 pub use depth::depths_of;
-pub use greatest::greatest_depths;
+pub use held::{HeldPlaces, held_places, since_now};
 pub use races::{Race, races_of};
-pub use since::{all_since, since_now};
+pub use since::all_since;

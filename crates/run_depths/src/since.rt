@@ -7,11 +7,10 @@ ghost use Rattle.runs.specs.Moves.{Place};
 ghost use Rattle.dependence.specs.internal.Tabled.{Placed};
 ghost use Rattle.run_depths.specs.Depths.{AreBelow, AreDepths};
 ghost use Rattle.run_depths.specs.Since.{AreSince, IsEventSince, IsSince};
-ghost use Rattle.run_depths.specs.internal.Greatest.{AreGreatest};
-ghost use Rattle.run_depths.specs.internal.PlacesHeld.{BehindLast, GreatestBehind, HasBefore, HoldsTo, WithEvent};
+ghost use Rattle.run_depths.specs.internal.PlacesHeld.{BehindLast, GreatestBehind, HoldsTo};
 
-use crate::depth::larger;
-use address::{Address, before};
+use crate::depth::{depth_after, larger};
+use address::Address;
 use dependence::Live;
 use last_events::PlaceTable;
 use runs::Event;
@@ -69,65 +68,6 @@ fn event_since(
     }
 }
 
-/// From which depth on a place may be stood at behind all live events, where `most` are their `greatest_depths`. It
-/// looks at the last ones first, and ends where none before is as deep.
-pub fn since_now(live: &Live, depths: &[usize], most: &[usize], place: &Address) -> usize
-    requires depths { AreDepths live.now.live depths.now }
-    requires small { AreBelow depths.now }
-    requires most { AreGreatest depths.now most.now }
-    ensures { IsSince live.now.live depths.now place.now result }
-{
-    let count = live.len();
-    let mut since = 0;
-    for back in 0..count {
-        let index = count - 1 - back;
-        if most[index] < since {
-            return since;
-        }
-        since = with_event(depths, index, event_at(live, index), place, since);
-    }
-    since
-}
-
-/// The live event at this index.
-fn event_at(live: &Live, index: usize) -> &Event
-    requires { index < length live.now.live }
-    ensures { (t : ℕ) × (slice_get live.now.live index ≡ Some (t, result.now)) }
-{
-    match live.pair_at(index as u64) {
-        Some((_, event)) => event,
-        None => unreachable!(),
-    }
-}
-
-/// The greater of what is known and what stands behind the event at an index, if it has a place before this one.
-fn with_event(depths: &[usize], index: usize, event: &Event, place: &Address, since: usize) -> usize
-    requires inside { index < length depths.now }
-    requires small { AreBelow depths.now }
-    ensures { WithEvent (slice_index depths.now index) event.now place.now since result }
-{
-    if depths[index] < since {
-        return since;
-    }
-    if has_before(event, place) {
-        depth_after(depths, index)
-    } else {
-        since
-    }
-}
-
-/// Whether the event has a place before this one.
-fn has_before(event: &Event, place: &Address) -> bool
-    ensures { IsTrue result ↔ HasBefore event.now place.now }
-{
-    let first = before(&event.first, place);
-    let second = match &event.second {
-        Some(other) => before(other, place),
-        None => false,
-    };
-    first || second
-}
-
 /// Puts the place of the event at an index into the table; one more than the greatest depth of the last events before
 /// it, and 0 where there are none.
 fn put_since(
@@ -159,14 +99,4 @@ fn greatest_behind(depths: &[usize], found: &[u64]) -> usize
         since = larger(since, depth_after(depths, *index as usize));
     }
     since
-}
-
-/// One more than the depth of the event at an index.
-fn depth_after(depths: &[usize], index: usize) -> usize
-    requires inside { index < length depths.now }
-    requires small { AreBelow depths.now }
-    ensures depth { result ≡ slice_index depths.now index + 1 }
-    ensures small { result ≤ length depths.now }
-{
-    depths[index] + 1
 }

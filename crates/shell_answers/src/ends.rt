@@ -1,7 +1,7 @@
 // How a run, a way back and a number that means nothing ended.
 use crate::Scene;
 use crate::refused::add_refused;
-use crate::steps::{add_possible, steps_word};
+use crate::steps::{add_possible, none_words, steps_word};
 use local_actions::{ActionKind, LocalAction};
 use locked_execution::{Command, Reply};
 use plain_words::{Text, add_reason, add_value};
@@ -140,7 +140,9 @@ pub fn way_text(scene: &Scene<'_>, last: &Option<Reply>, taken: u64) -> Text {
 fn add_back(text: &mut Text, scene: &Scene<'_>, taken: u64) {
     let left = scene.machine().live_events().len() as u64;
     if taken == 0 {
-        text.add(b"  no step was taken back: none is live, or none was asked for\n");
+        text.add(b"  no step was taken back: ");
+        text.add(none_words(left));
+        text.add(b"\n");
         return;
     }
     text.add_counted(b"  took back ", taken, steps_word(taken));

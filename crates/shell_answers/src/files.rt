@@ -2,6 +2,7 @@
 use crate::names::add_given;
 use crate::steps::steps_word;
 use crate::usage::add_usage_words;
+use line_text::{Keyword, cut_at_space};
 use plain_words::Text;
 use shell_desk::Word;
 use shell_files::FileFault;
@@ -89,7 +90,7 @@ pub fn refused_trace_text(
         None => text.add(b"\n"),
     }
     text.add(b"  ");
-    text.add(why_refused(number));
+    text.add(why_refused(trace, number));
     text.add(b"\n  the steps stay as they are\n");
     text
 }
@@ -108,9 +109,11 @@ fn add_refused_line(text: &mut Text, trace: &[u8], line: u64) {
 }
 
 /// What the number of a refusal says of a trace.
-fn why_refused(number: u32) -> &'static [u8] {
+fn why_refused(trace: &[u8], number: u32) -> &'static [u8] {
     match number {
         1 => b"there was no memory for it",
+        31 if begins_as_script(trace) =>
+            b"this looks like a script, which `debug` takes\n  outside of the shell type `balsadbg debug FILE STIMULUS < NAME`",
         31 => b"its first line is not `balsadbg trace 2`, or ends as on Windows",
         32 => b"that line is none of a trace, or is cut off, or ends as on Windows",
         33 =>
@@ -118,5 +121,21 @@ fn why_refused(number: u32) -> &'static [u8] {
         34 =>
             b"another step is due on that line: with `balsadbg trace 1` in the first line\n  any order loads",
         _ => b"it is no trace of this description",
+    }
+}
+
+/// Whether the text begins with a word of a script.
+fn begins_as_script(text: &[u8]) -> bool {
+    let line = first_line(text);
+    // A script from Windows has one before each end of a line.
+    let (word, _) = cut_at_space(line.strip_suffix(b"\r").unwrap_or(line));
+    Keyword::read(word).is_some()
+}
+
+/// The first line, without its end.
+fn first_line(text: &[u8]) -> &[u8] {
+    match text.iter().position(|byte| *byte == b'\n') {
+        Some(end) => text.get(..end).unwrap_or(text),
+        None => text,
     }
 }

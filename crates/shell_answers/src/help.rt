@@ -26,7 +26,8 @@ const SCREEN: &[u8] = b"  ready, r       number the steps that can be taken; a b
   step PLACE [ARM], branch K, trace   as in a script
   save NAME      the trace to a new file; load NAME takes the steps of a trace
   script NAME    the lines so far to a new file; save! and script! write over
-  help WORD      more of one word, with an example; of a notion, as ring, place
+  help WORD      more of one word, with an example
+  help notions   names the notions of the answers, as held: help held tells it
   quit           end; what was saved stays
 ";
 

@@ -6,6 +6,7 @@ mod ends;
 mod files;
 mod first_lines;
 mod help;
+mod misfits;
 mod mistakes;
 mod names;
 mod numbers;

@@ -1,5 +1,6 @@
 // Lines that say nothing here.
 use crate::Scene;
+use crate::misfits::{is_number, one_field};
 use crate::names::{add_given, add_unknown_name};
 use crate::program_words::{add_program_word, program_word};
 use crate::steps::add_newest_of;
@@ -20,7 +21,7 @@ pub fn mistake_text(scene: &Scene<'_>, line: &[u8]) -> Text {
         add_unknown_word(&mut text, scene.alloc, word, rest);
     } else if word == b"step".as_slice() && read_ticket(rest).is_some() {
         add_step_by_number(&mut text, rest);
-    } else if names_variable(word) && is_one_field(rest) {
+    } else if names_variable(word) && one_field(rest).is_some() {
         add_unknown_name(&mut text, scene, rest.get(1..).unwrap_or(b""));
     } else {
         add_other(&mut text, scene, word, rest);
@@ -39,24 +40,6 @@ fn add_other(text: &mut Text, scene: &Scene<'_>, word: &[u8], rest: &[u8]) {
 /// Whether the name of a variable stands behind the word.
 fn names_variable(word: &[u8]) -> bool {
     word == b"value".as_slice() || word == b"blame".as_slice() || word == b"rollvalue".as_slice()
-}
-
-/// Whether there is one field behind a space, and no more.
-fn is_one_field(rest: &[u8]) -> bool {
-    match rest {
-        [b' ', field @ ..] => !field.is_empty() && !field.contains(&b' '),
-        _ => false,
-    }
-}
-
-/// Whether these are digits, and some.
-fn is_number(word: &[u8]) -> bool {
-    for byte in word {
-        if !byte.is_ascii_digit() {
-            return false;
-        }
-    }
-    !word.is_empty()
 }
 
 /// Adds that nothing stands behind the number of a step.

@@ -3,6 +3,7 @@ use crate::Scene;
 use crate::steps::add_possible;
 use plain_words::Text;
 use runs::Event;
+use waiting::{Progress, who_waits};
 
 /// Where an event acts: a line of the source, and a branch.
 #[derive(Clone, Copy)]
@@ -22,8 +23,66 @@ pub(crate) fn add_numbered(text: &mut Text, scene: &Scene<'_>, events: &[Event])
         }
         text.add(b"\n");
     }
+    add_broken(text, broken_lines(scene, events).as_slice());
     if events.is_empty() {
-        text.add(b"  no step can be taken now; `waiting` tells what is waited for\n");
+        add_none(text, scene);
+    }
+}
+
+/// Adds a line for each of these lines of the source, on which a `select` has more than one arm ready.
+fn add_broken(text: &mut Text, lines: &[u64]) {
+    for line in lines {
+        text.add_counted(
+            b"  line ",
+            *line,
+            b": more than one arm of this `select` is ready, against its promise\n",
+        );
+    }
+}
+
+/// The lines of each `select` of which two of these events open different arms, each line once; fewer without memory.
+/// Of the events that act at one place each stands behind another.
+fn broken_lines(scene: &Scene<'_>, events: &[Event]) -> Vec<u64> {
+    let mut lines = Vec::new(scene.alloc);
+    for (index, event) in events.iter().enumerate() {
+        if let Some(next) = events.get(index.saturating_add(1)) {
+            if let Some(line) = broken_line(scene, event, next) {
+                if !lines.contains(&line) {
+                    let _ = lines.push(line);
+                }
+            }
+        }
+    }
+    lines
+}
+
+/// The line of the `select` of which the events open different arms, if there is one.
+fn broken_line(scene: &Scene<'_>, one: &Event, other: &Event) -> Option<u64> {
+    let place = one.acting_place();
+    if place == other.acting_place()
+        && one.arm_to_open() != other.arm_to_open()
+        && scene.machine().select(place)
+    {
+        scene.machine().line(place)
+    } else {
+        None
+    }
+}
+
+/// Adds that all is done, or that something waits.
+fn add_none(text: &mut Text, scene: &Scene<'_>) {
+    text.add(if is_done(scene) {
+        b"  all is done\n"
+    } else {
+        b"  no step can be taken now; `waiting` tells what is waited for\n"
+    });
+}
+
+/// Whether it is known that all is done.
+fn is_done(scene: &Scene<'_>) -> bool {
+    match who_waits(scene.alloc, scene.machine()) {
+        Ok(waiting) => matches!(waiting.progress, Progress::Done),
+        Err(_) => false,
     }
 }
 

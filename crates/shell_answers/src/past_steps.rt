@@ -1,4 +1,4 @@
-// What led to a step: a line for each step, with what it read and its direct causes among the others.
+// What led to a step: a line for each step, with what it read and its nearest causes among the others.
 use crate::Scene;
 use crate::steps::{add_numbers, add_step, joint, steps_word};
 use past::{Past, PastEvent};
@@ -127,7 +127,7 @@ fn add_read(text: &mut Text, scene: &Scene<'_>, variable: u32, written: &[Writte
     }
 }
 
-/// Adds its direct causes, but for those that wrote what it read.
+/// Adds its nearest causes, but for those that wrote what it read.
 fn add_causes(
     text: &mut Text,
     scene: &Scene<'_>,

@@ -41,10 +41,10 @@ const PROGRAM_WORDS: [ProgramWord; 7] = [
     },
 ];
 
-/// The command of the program with this word.
+/// The command of the program with this word, in small letters or large ones.
 pub(crate) fn program_word(word: &[u8]) -> Option<ProgramWord> {
     for known in &PROGRAM_WORDS {
-        if known.word.as_bytes() == word {
+        if known.word.as_bytes().eq_ignore_ascii_case(word) {
             return Some(*known);
         }
     }

@@ -71,9 +71,18 @@ fn add_why(text: &mut Text, scene: &Scene<'_>, rest: &[u8]) {
     let Some(asked) = rest.strip_prefix(b" ") else {
         return add_usage(text, b"why", rest);
     };
-    match asked.strip_suffix(b" all") {
+    match without_all(asked) {
         Some(subject) => add_reason_of(text, scene, subject, true),
         None => add_reason_of(text, scene, asked, false),
+    }
+}
+
+/// What stands before ` all`, in small letters or large ones, where that stands at the end.
+fn without_all(asked: &[u8]) -> Option<&[u8]> {
+    let length = asked.len().saturating_sub(4);
+    match asked.get(length..) {
+        Some(end) if end.eq_ignore_ascii_case(b" all") => asked.get(..length),
+        _ => None,
     }
 }
 

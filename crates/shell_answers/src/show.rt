@@ -26,7 +26,7 @@ pub(crate) fn add_shown(text: &mut Text, scene: &Scene<'_>, ticket: u64) {
     add_dependents(text, scene, ticket);
 }
 
-/// Adds on which steps the live step at this index depends directly.
+/// Adds the nearest causes of the live step at this index.
 fn add_leads(text: &mut Text, live: &Live, index: u64) {
     let Some((ticket, _)) = live.pair_at(index) else {
         return;
@@ -35,11 +35,18 @@ fn add_leads(text: &mut Text, live: &Live, index: u64) {
     if leads.is_empty() {
         text.add(b"  it depends on no other step\n");
     } else {
-        text.add(b"  it depends directly on");
-        text.add(steps_word(leads.len() as u64));
-        text.add(b" ");
+        text.add(leads_word(leads.len()));
         add_numbers(text, leads);
         text.add(b"\n");
+    }
+}
+
+/// What stands before so many nearest causes.
+fn leads_word(count: usize) -> &'static [u8] {
+    if count == 1 {
+        b"  its nearest cause is step "
+    } else {
+        b"  its nearest causes are steps "
     }
 }
 

@@ -69,9 +69,20 @@ pub(crate) fn add_newest_of(text: &mut Text, scene: &Scene<'_>, most: u64) {
     let most = usize::try_from(most).unwrap_or(usize::MAX);
     let first = count.saturating_sub(most);
     if first >= count {
-        text.add(b"  no step is live, or none was asked for\n");
+        text.add(b"  ");
+        text.add(none_words(count as u64));
+        text.add(b"\n");
     }
     add_steps(text, scene, first, count);
+}
+
+/// Why there is none of the newest steps, where so many are live.
+pub(crate) fn none_words(live: u64) -> &'static [u8] {
+    if live == 0 {
+        b"no step is live"
+    } else {
+        b"0 steps were asked for"
+    }
 }
 
 /// Adds a line for each live step from one index up to another.

@@ -1,4 +1,5 @@
 // How each word is written.
+use crate::misfits::add_unfit;
 use plain_words::Text;
 
 /// A word, how it is written, and an example of it.
@@ -212,10 +213,10 @@ pub(crate) const USAGES: [Usage; 33] = [
     },
 ];
 
-/// The usage of this word.
+/// The usage of this word, in small letters or large ones.
 pub(crate) fn usage_of(word: &[u8]) -> Option<Usage> {
     for usage in &USAGES {
-        if usage.word.as_bytes() == word {
+        if usage.word.as_bytes().eq_ignore_ascii_case(word) {
             return Some(*usage);
         }
     }
@@ -242,7 +243,7 @@ pub(crate) fn add_usage_words(text: &mut Text, word: &[u8], rest: &[u8]) {
             text.add(usage.example.as_bytes());
         }
         None => {
-            text.add(b"nothing stands behind `");
+            text.add(b"nothing may stand behind `");
             text.add(word);
         }
     }
@@ -259,9 +260,7 @@ fn add_misfit(text: &mut Text, usage: &Usage, operand: &str, rest: &[u8]) {
         text.add(b"` lacks ");
         text.add(operand.as_bytes());
     } else {
-        text.add(b"that does not fit behind `");
-        text.add(usage.word.as_bytes());
-        text.add(b"`");
+        add_unfit(text, usage.word, operand, rest);
     }
 }
 

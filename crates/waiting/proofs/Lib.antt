@@ -5,3 +5,4 @@ mod RingOfState
 mod HelpsEach
 mod LackLaws
 mod HeldPlaces
+mod OneTold

@@ -1,5 +1,6 @@
 pub mod Input
 pub mod Lacking
+pub mod OtherLines
 pub mod Progress
 pub mod Rings
 pub mod Told

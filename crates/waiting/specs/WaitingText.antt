@@ -17,6 +17,7 @@ use Rattle.local_actions.specs.declared.action.ActionKind.TheVariants as action
 use Rattle.rings.specs.declared.partner.Partner.{Partner}
 use Rattle.rings.specs.declared.partner.Partner.TheVariants as partner
 use Rattle.waiting.specs.Input.{fed_channel, line_at}
+use Rattle.waiting.specs.OtherLines.{other_lines}
 use Rattle.waiting.specs.internal.LackTests.{lacks_input}
 use Rattle.waiting.specs.declared.progress.Progress.{Progress}
 use Rattle.waiting.specs.declared.progress.Progress.TheVariants.{GoesOn, Done, Stuck}
@@ -81,27 +82,53 @@ deed_text system (action.Assigns x v xs) = codes " assigns"
 deed_text system (action.Tests k xs) = codes " tests"
 deed_text system action.Turns = codes " turns"
 
--- the stimulus of a channel is used up, or nobody else uses what an action on a line or of the environment waits on
-abbrev pub used_up_text : System → Option ℕ → Option ℕ → List ℕ
-used_up_text system (Some line) (Some c) = on_channel system (codes ", the stimulus of ") c ++ codes " is used up"
-used_up_text system _ _ = codes ", no other branch uses it any more"
+-- ---- for whom it waits
+
+-- lines of the source
+abbrev pub or_line : ℕ → List ℕ
+or_line line = codes " or " ++ decimal line
+
+abbrev pub lines_text : ℕ → List ℕ → List ℕ
+lines_text line more = decimal line ++ flat_map or_line more
+
+-- the lines at which the ends stand that it waits for, if they are known
+abbrev pub for_lines : List ℕ → List ℕ
+for_lines [] = []
+for_lines (line ∷ more) = codes ", for line " ++ lines_text line more
+
+-- no other branch has such an end, or none comes to the lines at which they stand
+abbrev pub left_text : List ℕ → List ℕ
+left_text [] = codes ", no other branch uses it any more"
+left_text (line ∷ more) = codes ", no other branch comes to it on line " ++ lines_text line more ++ codes " any more"
+
+-- the arm that holds it never ends, on these lines
+abbrev pub held_text : List ℕ → List ℕ
+held_text [] = codes ", by an arm that never ends"
+held_text (line ∷ more) = codes ", by an arm on line " ++ lines_text line more ++ codes " that never ends"
+
+-- The stimulus of a channel is used up, or no other branch comes to it for an action on a line or of the environment;
+-- the ends that it waits for stand on these lines.
+abbrev pub used_up_text : System → Option ℕ → Option ℕ → List ℕ → List ℕ
+used_up_text system (Some line) (Some c) lines =
+    on_channel system (codes ", the stimulus of ") c ++ codes " is used up"
+used_up_text system _ _ lines = left_text lines
 
 -- why no partner can come any more
-abbrev pub gone_text : System → Option ℕ → ActionKind → List ℕ
-gone_text system line (action.Releases c) = codes ", by an arm that never ends"
-gone_text system line x = used_up_text system line (fed_channel system x)
+abbrev pub gone_text : System → Option ℕ → ActionKind → List ℕ → List ℕ
+gone_text system line (action.Releases c) lines = held_text lines
+gone_text system line x lines = used_up_text system line (fed_channel system x) lines
 
--- what is known of its partner
-abbrev pub partner_text : System → Option ℕ → ActionKind → Option Partner → List ℕ
-partner_text system line x (Some (partner.Behind a)) = codes ", behind " ++ placed system a
-partner_text system line x (Some partner.Gone) = gone_text system line x
-partner_text system line x _ = []
+-- what is known of its partner, which stands on one of these lines
+abbrev pub partner_text : System → Option ℕ → ActionKind → Option Partner → List ℕ → List ℕ
+partner_text system line x (Some (partner.Behind a)) lines = codes ", behind " ++ placed system a ++ for_lines lines
+partner_text system line x (Some partner.Gone) lines = gone_text system line x lines
+partner_text system line x _ lines = []
 
 -- an action that waits
 abbrev pub action_line : System → Option ℕ → LocalAction → Option Partner → List ℕ
 action_line system line x p =
     codes "  " ++ placed system x.place ++ line_text line ++ deed_text system x.action
-    ++ partner_text system line x.action p ++ ending
+    ++ partner_text system line x.action p (other_lines system line x p) ++ ending
 
 -- these actions, of which the first has the partner of number n
 abbrev pub action_lines : AtMachine → List Partner → ℕ → List LocalAction → List ℕ

@@ -5,12 +5,14 @@
 mod actions;
 mod input;
 mod laws;
+mod other_lines;
 mod places;
 mod progress;
+mod side;
 mod text;
 mod waiting;
 
-pub use laws::waiters_have_one_order;
+pub use laws::{one_ring_is_told, waiters_have_one_order};
 pub use progress::Progress;
 pub use rings::Partner;
 pub use waiting::{Waiting, who_waits};

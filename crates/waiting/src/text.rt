@@ -3,16 +3,19 @@ ghost use Rattle.std.specs.Prelude.{◌≡◌, ◌++◌, OnOk, codes, length, sl
 ghost use Rattle.std.specs.List.{flat_map};
 ghost use Rattle.std.specs.Option.{option_copied};
 ghost use Rattle.line_text.specs.AnswerText.{ending};
+ghost use Rattle.outline.specs.EndTable.{HasEnds};
 ghost use Rattle.waiting.specs.Input.{line_at};
 ghost use Rattle.waiting.specs.WaitingText as model;
 
 use crate::input::fed_channel;
+use crate::other_lines::other_lines;
 use crate::progress::Progress;
 use crate::waiting::Waiting;
 use address::Address;
 use line_text::{add_entry, add_numbered};
 use local_actions::{ActionKind, LocalAction};
 use machine::Machine;
+use outline::EndTable;
 use rings::Partner;
 use runs::Event;
 use sharing_check::Checked;
@@ -22,8 +25,9 @@ use text_parts::{Piece, add_pieces, add_words};
 
 impl Waiting {
     /// Adds the text: how the run stands, and where it is stuck whether it lacks input, each step that can be taken,
-    /// each action that waits, and a ring of them if there is one, each with its branch. The machine is the one that
-    /// was asked. Without memory a part of it may be there.
+    /// each action that waits, with the lines of the ends that it waits for, and a ring of them if there is one, each
+    /// with its branch. The machine is the one that was asked. It walks once through the source. Without memory a part
+    /// of it may be there.
     pub fn write_to(&self, machine: &Machine, out: &mut Vec<u8>) -> Result<(), AllocError>
         ensures { OnOk result (out.new.items ≡ out.old.items ++ model.waiting_text machine.now self.now) }
     {
@@ -31,7 +35,8 @@ impl Waiting {
         write_progress(self.progress, self.lacks_input(machine), out)?;
         write_ready(machine.checked(), self.ready.as_slice(), out)?;
         add_numbered(out, b"waiting", actions.len() as u64)?;
-        write_actions(machine, actions, self.partners.as_slice(), out)?;
+        let table = EndTable::of(*out.allocator(), machine.checked())?;
+        write_actions(machine, &table, actions, self.partners.as_slice(), out)?;
         write_ring(machine.checked(), actions, self.ring.as_slice(), out)
     }
 }
@@ -104,14 +109,16 @@ fn branch_or_first(branch: Option<u32>) -> u32
 /// Adds a line for each action that waits.
 fn write_actions(
     machine: &Machine,
+    table: &EndTable,
     actions: &[LocalAction],
     partners: &[Partner],
     out: &mut Vec<u8>,
 ) -> Result<(), AllocError>
+    requires { HasEnds machine.now.checked table.now }
     ensures { OnOk result (out.new.items ≡ out.old.items ++ model.action_lines machine.now partners.now 0 actions.now) }
 {
     for (index, action) in actions.iter().enumerate() {
-        write_action_at(machine, action, partners, index, out)?;
+        write_action_at(machine, table, action, partners, index, out)?;
     }
     Ok(())
 }
@@ -119,15 +126,17 @@ fn write_actions(
 /// Adds an action that waits, whose partner has this index.
 fn write_action_at(
     machine: &Machine,
+    table: &EndTable,
     offered: &LocalAction,
     partners: &[Partner],
     index: usize,
     out: &mut Vec<u8>,
 ) -> Result<(), AllocError>
+    requires { HasEnds machine.now.checked table.now }
     ensures { OnOk result (out.new.items ≡ out.old.items ++ model.action_line machine.now.checked
         (line_at machine.now offered.now.place) offered.now (slice_get partners.now index)) }
 {
-    write_action(machine, offered, partner_at(partners, index), out)
+    write_action(machine, table, offered, partner_at(partners, index), out)
 }
 
 /// The partner of this index, if there is one.
@@ -143,34 +152,46 @@ pub(crate) fn partner_at<'a>(partners: &'a [Partner], index: usize) -> Option<&'
 /// Adds an action that waits.
 fn write_action(
     machine: &Machine,
+    table: &EndTable,
     offered: &LocalAction,
     partner: Option<&Partner>,
     out: &mut Vec<u8>,
 ) -> Result<(), AllocError>
+    requires { HasEnds machine.now.checked table.now }
     ensures { OnOk result (out.new.items ≡ out.old.items ++ model.action_line machine.now.checked
         (line_at machine.now offered.now.place) offered.now (option_copied partner.entry)) }
 {
     let checked = machine.checked();
     let line = machine.line(&offered.place);
+    let lines = other_lines(*out.allocator(), checked, table, line, offered, partner)?;
     add_words(out, b"  ")?;
     write_placed(checked, &offered.place, out)?;
     write_line(line, out)?;
     write_deed(checked.system(), &offered.action, out)?;
-    end_action(checked, line, &offered.action, partner, out)
+    end_action(
+        checked,
+        line,
+        &offered.action,
+        partner,
+        lines.as_slice(),
+        out,
+    )
 }
 
-/// Adds what is known of the partner of an action that stands on this line, and the end of the line of text.
+/// Adds what is known of the partner of an action that stands on this line, where the ends that it waits for stand on
+/// these, and the end of the line of text.
 fn end_action(
     checked: &Checked,
     line: Option<u64>,
     action: &ActionKind,
     partner: Option<&Partner>,
+    lines: &[u64],
     out: &mut Vec<u8>,
 ) -> Result<(), AllocError>
     ensures { OnOk result (out.new.items ≡ out.old.items
-        ++ (model.partner_text checked.now line action.now (option_copied partner.entry) ++ ending)) }
+        ++ (model.partner_text checked.now line action.now (option_copied partner.entry) lines.now ++ ending)) }
 {
-    write_partner(checked, line, action, partner, out)?;
+    write_partner(checked, line, action, partner, lines, out)?;
     add_words(out, b"\n")
 }
 
@@ -271,58 +292,131 @@ fn write_on(
     }
 }
 
-/// Adds what is known of the partner of an action that stands on this line.
+/// Adds what is known of the partner of an action that stands on this line, where the ends that it waits for stand on
+/// these.
 fn write_partner(
     checked: &Checked,
     line: Option<u64>,
     action: &ActionKind,
     partner: Option<&Partner>,
+    lines: &[u64],
     out: &mut Vec<u8>,
 ) -> Result<(), AllocError>
     ensures { OnOk result (out.new.items ≡ out.old.items
-        ++ model.partner_text checked.now line action.now (option_copied partner.entry)) }
+        ++ model.partner_text checked.now line action.now (option_copied partner.entry) lines.now) }
 {
     match partner {
         Some(Partner::Behind(first)) => {
             add_words(out, b", behind ")?;
-            write_placed(checked, first, out)
+            write_placed(checked, first, out)?;
+            write_for_lines(lines, out)
         }
-        Some(Partner::Gone) => write_gone(checked.system(), line, action, out),
+        Some(Partner::Gone) => write_gone(checked.system(), line, action, lines, out),
         Some(Partner::Open) | None => Ok(()),
     }
 }
 
-/// Adds why no partner of the action can come any more: the arm that holds it never ends, what the environment had for
-/// it is used up, or nobody else uses the channel.
+/// Adds on which lines the ends stand that an action waits for, if it is known.
+fn write_for_lines(lines: &[u64], out: &mut Vec<u8>) -> Result<(), AllocError>
+    ensures { OnOk result (out.new.items ≡ out.old.items ++ model.for_lines lines.now) }
+{
+    match lines.split_first() {
+        Some((line, more)) => {
+            add_words(out, b", for line ")?;
+            write_lines(*line, more, out)
+        }
+        None => Ok(()),
+    }
+}
+
+/// Adds lines of the source.
+fn write_lines(line: u64, more: &[u64], out: &mut Vec<u8>) -> Result<(), AllocError>
+    ensures { OnOk result (out.new.items ≡ out.old.items ++ model.lines_text line more.now) }
+{
+    add_pieces(out, &[Piece::Number(line)])?;
+    write_more(more, out)
+}
+
+/// Adds further lines.
+fn write_more(more: &[u64], out: &mut Vec<u8>) -> Result<(), AllocError>
+    ensures { OnOk result (out.new.items ≡ out.old.items ++ flat_map model.or_line more.now) }
+{
+    for line in more {
+        add_pieces(out, &[Piece::Words(b" or "), Piece::Number(*line)])?;
+    }
+    Ok(())
+}
+
+/// Adds why no partner of the action can come any more, where such ends stand on these lines: the arm that holds it
+/// never ends, what the environment had for it is used up, or no other branch comes to the channel.
 fn write_gone(
     system: &System,
     line: Option<u64>,
     action: &ActionKind,
+    lines: &[u64],
     out: &mut Vec<u8>,
 ) -> Result<(), AllocError>
-    ensures { OnOk result (out.new.items ≡ out.old.items ++ model.gone_text system.now line action.now) }
+    ensures { OnOk result (out.new.items ≡ out.old.items ++ model.gone_text system.now line action.now lines.now) }
 {
     match action {
-        ActionKind::Releases(_) => add_words(out, b", by an arm that never ends"),
-        _ => write_used_up(system, line, fed_channel(system, action), out),
+        ActionKind::Releases(_) => write_held(lines, out),
+        _ => write_used_up(system, line, fed_channel(system, action), lines, out),
     }
 }
 
-/// Adds that the stimulus of the channel is used up, or that nobody else uses what an action on this line waits on.
+/// Adds that the arm never ends that holds it, on these lines.
+fn write_held(lines: &[u64], out: &mut Vec<u8>) -> Result<(), AllocError>
+    ensures { OnOk result (out.new.items ≡ out.old.items ++ model.held_text lines.now) }
+{
+    match lines.split_first() {
+        Some((line, more)) => {
+            add_words(out, b", by an arm on line ")?;
+            write_endless(*line, more, out)
+        }
+        None => add_words(out, b", by an arm that never ends"),
+    }
+}
+
+/// Adds the lines of an arm, and that it never ends.
+fn write_endless(line: u64, more: &[u64], out: &mut Vec<u8>) -> Result<(), AllocError>
+    ensures { OnOk result (out.new.items
+        ≡ out.old.items ++ (model.lines_text line more.now ++ codes " that never ends")) }
+{
+    write_lines(line, more, out)?;
+    add_words(out, b" that never ends")
+}
+
+/// Adds that the stimulus of the channel is used up, or that no other branch comes to what an action on this line waits
+/// on.
 fn write_used_up(
     system: &System,
     line: Option<u64>,
     fed: Option<u32>,
+    lines: &[u64],
     out: &mut Vec<u8>,
 ) -> Result<(), AllocError>
-    ensures { OnOk result (out.new.items ≡ out.old.items ++ model.used_up_text system.now line fed) }
+    ensures { OnOk result (out.new.items ≡ out.old.items ++ model.used_up_text system.now line fed lines.now) }
 {
     match (line, fed) {
         (Some(_), Some(channel)) => {
             write_on(system, b", the stimulus of ", channel, out)?;
             add_words(out, b" is used up")
         }
-        _ => add_words(out, b", no other branch uses it any more"),
+        _ => write_left(lines, out),
+    }
+}
+
+/// Adds that no other branch comes to the channel, where such ends stand on these lines.
+fn write_left(lines: &[u64], out: &mut Vec<u8>) -> Result<(), AllocError>
+    ensures { OnOk result (out.new.items ≡ out.old.items ++ model.left_text lines.now) }
+{
+    match lines.split_first() {
+        Some((line, more)) => {
+            add_words(out, b", no other branch comes to it on line ")?;
+            write_lines(*line, more, out)?;
+            add_words(out, b" any more")
+        }
+        None => add_words(out, b", no other branch uses it any more"),
     }
 }
 

@@ -32,15 +32,16 @@ pub struct Waiting {
     /// whatever the environment gives
     pub deadlocked: Vec<bool>,
     /// the indexes of deadlocked actions of which each waits for the place of the next, and the last for the first;
-    /// empty where there is no such ring
+    /// empty where there is no such ring. Of several it is the one that a search from the first action on comes to
+    /// first
     pub ring: Vec<usize>,
 }
 
 /// Exactly the actions that the state of the machine offers and whose place no allowed event has, each once, in order
 /// of place, the allowed events, how the run stands, what each of the actions waits for, which are deadlocked, and a
-/// ring exactly where there is one. It walks once over what the tree offers, from which it tells the allowed events too,
-/// and once over what is still to come, where partners stand that are not offered yet. It is an error if there is no
-/// memory.
+/// ring exactly where there is one, of one state always the same. It walks once over what the tree offers, from which
+/// it tells the allowed events too, and once over what is still to come, where partners stand that are not offered yet.
+/// It is an error if there is no memory.
 pub fn who_waits(alloc: Global, machine: &Machine) -> Result<Waiting, AllocError>
     ensures { IfOk result (λ told. TellsWaits machine.now told) }
 {

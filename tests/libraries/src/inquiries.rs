@@ -57,7 +57,7 @@ fn a_run_goes_on_while_an_event_is_allowed(rt: HostRuntime) -> Result<(), Fail> 
     is(
         &rt,
         &text,
-        b"goes on\nready 1\n  branch 0 meet i 5 /1.0.0 /0.0\nwaiting 1\n  branch 2 /2.0 environment: takes from o, behind branch 0 /0.0\n",
+        b"goes on\nready 1\n  branch 0 meet i 5 /1.0.0 /0.0\nwaiting 1\n  branch 2 /2.0 environment: takes from o, behind branch 0 /0.0, for line 2\n",
     );
     Ok(())
 }
@@ -72,7 +72,7 @@ fn a_run_is_done_when_only_outputs_are_offered(rt: HostRuntime) -> Result<(), Fa
     is(
         &rt,
         &text,
-        b"done\nwaiting 1\n  branch 2 /2.1 environment: takes from o, no other branch uses it any more\n",
+        b"done\nwaiting 1\n  branch 2 /2.1 environment: takes from o, no other branch comes to it on line 2 any more\n",
     );
     Ok(())
 }
@@ -83,7 +83,7 @@ fn a_held_sender_waits_for_its_arm(rt: HostRuntime) -> Result<(), Fail> {
     is(
         &rt,
         &text,
-        b"goes on\nready 2\n  branch 2 meet a 5 /0.0.1/0.0 /2.0\n  branch 3 meet b 5 /0.0.1/1.0 /3.0\nwaiting 1\n  branch 1 /1.0.1 environment: is held on i, behind branch 0 /0.0.1\n",
+        b"goes on\nready 2\n  branch 2 meet a 5 /0.0.1/0.0 /2.0\n  branch 3 meet b 5 /0.0.1/1.0 /3.0\nwaiting 1\n  branch 1 /1.0.1 environment: is held on i, behind branch 0 /0.0.1, for line 2\n",
     );
     Ok(())
 }
@@ -93,7 +93,7 @@ fn the_second_value_waits_behind_the_first(rt: HostRuntime) -> Result<(), Fail> 
     let trace = b"balsadbg trace 2\nstep /0.0.0 0\nstep /2.0 0\nstep /3.0 0\n";
     let text = told(rt.alloc(), FORK, trace)?;
     let wanted =
-        b"goes on\nready 1\n  branch 0 close i /1.0.1 /0.0.2\nwaiting 2\n  branch 2 /2.1 environment: takes from a, no other branch uses it any more\n  branch 3 /3.1 environment: takes from b, no other branch uses it any more\n";
+        b"goes on\nready 1\n  branch 0 close i /1.0.1 /0.0.2\nwaiting 2\n  branch 2 /2.1 environment: takes from a, no other branch comes to it on line 2 any more\n  branch 3 /3.1 environment: takes from b, no other branch comes to it on line 2 any more\n";
     is(&rt, &text, wanted);
     Ok(())
 }
@@ -102,7 +102,7 @@ fn the_second_value_waits_behind_the_first(rt: HostRuntime) -> Result<(), Fail> 
 fn two_wait_for_one_another(rt: HostRuntime) -> Result<(), Fail> {
     let text = told(rt.alloc(), PAIR, b"balsadbg trace 2\n")?;
     let wanted =
-        b"stuck\nwaiting 2\n  branch 0 /0/0.0 line 2: receives from c, behind branch 1 /0/1.0\n  branch 1 /0/1.0 line 2: receives from d, behind branch 0 /0/0.0\nring 2\n  branch 0 /0/0.0\n  branch 1 /0/1.0\n";
+        b"stuck\nwaiting 2\n  branch 0 /0/0.0 line 2: receives from c, behind branch 1 /0/1.0, for line 2\n  branch 1 /0/1.0 line 2: receives from d, behind branch 0 /0/0.0, for line 2\nring 2\n  branch 0 /0/0.0\n  branch 1 /0/1.0\n";
     is(&rt, &text, wanted);
     Ok(())
 }
@@ -122,7 +122,7 @@ fn five_wait_in_a_circle(rt: HostRuntime) -> Result<(), Fail> {
 fn arms_wait_for_inputs_that_have_no_values(rt: HostRuntime) -> Result<(), Fail> {
     let text = told(rt.alloc(), CHOICE, b"balsadbg trace 2\n")?;
     let wanted =
-        b"out of input\nwaiting 3\n  branch 0 /0.0 line 2: opens arm 0 on a, the stimulus of a is used up\n  branch 0 /0.0 line 2: opens arm 1 on b, the stimulus of b is used up\n  branch 3 /3.0 environment: takes from o, behind branch 0 /0\n";
+        b"out of input\nwaiting 3\n  branch 0 /0.0 line 2: opens arm 0 on a, the stimulus of a is used up\n  branch 0 /0.0 line 2: opens arm 1 on b, the stimulus of b is used up\n  branch 3 /3.0 environment: takes from o, behind branch 0 /0, for line 2\n";
     is(&rt, &text, wanted);
     Ok(())
 }
@@ -139,10 +139,10 @@ fn a_ring_goes_through_one_arm_of_a_choice(rt: HostRuntime) -> Result<(), Fail> 
     let text = told(rt.alloc(), KNOT, b"balsadbg trace 2\n")?;
     let wanted = b"stuck
 waiting 4
-  branch 0 /0/0.0.0 line 2: opens arm 0 on a, behind branch 1 /0/1.0
-  branch 0 /0/0.0.0 line 2: opens arm 1 on b, behind branch 2 /0/2.0
-  branch 1 /0/1.0 line 2: receives from x, behind branch 0 /0/0.0
-  branch 2 /0/2.0 line 2: receives from y, behind branch 0 /0/0.0
+  branch 0 /0/0.0.0 line 2: opens arm 0 on a, behind branch 1 /0/1.0, for line 2
+  branch 0 /0/0.0.0 line 2: opens arm 1 on b, behind branch 2 /0/2.0, for line 2
+  branch 1 /0/1.0 line 2: receives from x, behind branch 0 /0/0.0, for line 2
+  branch 2 /0/2.0 line 2: receives from y, behind branch 0 /0/0.0, for line 2
 ring 2
   branch 0 /0/0.0.0
   branch 1 /0/1.0
@@ -171,7 +171,7 @@ fn a_value_has_a_past(rt: HostRuntime) -> Result<(), Fail> {
         &past,
     )?;
     let wanted =
-        b"  2 line 2: a carries 5 into 1:x\n  4 line 2: c carries 5 into 2:x, reads 1:x 5, after 2\n2 steps without a value left out: --all\n";
+        b"  2 line 2: a carries 5 into 1:x\n  4 line 2: c carries 5 into 2:x, reads 1:x = 5 of step 2, after 2\n2 steps without a value left out: --all\n";
     is(&rt, &text, wanted);
     Ok(())
 }
@@ -214,7 +214,7 @@ fn a_step_without_a_value_is_told_where_it_is_asked_for(rt: HostRuntime) -> Resu
         &past,
     )?;
     let wanted =
-        b"  2 line 2: a carries 5 into 1:x\n  4 line 2: c carries 5 into 2:x, reads 1:x 5, after 2\n  5 line 2: turn, after 4\n2 steps without a value left out: --all\n";
+        b"  2 line 2: a carries 5 into 1:x\n  4 line 2: c carries 5 into 2:x, reads 1:x = 5 of step 2, after 2\n  5 line 2: turn, after 4\n2 steps without a value left out: --all\n";
     is(&rt, &text, wanted);
     Ok(())
 }

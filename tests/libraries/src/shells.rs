@@ -75,7 +75,7 @@ const LINES: [(&[u8], &[u8], &[u8]); 29] = [
     (
         b"break x\n",
         b"",
-        b"  that does not fit behind `break`\n  write `break LINE`, as `break 7`\n  it sets a breakpoint on a line\n",
+        b"  `x` does not fit behind `break`: it is no whole number\n  write `break LINE`, as `break 7`\n  it sets a breakpoint on a line\n",
     ),
     (
         b"save old\n",
@@ -117,7 +117,7 @@ const LINES: [(&[u8], &[u8], &[u8]); 29] = [
     (
         b"back\n",
         b"",
-        b"  no step was taken back: none is live, or none was asked for\n",
+        b"  no step was taken back: no step is live\n",
     ),
     (
         b"break 1\n",

@@ -8,6 +8,7 @@ use Rattle.debug_session.specs.declared.fault.Fault.TheVariants.{Refused}
 use Rattle.questions.specs.declared.why.Why.{Why}
 use Rattle.picture.specs.declared.Pictured.{Pictured}
 use Rattle.command_line.specs.Answering.{Holding, FilesDescribe, FilesGive, FilesRefuse, NotHad}
+use Rattle.command_line.specs.Kept.{Kept}
 use Rattle.command_line.specs.Used.{Outcome, Used, IsUntouched, Tells}
 
 -- the file of this name holds a source that describes this system without a stimulus
@@ -20,17 +21,19 @@ RunHad holds file stimulus trace source system text =
     FilesDescribe holds file stimulus source system × holds trace (Some text)
 
 -- they describe none, or else the trace was not had
-abbrev pub RunNotHad : Holding → List ℕ → List ℕ → List ℕ → Fault → Type 0
-RunNotHad holds file stimulus trace fault =
-    FilesRefuse holds file stimulus fault
+abbrev pub RunNotHad : Holding → List ℕ → List ℕ → List ℕ → Kept → Fault → Type 0
+RunNotHad holds file stimulus trace kept fault =
+    FilesRefuse holds file stimulus kept fault
     ⊎ ((system : System) × FilesGive holds file stimulus system × NotHad (holds trace) fault)
 
--- the answer to the question why is told, or ends the run
-abbrev pub TellsWhy : {O : Type 0} → Why → Used O → Outcome → Type 0
-TellsWhy (Why.Told lines) out done = Tells lines.items out done
-TellsWhy (Why.Refused reason words) out done = (done ≡ Err (Refused reason)) × IsUntouched out
+-- the answer to the question why is told, or ends the run, and its words are kept
+abbrev pub TellsWhy : {O : Type 0} → Why → Used O → List ℕ → Outcome → Type 0
+TellsWhy (Why.Told lines) out said done = Tells lines.items out done
+TellsWhy (Why.Refused reason words) out said done =
+    (done ≡ Err (Refused reason)) × IsUntouched out × (said ≡ words.items)
 
--- a picture is told, or ends the run where it cannot be drawn
-abbrev pub TellsPicture : {O : Type 0} → Pictured → Used O → Outcome → Type 0
-TellsPicture (Pictured.Text text) out done = Tells text.items out done
-TellsPicture (Pictured.NoSuchStep words) out done = (done ≡ Err (Refused NoSuchEvent)) × IsUntouched out
+-- a picture is told, or ends the run where it cannot be drawn, and the words that say so are kept
+abbrev pub TellsPicture : {O : Type 0} → Pictured → Used O → List ℕ → Outcome → Type 0
+TellsPicture (Pictured.Text text) out said done = Tells text.items out done
+TellsPicture (Pictured.NoSuchStep words) out said done =
+    (done ≡ Err (Refused NoSuchEvent)) × IsUntouched out × (said ≡ words.items)

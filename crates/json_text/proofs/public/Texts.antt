@@ -1,15 +1,16 @@
 -- What is written is JSON: strings, numbers, and lists and objects of them.
-use Rattle.std.proofs.Common.{◌≡◌, ◌∙◌, ◌⊎◌, inl, inr, ℕ, zero, suc, ◌+◌, ◌-◌, ◌/◌, ◌%◌, ◌<◌, ◌≤◌, ◌==◌, nat_lt, List, [], ◌∷◌, ◌++◌, length, drop, Bool, true, false, cond, Option, None, Some, refl, sym, ap, subst, arith, lit<, length-drop}
+use Rattle.std.proofs.Common.{◌≡◌, ◌∙◌, ◌⊎◌, inl, inr, ℕ, zero, suc, ◌+◌, ◌-◌, ◌/◌, ◌%◌, ◌^◌, ◌<◌, ◌≤◌, ◌==◌, nat_lt, List, [], ◌∷◌, ◌++◌, length, get_or, drop, Bool, true, false, cond, Option, None, Some, refl, sym, ap, subst, arith, lit<, length-drop}
 use Rattle.std.specs.List.{All}
 use Rattle.std.specs.Char.{IsScalar, digit_value}
 use Rattle.std.specs.Fmt.{decimal, digit_glyph, digits, digits_onto}
 use Rattle.std.specs.Str.Parse.{AllDigits, IsNumeral}
 use Rattle.std.proofs.lemmas.Bool.Decides.{nat_tests}
+use Rattle.std.proofs.lemmas.Fmt.{decimal_digit, first_decimal}
 use Rattle.std.proofs.lemmas.List.Elements.{All-nil}
 use Rattle.bstr.specs.Utf8.{decoded, lossy_chars, or_replacement}
 use Rattle.bstr.proofs.lemmas.PieceLemmas.{lossy_chars-nil, lossy_chars-step, piece-bounds}
 use Rattle.bstr.proofs.lemmas.SoundLemmas.{SpellsChar-decoded}
-use Rattle.json_text.specs.Json.{AreMembersOf, AreTextsOf, Elements, IsJson, IsStringOf, IsTextOf, Json, Members, element, list, member, no_elements, no_members, number, object, string}
+use Rattle.json_text.specs.Json.{AreMembersOf, AreTextsOf, BytesReadBack, Elements, IsInteger, IsJson, IsNumber, IsStringOf, IsTextOf, Json, Members, NumbersAreIntegers, element, list, member, no_elements, no_members, number, object, string}
 use Rattle.json_text.specs.Reading.{IsCharacter, IsWhole}
 use Rattle.json_text.specs.Values.{list_text, member_text, object_text, optional_text, string_text}
 use Rattle.json_text.proofs.ReadBack.{strings-read-back}
@@ -45,6 +46,9 @@ characters (suc fuel) (b ∷ bs) le =
 
 string-of : (bytes : List ℕ) → IsStringOf (lossy_chars bytes) (string_text bytes)
 string-of bytes = strings-read-back (lossy_chars bytes) (characters (length bytes) bytes (omega arith))
+
+pub bytes-read-back : BytesReadBack
+bytes-read-back = string-of
 
 pub string-json : (bytes : List ℕ) → IsJson (string_text bytes)
 string-json bytes = (string (lossy_chars bytes), string-of bytes)
@@ -85,13 +89,68 @@ numeral : (n : ℕ) → IsNumeral 10 (decimal n)
 unfolding digits
 numeral n = some-digits 63 n
 
+-- the first digit is no zero, or there are this many
+abbrev Leads : ℕ → List ℕ → Type 0
+Leads m ds = (48 < get_or ds 0 0) ⊎ (length ds ≡ m)
+
+first-by : (low : Bool) (d : ℕ) → 0 < d → d < 10 → nat_lt d 10 ≡ low → 48 < cond low (48 + d) (cond false (55 + d) (87 + d))
+first-by true d some h is = omega arith
+first-by false d some h is = absurd (grind (arith, nat_tests))
+
+as-many : (m k : ℕ) (ds : List ℕ) → m ≡ k → Leads m ds → Leads k ds
+as-many m k ds is (inl first) = inl first
+as-many m k ds is (inr many) = inr (many ∙ is)
+
+leads-by : (last : Bool) (m n : ℕ) (acc more : List ℕ) → 0 < n → (n / 10 == 0) ≡ last → (0 < n / 10 → Leads m more) →
+    Leads m (cond last (digit_glyph false (n % 10) ∷ acc) more)
+leads-by true m n acc more some is further =
+    let small : n / 10 ≡ 0 = grind (arith, nat_tests) in
+    let digit : 0 < n % 10 = omega arith in
+    let below : n % 10 < 10 = omega arith in
+    inl (first-by (nat_lt (n % 10) 10) (n % 10) digit below refl)
+leads-by false m n acc more some is further =
+    let large : 0 < n / 10 = grind (arith, nat_tests) in further large
+
+leads : (k n : ℕ) (acc : List ℕ) → 0 < n → Leads (k + length acc) (digits_onto k 10 false n acc)
+leads zero n acc some = let none : length acc ≡ 0 + length acc = omega arith in inr none
+leads (suc k) n acc some =
+    let front : List ℕ = digit_glyph false (n % 10) ∷ acc in
+    let more : List ℕ = digits_onto k 10 false (n / 10) front in
+    let count : k + length front ≡ suc k + length acc = omega arith in
+    leads-by (n / 10 == 0) (suc k + length acc) n acc more some refl
+    (λ large. as-many (k + length front) (suc k + length acc) more count (leads k (n / 10) front large))
+
+decimal-leads : (n : ℕ) → 0 < n → Leads 64 (decimal n)
+unfolding digits
+decimal-leads n some = leads 64 n [] some
+
+no-zero : (ds : List ℕ) → IsNumeral 10 ds → 48 < get_or ds 0 0 → IsInteger ds
+no-zero ds h first = (h, λ is. absurd (omega arith))
+
+zero-alone : IsInteger (decimal 0)
+zero-alone = let one : 0 < 10 = lit< tt in (numeral 0, λ is. ap length (decimal_digit 0 one))
+
+by-lead : (ds : List ℕ) → IsNumeral 10 ds → Leads 64 ds → IsNumber ds
+by-lead ds h (inl first) = inl (no-zero ds h first)
+by-lead ds h (inr many) = inr (inr (h, many))
+
+number-of : (n : ℕ) → IsNumber (decimal n)
+number-of zero = inl zero-alone
+number-of (suc n) =
+    let some : 0 < suc n = omega arith in by-lead (decimal (suc n)) (numeral (suc n)) (decimal-leads (suc n) some)
+
+pub numbers-are-integers : NumbersAreIntegers
+numbers-are-integers zero h = zero-alone
+numbers-are-integers (suc n) h =
+    let some : 0 < suc n = omega arith in no-zero (decimal (suc n)) (numeral (suc n)) (first_decimal (suc n) some h)
+
 pub number-json : (n : ℕ) → IsJson (decimal n)
-number-json n = (number (decimal n), (refl, inl (numeral n)))
+number-json n = (number (decimal n), (refl, number-of n))
 
 pub optional-json : (o : Option ℕ) → IsJson (optional_text o)
 optional-json None = (
   number (45 ∷ 49 ∷ []),
-  (refl, inr (49 ∷ [], refl, (omega arith, (small-digit 49 (omega arith) (omega arith), tt)))),
+  (refl, inr (inl (49 ∷ [], refl, ((omega arith, (small-digit 49 (omega arith) (omega arith), tt)), λ is. refl)))),
 )
 optional-json (Some n) = number-json n
 

@@ -1,6 +1,6 @@
 -- A sweep up over a whole past for the told events of a block: which of them each event is or leads down to, and of
 -- which of these it is not the nearest that is told.
--- No reader has to believe it: the proof of `told_past` ties it to `DirectCause`.
+-- No reader has to believe it: the proof of `told_past` ties it to `NearestCause`.
 use Rattle.std.specs.Prelude.{◌≡◌, ◌≢◌, ◌↔◌, ℕ, ◌≤◌, ◌<◌, List, Bool, true, length, Some, slice_get}
 use Rattle.syntax.specs.Lists.{In}
 use Rattle.past.specs.declared.blocks.Mark.{Mark}

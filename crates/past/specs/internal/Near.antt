@@ -1,11 +1,11 @@
--- Direct causes by their places in the whole past.
+-- Nearest causes by their places in the whole past.
 -- No reader has to believe it: the proof of `told_past` ties it to `ListsPast`.
 use Rattle.std.specs.Prelude.{◌≡◌, ◌↔◌, ◌<◌, ℕ, ◌+◌, List, [], ◌∷◌, length, cond, Bool, true, false, ◌||◌, ◌==◌, ◌++◌, map, Some, slice_get, slice_index}
 use Rattle.syntax.specs.Lists.{Every, In}
 use Rattle.runs.specs.InOrder.{InOrder}
 use Rattle.runs.specs.Live.{Live}
 use Rattle.dependence.specs.Followers.{Follower}
-use Rattle.past.specs.Past.{DirectCause, ListsCauses, Tells, tickets_of}
+use Rattle.past.specs.Past.{NearestCause, ListsCauses, Tells, tickets_of}
 use Rattle.past.specs.declared.past.PastEvent.{PastEvent}
 
 -- each list has only lesser places than its own
@@ -35,9 +35,9 @@ pub record AllLeads (l : Live) (tickets : List ℕ) (leads : List (List ℕ)) : 
   pub lists : (q s : ℕ) (places : List ℕ) → slice_get tickets q ≡ Some s → slice_get leads q ≡ Some places
       → AreLeads l tickets s places
 
--- exactly the places of its direct causes in the past of t, falling
+-- exactly the places of its nearest causes in the past of t, falling
 pub record IsNear (l : Live) (t : ℕ) (tickets : List ℕ) (s : ℕ) (places : List ℕ) : Type 0 where
-  pub exactly : (p : ℕ) → In p places ↔ ((u : ℕ) × (slice_get tickets p ≡ Some u) × DirectCause false l t s u)
+  pub exactly : (p : ℕ) → In p places ↔ ((u : ℕ) × (slice_get tickets p ≡ Some u) × NearestCause false l t s u)
   pub falling : Falling places
 
 -- each of the places where an event is told has such a list

@@ -6,9 +6,8 @@ use Rattle.runs.specs.declared.event.Event.{Event}
 use Rattle.machine.specs.AtMachine.{AtMachine}
 use Rattle.local_actions.specs.declared.action.LocalAction.{LocalAction}
 use Rattle.rings.specs.declared.partner.Partner.{Partner}
-use Rattle.run_depths.specs.internal.Greatest.{AreGreatest}
+use Rattle.run_depths.specs.internal.Held.{HoldsPlaces}
 use Rattle.picture_data.specs.Lines.{line_of}
-use Rattle.picture_data.specs.Shown.{HasDepths}
 use Rattle.picture_data.specs.Spots.{Deep, Spot, StandsSince, place_at, places_of_sides, ready_spots, role_of, spot_at, spot_of, spots_behind, with_sides}
 use Rattle.picture_data.specs.Wanted.{Around, Seen}
 use Rattle.picture_data.specs.declared.partners.Now.{Now}
@@ -25,9 +24,9 @@ seen_in m n = record { line = line_of m; around = around_in n }
 abbrev pub deep_in : Now → Deep
 deep_in n = record { live = n.live.now.live; depths = n.depths.now }
 
--- the depths are those of the live events, with the greatest up to each
+-- the places of the live events are held, with what is behind these depths
 abbrev pub KnowsDepths : Now → Type 0
-KnowsDepths n = HasDepths n.live.now.live n.depths.now × AreGreatest n.depths.now n.most.now
+KnowsDepths n = HoldsPlaces n.live.now.live n.depths.now n.held.now
 
 -- the place of an action
 abbrev pub side_place : LocalAction → Option Place

@@ -1,6 +1,8 @@
 -- What a walk through a tree finds for all that is sought at once: ends of channels, each with its place.
 -- No reader has to believe it: `proofs/Summed.antt` ties it to `stands` of what is left of the tree.
 use Rattle.std.specs.Prelude.{◌≡◌, ◌↔◌, ◌==◌, ℕ, ◌+◌, ◌*◌, List, [], ◌∷◌, ◌++◌, Bool, true, false, ◌||◌, cond, is_none, Option, Some, None, slice_get}
+use Rattle.std.specs.BTreeSet.{BTreeSet, contains}
+use Rattle.std.specs.Ordering.{nat_cmp}
 use Rattle.address.specs.declared.Entry.{Entry}
 use Rattle.address.specs.declared.Entry.TheVariants.{Ordered, Branch}
 use Rattle.last_events.specs.LastEvents.{Uses}
@@ -18,6 +20,10 @@ use Rattle.rings.specs.declared.ends.Kind.{Kind}
 use Rattle.rings.specs.declared.ends.Summary.{Summary}
 use Rattle.rings.specs.declared.ends.Summary.TheVariants as summary
 use Rattle.rings.specs.declared.ends.Kind.TheVariants.{There, Later, Within}
+use Rattle.rings.specs.declared.line.Line as line
+use Rattle.rings.specs.declared.line.Line.TheVariants as lines
+use Rattle.rings.specs.declared.line.Tail as code_tail
+use Rattle.rings.specs.declared.line.Tail.TheVariants as tails
 use Rattle.rings.specs.declared.partner.Partner.{Partner}
 use Rattle.rings.specs.declared.partner.Partner.TheVariants as partner
 use Rattle.rings.specs.declared.sought.Sought.{Sought}
@@ -147,10 +153,20 @@ pub data Sum : Type 0 where
   -- something is: whether it never ends, and the ends there
   working : Bool → List Placed → Sum
 
+-- each somewhere here, in turns
+abbrev pub within : List Sought → List Placed
+within [] = []
+within (s ∷ ss) = placed s [] Within ∷ within ss
+
 -- what the code has found
 abbrev pub sum_of : Summary → Sum
 sum_of summary.Over = finished
 sum_of (summary.AtWork e ends) = working e ends.items
+sum_of (summary.InTurns e ss) = working e (within ss.items)
+
+abbrev pub ends_in : Sum → List Placed
+ends_in finished = []
+ends_in (working e es) = es
 
 abbrev pub farther : Entry → Placed → Placed
 farther x e = placed e.sought (x ∷ e.place) e.kind
@@ -160,23 +176,90 @@ abbrev pub under : Entry → List Placed → List Placed
 under x [] = []
 under x (e ∷ es) = farther x e ∷ under x es
 
+-- ---- what stands behind a child at work: where it is does not count, only what is sought there
+
+pub data Tail : Type 0 where
+  -- nothing is left to do there
+  no_tail : Tail
+  -- something is: whether it never ends, and what is sought there
+  tail : Bool → List Sought → Tail
+
+-- as the code has it
+abbrev pub tail_as : code_tail.Tail → Tail
+tail_as tails.Over = no_tail
+tail_as (tails.AtWork e ss) = tail e ss.items
+
+abbrev pub soughts : List Placed → List Sought
+soughts [] = []
+soughts (e ∷ es) = e.sought ∷ soughts es
+
+abbrev pub is_among : Sought → List Sought → Bool
+is_among s [] = false
+is_among s (t ∷ ts) = same_sought s t || is_among s ts
+
+-- of one part alone
+abbrev pub tail_of : Sum → Tail
+tail_of finished = no_tail
+tail_of (working e es) = tail e (soughts es)
+
+-- a part at work, and what stands behind it
+abbrev pub longer : Bool → List Placed → Tail → Tail
+longer true es t = tail true (soughts es)
+longer false es no_tail = tail false (soughts es)
+longer false es (tail f ss) = tail f (ss ++ soughts es)
+
+abbrev pub tail_before : Sum → Tail → Tail
+tail_before finished t = t
+tail_before (working e es) t = longer e es t
+
 abbrev pub behind_entry : Entry → Sought → Placed
 behind_entry x s = placed s (x ∷ []) Later
 
--- behind the child at this entry, what is not in it
-abbrev pub later : Entry → List Placed → List Placed → List Placed
-later x es [] = []
-later x es (r ∷ rs) = cond (has r.sought es) (later x es rs) (behind_entry x r.sought ∷ later x es rs)
+-- behind the child at this entry, what is not passed over
+abbrev pub later_but : (Sought → Bool) → Entry → List Sought → List Placed
+later_but passed x [] = []
+later_but passed x (s ∷ ss) = cond (passed s) (later_but passed x ss) (behind_entry x s ∷ later_but passed x ss)
 
-abbrev pub behind_work : Entry → Bool → List Placed → Sum → Sum
-behind_work x true es r = working true (under x es)
-behind_work x false es finished = working false (under x es)
-behind_work x false es (working f rs) = working f (later x es rs ++ under x es)
+-- the same, what is not in the child
+abbrev pub later : Entry → List Placed → List Sought → List Placed
+later x es ss = later_but (λ s. has s es) x ss
 
--- in the child at this entry, or in what comes behind it
+abbrev pub behind_work : Entry → Bool → List Placed → Tail → Sum
+behind_work x true es t = working true (under x es)
+behind_work x false es no_tail = working false (under x es)
+behind_work x false es (tail f ss) = working f (later x es ss ++ under x es)
+
+-- in the child at this entry, or in what comes behind it, of which the tail is enough where the child is at work
+abbrev pub in_row : Entry → Sum → Sum → Tail → Sum
+in_row x finished r t = r
+in_row x (working e es) r t = behind_work x e es t
+
 abbrev pub after : Entry → Sum → Sum → Sum
-after x finished r = r
-after x (working e es) r = behind_work x e es r
+after x c r = in_row x c r (tail_of r)
+
+-- children one after another, as the code has them: what is found in them, and what they are behind another child
+abbrev pub line_sum : line.Line → Sum
+line_sum lines.Over = finished
+line_sum (lines.AtWork x e ends t) = behind_work x e ends.items (tail_as t)
+
+abbrev pub line_tail : line.Line → Tail
+line_tail lines.Over = no_tail
+line_tail (lines.AtWork x e ends t) = longer e ends.items (tail_as t)
+
+-- each thing that is sought has a number of its own
+abbrev pub number_of : Sought → ℕ
+number_of (sought.Receiver c) = 4 * c
+number_of (sought.Sender c) = 4 * c + 1
+number_of (sought.Partner c) = 4 * c + 2
+number_of (sought.Close c) = 4 * c + 3
+
+-- whether its number is in the set
+abbrev pub is_in : BTreeSet ℕ → Sought → Bool
+is_in set s = contains nat_cmp set (number_of s)
+
+-- the set has the numbers of the ends
+abbrev pub HasNumbers : BTreeSet ℕ → List Placed → Type 0
+HasNumbers set es = (s : Sought) → is_in set s ≡ has s es
 
 abbrev pub beside_work : Entry → Bool → List Placed → Sum → Sum
 beside_work x e es finished = working e (under x es)
@@ -234,10 +317,15 @@ tested xs = working false (gathered Within xs)
 abbrev pub armed : List Bool → List ℕ → List Sum → Sum
 armed w ds xs = working false (gathered Later xs ++ arm_ends w ds)
 
+-- children one after another, behind another child
+abbrev pub tail_in_turn : List Sum → Tail
+tail_in_turn [] = no_tail
+tail_in_turn (x ∷ xs) = tail_before x (tail_in_turn xs)
+
 -- in children one after another, the first with number n
 abbrev pub sum_in_turn : ℕ → List Sum → Sum
 sum_in_turn n [] = finished
-sum_in_turn n (x ∷ xs) = after (Ordered n) x (sum_in_turn (n + 1) xs)
+sum_in_turn n (x ∷ xs) = in_row (Ordered n) x (sum_in_turn (n + 1) xs) (tail_in_turn xs)
 
 -- in children side by side, the first in branch n
 abbrev pub sum_abreast : ℕ → List Sum → Sum
@@ -296,6 +384,6 @@ abbrev mutual
   procs_sum w no_procs = []
   procs_sum w (proc p ps) = proc_sum w p ∷ procs_sum w ps
 
--- this is what is found in child i of a sequence, or in what comes behind it
-abbrev pub SumAt : List Bool → Procs → ℕ → Sum → Sum → Type 0
-SumAt w ps i rest x = (p : Proc) → proc_at ps i ≡ Some p → x ≡ after (Ordered i) (proc_sum w p) rest
+-- this is what is found in child i of a sequence
+abbrev pub SumAt : List Bool → Procs → ℕ → Sum → Type 0
+SumAt w ps i x = (p : Proc) → proc_at ps i ≡ Some p → x ≡ proc_sum w p

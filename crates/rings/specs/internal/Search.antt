@@ -1,6 +1,6 @@
 -- The search for a ring by indexes of actions.
 -- No reader has to believe it: the contract of `ring_among` ties it to `TellsRing`.
-use Rattle.std.specs.Prelude.{◌≡◌, ℕ, ◌+◌, ◌<◌, List, [], ◌∷◌, length, Bool, true, false, ◌&&◌, Option, Some, None, option_map, slice_get}
+use Rattle.std.specs.Prelude.{◌≡◌, ℕ, ◌+◌, ◌<◌, ◌≤◌, List, [], ◌∷◌, length, Bool, true, false, ◌&&◌, Option, Some, None, option_map, slice_get}
 use Rattle.syntax.specs.Lists.{In}
 use Rattle.runs.specs.Moves.{Place}
 use Rattle.runs.specs.Tests.{same_place}
@@ -127,7 +127,9 @@ count_new (New ∷ xs) = count_new xs + 1
 count_new (OnWay ∷ xs) = count_new xs
 count_new (Done ∷ xs) = count_new xs
 
--- the index of an action that waits for it and at which the search is not done; or there is none
+-- the last index of an action for which it waits and at which the search is not done; or there is none
 abbrev pub NextOpen : ℕ → Test → List Seen → ℕ → Option ℕ → Type 0
-NextOpen n w seen top (Some j) = (j < n) × (w top j ≡ true) × (is_open (slice_get seen j) ≡ true)
+NextOpen n w seen top (Some j) =
+    (j < n) × (w top j ≡ true) × (is_open (slice_get seen j) ≡ true)
+    × ((k : ℕ) → k < n → w top k ≡ true → is_open (slice_get seen k) ≡ true → k ≤ j)
 NextOpen n w seen top None = (j : ℕ) → j < n → w top j ≡ true → is_open (slice_get seen j) ≡ false

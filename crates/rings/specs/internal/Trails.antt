@@ -1,6 +1,6 @@
 -- What a search for a ring has gone through, as the code keeps it.
 -- No reader has to believe it: the contract of `ring_among` ties it to `TellsRing`.
-use Rattle.std.specs.Prelude.{◌≡◌, ℕ, List, length, Bool, true, false, Option, Some, None, slice_get, slice_set}
+use Rattle.std.specs.Prelude.{◌≡◌, ℕ, ◌≤◌, List, length, Bool, true, false, Option, Some, None, slice_get, slice_set}
 use Rattle.syntax.specs.Lists.{In}
 use Rattle.last_events.specs.LastEvents.{Uses}
 use Rattle.last_events.specs.declared.uses.UseTable.{UseTable}
@@ -24,9 +24,11 @@ pub record Fewer (seen : List Seen) (old new : UseTable) : Type 0 where
   pub sound : (g j : ℕ) → Uses new g j → Uses old g j
   pub kept : (g j : ℕ) → Uses old g j → is_open (slice_get seen j) ≡ true → Uses new g j
 
--- one of the row at which the search is not done; or there is none
+-- the last of the row at which the search is not done; or there is none
 abbrev pub NextIn : List Seen → UseTable → ℕ → Option ℕ → Type 0
-NextIn seen table g (Some j) = Uses table g j × (is_open (slice_get seen j) ≡ true)
+NextIn seen table g (Some j) =
+    Uses table g j × (is_open (slice_get seen j) ≡ true)
+    × ((k : ℕ) → Uses table g k → is_open (slice_get seen k) ≡ true → k ≤ j)
 NextIn seen table g None = (j : ℕ) → Uses table g j → is_open (slice_get seen j) ≡ false
 
 -- whether one on the way stands in the row, if there is one

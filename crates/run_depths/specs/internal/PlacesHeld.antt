@@ -1,11 +1,9 @@
--- The places of events in a table, while they are put there. No reader has to believe it: the contracts of `all_since`
--- and `since_now` speak of live events alone.
-use Rattle.std.specs.Prelude.{◌≡◌, ◌⊎◌, ◌↔◌, ℕ, ◌+◌, ◌<◌, ◌≤◌, List, [], Some, length, slice_get, slice_index}
-use Rattle.address.specs.Places.{Before}
+-- The places of events in a table, while they are put there. No reader has to believe it: the contract of `all_since`
+-- speaks of live events alone.
+use Rattle.std.specs.Prelude.{◌≡◌, ◌⊎◌, ◌↔◌, ℕ, ◌+◌, ◌<◌, List, [], Some, length, slice_get, slice_index}
 use Rattle.syntax.specs.Lists.{In}
 use Rattle.last_events.specs.LastEvents.{IsAt, LastBefore}
 use Rattle.last_events.specs.declared.places.PlaceTable.{PlaceTable}
-use Rattle.runs.specs.Events.{places}
 use Rattle.runs.specs.Live.{Live}
 use Rattle.runs.specs.Moves.{Place}
 use Rattle.runs.specs.declared.event.Event.{Event}
@@ -29,18 +27,3 @@ pub record SinceTo (l : Live) (depths : List ℕ) (n : ℕ) (since : List (ℕ �
   pub size : length since ≡ n
   pub each : (i t : ℕ) (e : Event) (s : ℕ × ℕ) → i < n → slice_get l i ≡ Some (t, e) →
       slice_get since i ≡ Some s → IsEventSince l depths e s
-
--- the event has a place before a
-abbrev pub HasBefore : Event → Place → Type 0
-HasBefore e a = (b : Place) × In b (places e) × Before b a
-
--- what is known of a with an event of depth d
-pub record WithEvent (d : ℕ) (e : Event) (a : Place) (old new : ℕ) : Type 0 where
-  pub above : HasBefore e a → d < new
-  pub kept : old ≤ new
-  pub reached : (new ≡ old) ⊎ (HasBefore e a × (new ≡ d + 1))
-
--- of the events from index k on, d is one more than the greatest depth of one with a place before a
-pub record SinceFrom (l : Live) (depths : List ℕ) (a : Place) (k d : ℕ) : Type 0 where
-  pub above : (i : ℕ) (b : Place) → k ≤ i → IsPlaceAt l i b → Before b a → slice_index depths i < d
-  pub reached : (d ≡ 0) ⊎ ((i : ℕ) × (b : Place) × IsPlaceAt l i b × Before b a × (d ≡ slice_index depths i + 1))

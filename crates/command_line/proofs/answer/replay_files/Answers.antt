@@ -1,5 +1,6 @@
 use Rattle.std.proofs.Common.{ℕ, List, inl, inr, refl, subst}
 use Rattle.debug_session.specs.Replaying.{Replays}
+use Rattle.command_line.specs.Kept.{kept_of}
 use Rattle.command_line.proofs.AnsweringLemmas.{run-not-had, run-refused}
 use Rattle.command_line.proofs.Handing.{handed-on}
 use Rattle.command_line.proofs.TellingLemmas.{tells-same}
@@ -9,7 +10,7 @@ pub returns-in_err-checked : goal.returns-in_err-checked
 returns-in_err-checked g c = inl (
   c.in_err-checked.field-0.0,
   run-not-had (g.F.Files.holds c.args.from.now.files.now) c.args.names.now.file.now c.args.names.now.stimulus.now
-      c.args.names.now.trace.now c.in_err-checked.field-0.0
+      c.args.names.now.trace.now (kept_of c.read_run.new.texts) c.in_err-checked.field-0.0
       c.in_err-checked.ensures,
   handed-on c.from_residual.result c.in_err-checked.field-0.0 c.from_residual.ensures.1,
   refl,
@@ -19,8 +20,8 @@ pub returns-in_err-events : goal.returns-in_err-events
 returns-in_err-events g c = inl (
   c.in_err-events.field-0.0,
   run-refused (g.F.Files.holds c.args.from.now.files.now) c.args.names.now.file.now c.args.names.now.stimulus.now
-      c.args.names.now.trace.now c.read_run.new.texts.source.items c.in_ok-checked.checked
-      c.read_run.new.texts.trace.items c.as_slice.result.now
+      c.args.names.now.trace.now (kept_of c.read_run.new.texts) c.in_ok-checked.checked
+      c.as_slice.result.now
       c.in_err-events.field-0.0 c.in_ok-checked.ensures c.as_slice.ensures.value
       c.in_err-events.ensures,
   handed-on c.from_residual-in_err-events.result c.in_err-events.field-0.0 c.from_residual-in_err-events.ensures.1,

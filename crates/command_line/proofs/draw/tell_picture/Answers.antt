@@ -9,4 +9,4 @@ returns-in-Text g c = rw c.in-Text.is (
     )
 
 pub returns-in-NoSuchStep : goal.returns-in-NoSuchStep
-returns-in-NoSuchStep g c = rw c.in-NoSuchStep.is (refl, refl)
+returns-in-NoSuchStep g c = rw c.in-NoSuchStep.is (refl, refl, refl)

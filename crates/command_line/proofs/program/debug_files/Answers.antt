@@ -18,8 +18,13 @@ returns-in_err-read_texts g c =
 pub returns : goal.returns
 returns g c =
     debug-session (g.F.Files.holds c.args.from.now.files.now) c.args.file.now c.args.stimulus.now
-    c.read_texts.new.texts.source.items c.read_texts.new.texts.values.items c.as_slice.result.now
-    c.as_slice-2.result.now
+    (record {
+      source = c.read_texts.new.texts.source.items;
+      values = c.read_texts.new.texts.values.items;
+      trace = c.read_texts.new.texts.trace.items;
+      said = c.debug_keeping.new.last_line.items;
+    })
+    c.as_slice.result.now c.as_slice-2.result.now
     (used (reader_remaining g.I.Read.remaining) c.args.reader.now c.debug_keeping.new.reader)
     (used g.O.Write.contents c.args.out.now c.debug_keeping.new.writer) c.debug_keeping.result
     c.in_ok-read_texts.ensures c.as_slice.ensures.value c.as_slice-2.ensures.value c.debug_keeping.ensures.debugged

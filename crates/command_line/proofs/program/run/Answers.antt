@@ -6,7 +6,7 @@ use Rattle.command_line.proofs.program.run.Goals as goal
 pub returns-in-Ok-clause-run : goal.returns-in-Ok-clause-run
 returns-in-Ok-clause-run g c =
     let served = c.serve.ensures.served in
-    inl (c.in-Ok.request, c.in-Ok.ensures, served.0, c.serve.result.told, served.1, served.2, served.3, served.4, served.5)
+    inl (c.in-Ok.request, c.in-Ok.ensures, served.0, c.serve.result.told, served.1, served.2, served.3, served.4, served.5, served.6)
 
 pub tell_unasked-requires : goal.tell_unasked-requires
 tell_unasked-requires g c =

@@ -1,4 +1,5 @@
 use Rattle.std.proofs.Common.{ℕ, List, subst}
+use Rattle.command_line.specs.Kept.{kept_of}
 use Rattle.command_line.specs.Serving.{told_with}
 use Rattle.command_line.specs.Used.{Tells, used}
 use Rattle.command_line.proofs.program.serve.Goals as goal
@@ -6,6 +7,7 @@ use Rattle.command_line.proofs.program.serve.Goals as goal
 pub returns-clause-served : goal.returns-clause-served
 returns-clause-served g c = (
   c.perform-done.result,
+  kept_of c.perform-done.new.texts,
   c.words_behind-words.result.items,
   c.perform-done.ensures,
   c.words_behind-words.ensures,

@@ -1,5 +1,6 @@
-use Rattle.std.proofs.Common.{inl, inr, refl}
+use Rattle.std.proofs.Common.{ℕ, List, inl, inr, refl, subst}
 use Rattle.debug_session.specs.declared.fault.Fault.TheVariants.{Memory}
+use Rattle.questions.specs.Asking.{IsOutlineText}
 use Rattle.command_line.proofs.Handing.{handed-on}
 use Rattle.command_line.proofs.TellingLemmas.{tells-same}
 use Rattle.command_line.proofs.question.outline_file.Goals as goal
@@ -28,7 +29,8 @@ returns g c = inr (
     c.in_ok-checked.checked,
     c.in_ok-checked.ensures.0,
     c.in_ok-checked.ensures.1,
-    c.in_ok-text.ensures,
+    subst (λ (t : List ℕ). IsOutlineText t c.in_ok-checked.checked c.in_ok-text.text.items) c.as_slice.ensures.value
+        c.in_ok-text.ensures,
   ),
   tells-same g.O.Write.contents c.args.out.now c.write_out.new.writer c.as_slice-2.result.now c.in_ok-text.text.items c.write_out.result
       c.as_slice-2.ensures.value (c.write_out.ensures.bytes, c.write_out.ensures.failures),

@@ -1,4 +1,4 @@
-use Rattle.std.proofs.Common.{inl, inr, refl}
+use Rattle.std.proofs.Common.{inl, inr, refl, ◌∙◌}
 use Rattle.debug_session.specs.declared.fault.Fault.TheVariants.{Memory}
 use Rattle.command_line.proofs.Handing.{handed-on}
 use Rattle.command_line.proofs.question.show_page.Goals as goal
@@ -12,4 +12,8 @@ returns-in_err-text g c = inl (
 )
 
 pub returns : goal.returns
-returns g c = inr (c.as_bytes.result.now, tt, (c.write_out.ensures.bytes, c.write_out.ensures.failures))
+returns g c = inr (
+  c.as_bytes.result.now,
+  c.as_bytes.ensures.value ∙ c.in_ok-text.ensures,
+  (c.write_out.ensures.bytes, c.write_out.ensures.failures),
+)

@@ -9,4 +9,4 @@ returns-in-Told g c = rw c.in-Told.is (
     )
 
 pub returns-in-Refused : goal.returns-in-Refused
-returns-in-Refused g c = rw c.in-Refused.is (refl, refl)
+returns-in-Refused g c = rw c.in-Refused.is (refl, refl, refl)

@@ -1,6 +1,7 @@
 use Rattle.std.proofs.Common.{ℕ, List, inl, inr, refl, subst}
 use Rattle.debug_session.specs.Wrapping.{of_trace}
 use Rattle.questions.specs.Asking.{IsWaitingText}
+use Rattle.command_line.specs.Kept.{kept_of}
 use Rattle.command_line.proofs.AnsweringLemmas.{run-not-had, run-refused, trace-refused}
 use Rattle.command_line.proofs.Handing.{handed-on}
 use Rattle.command_line.proofs.TellingLemmas.{tells-same}
@@ -10,7 +11,7 @@ pub returns-in_err-checked : goal.returns-in_err-checked
 returns-in_err-checked g c = inl (
   c.in_err-checked.field-0.0,
   run-not-had (g.F.Files.holds c.args.from.now.files.now) c.args.names.now.file.now c.args.names.now.stimulus.now
-      c.args.names.now.trace.now c.in_err-checked.field-0.0
+      c.args.names.now.trace.now (kept_of c.read_run.new.texts) c.in_err-checked.field-0.0
       c.in_err-checked.ensures,
   handed-on c.from_residual.result c.in_err-checked.field-0.0 c.from_residual.ensures.1,
   refl,
@@ -20,8 +21,8 @@ pub returns-in_err-text : goal.returns-in_err-text
 returns-in_err-text g c = inl (
   (of_trace c.in_err-text.field-0.0),
   run-refused (g.F.Files.holds c.args.from.now.files.now) c.args.names.now.file.now c.args.names.now.stimulus.now
-      c.args.names.now.trace.now c.read_run.new.texts.source.items c.in_ok-checked.checked
-      c.read_run.new.texts.trace.items c.as_slice.result.now
+      c.args.names.now.trace.now (kept_of c.read_run.new.texts) c.in_ok-checked.checked
+      c.as_slice.result.now
       (of_trace c.in_err-text.field-0.0) c.in_ok-checked.ensures c.as_slice.ensures.value
       (trace-refused c.in_ok-checked.checked c.as_slice.result.now c.in_err-text.field-0.0 c.in_err-text.ensures),
   handed-on c.from_residual-in_err-text.result (of_trace c.in_err-text.field-0.0) c.from_residual-in_err-text.ensures.1,

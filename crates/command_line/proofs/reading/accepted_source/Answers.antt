@@ -1,4 +1,5 @@
 use Rattle.std.proofs.Common.{inl}
+use Rattle.command_line.specs.Kept.{kept_of}
 use Rattle.command_line.proofs.AnsweringLemmas.{source-accepted}
 use Rattle.command_line.proofs.Handing.{refused}
 use Rattle.command_line.proofs.reading.accepted_source.Goals as goal
@@ -10,6 +11,6 @@ returns-in_err-read_source g c =
 
 pub returns : goal.returns
 returns g c =
-    source-accepted (g.F.Files.holds c.args.from.now.files.now) c.args.file.now c.read_source.new.texts.source.items
+    source-accepted (g.F.Files.holds c.args.from.now.files.now) c.args.file.now (kept_of c.read_source.new.texts)
     c.as_slice.result.now c.accept.result c.in_ok-read_source.ensures c.as_slice.ensures.value c.accept.ensures.system
     c.accept.ensures.fault

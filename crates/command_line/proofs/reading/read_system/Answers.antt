@@ -1,4 +1,5 @@
 use Rattle.std.proofs.Common.{inl}
+use Rattle.command_line.specs.Kept.{kept_of}
 use Rattle.command_line.proofs.AnsweringLemmas.{texts-accepted}
 use Rattle.command_line.proofs.Handing.{refused}
 use Rattle.command_line.proofs.reading.read_system.Goals as goal
@@ -11,6 +12,5 @@ returns-in_err-read_texts g c =
 pub returns : goal.returns
 returns g c =
     texts-accepted (g.F.Files.holds c.args.from.now.files.now) c.args.file.now c.args.stimulus.now
-    c.read_texts.new.texts.source.items c.read_texts.new.texts.values.items c.as_slice.result.now
-    c.as_slice-2.result.now c.accept.result c.in_ok-read_texts.ensures c.as_slice.ensures.value
+    (kept_of c.read_texts.new.texts) c.as_slice.result.now c.as_slice-2.result.now c.accept.result c.in_ok-read_texts.ensures c.as_slice.ensures.value
     c.as_slice-2.ensures.value c.accept.ensures.system c.accept.ensures.fault

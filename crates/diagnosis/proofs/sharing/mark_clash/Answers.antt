@@ -12,7 +12,7 @@ returns-in-Some c =
     subst (λ (o : Option OtherUse). TellsClash c.args.source.now c.args.finding.now.start o) c.in-Some.is c.in_ok-other.ensures in
     on_ok_weaker c.add_beside.result
     (λ marked. (Some c.in-Some.other, told, marked ∙ ap (λ (at : ℕ). marked_at c.args.finding.now.beside.items ++ at ∷ []) c.token_at.ensures))
-    c.add_beside.ensures
+    c.add_beside.ensures.marked
 
 pub returns-in-None : goal.returns-in-None
 returns-in-None c = (

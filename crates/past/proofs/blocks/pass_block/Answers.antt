@@ -68,8 +68,8 @@ loop-place-preserved c =
     let least = c.handed_until-until.ensures.least in
     let one = marks-here leads c.requires.down c.args.asked whole c.args.first c.args.end place c.below_at-below.result c.mark_of-mark.result x c.is_told-is_told.result
     at_x c.is_told-is_told.ensures c.below_at-below.ensures c.mark_of-mark.ensures.reached c.mark_of-mark.ensures.behind in
-    let those = opens leads c.requires.down c.args.asked whole c.args.first c.args.end place c.without-direct.result c.below_at-below.result c.requires.width
-    c.below_at-below.ensures c.without-direct.ensures in
+    let those = opens leads c.requires.down c.args.asked whole c.args.first c.args.end place c.without-nearest.result c.below_at-below.result c.requires.width
+    c.below_at-below.ensures c.without-nearest.ensures in
     let adds = c.in_ok-add_at.ensures in
     let size_near = c.loop-place.invariant.near in
     let size_new = adds.size in
@@ -83,7 +83,7 @@ loop-place-preserved c =
       marked = marked-next leads c.requires.down c.args.asked whole c.args.first c.args.end place c.loop-place.marks c.mark_of-mark.result within_marks one
           c.loop-place.invariant.marked;
       near = omega arith;
-      open_to = open-next leads c.requires.down c.args.asked whole c.args.first c.args.end place c.without-direct.result c.loop-place.near c.add_at.new.near
+      open_to = open-next leads c.requires.down c.args.asked whole c.args.first c.args.end place c.without-nearest.result c.loop-place.near c.add_at.new.near
           c.is_told-is_told.result (omega arith)
           (λ h. c.is_told-is_told.ensures ∙ ap (λ (y : PastEvent). told c.args.asked y) (at-one whole place x h.0 at_x h.1) ∙ h.2) (sym size_new) those adds
           c.loop-place.invariant.open_to;

@@ -1,26 +1,21 @@
 use Rattle.std.proofs.Common.{◌∙◌, ℕ, List, ap, sym, subst}
 use Rattle.runs.specs.Live.{Live}
 use Rattle.runs.specs.declared.event.Event.{Event}
-use Rattle.run_depths.specs.internal.Greatest.{AreGreatest}
+use Rattle.run_depths.specs.Depths.{AreDepths}
 use Rattle.picture_data.specs.Lines.{line_of}
-use Rattle.picture_data.specs.Shown.{EachStandsIn, HasDepths}
+use Rattle.picture_data.specs.Shown.{EachStandsIn}
 use Rattle.picture_data.specs.Spots.{Deep, ready_spots, ring_of}
 use Rattle.picture_data.specs.Wanted.{Seen}
 use Rattle.picture_data.specs.internal.SpotsSoFar.{AddsSpots}
 use Rattle.picture_data.proofs.WaitLaws.{shows-waits-by}
 use Rattle.picture_data.proofs.end.end_of.Goals as goal
 
-pub waiting_places-requires : goal.waiting_places-requires
-waiting_places-requires c = (
-  subst (λ (l : Live). HasDepths l c.args.depths.now) (sym c.live_events-live.ensures) c.requires,
-  subst (λ (ms : List ℕ). AreGreatest c.args.depths.now ms) (sym c.as_slice.ensures.value) c.in_ok-most.ensures,
-)
+pub held_places-requires-clause-depths : goal.held_places-requires-clause-depths
+held_places-requires-clause-depths c =
+    subst (λ (l : Live). AreDepths l c.args.depths.now) (sym c.live_events-live.ensures) c.requires.0
 
-pub add_ready_places-requires : goal.add_ready_places-requires
-add_ready_places-requires c = (
-  subst (λ (l : Live). HasDepths l c.args.depths.now) (sym c.live_events-live.ensures) c.requires,
-  subst (λ (ms : List ℕ). AreGreatest c.args.depths.now ms) (sym c.as_slice.ensures.value) c.in_ok-most.ensures,
-)
+pub held_places-requires-clause-small : goal.held_places-requires-clause-small
+held_places-requires-clause-small c = c.requires.1
 
 pub returns : goal.returns
 returns c =
@@ -40,6 +35,7 @@ returns c =
       actions = subst (λ (es : List Event). EachStandsIn c.args.machine.now c.args.table.now es c.in_ok-ready_actions.ready_actions.items)
           c.as_slice-events.ensures c.in_ok-ready_actions.ensures;
       progress = (told.0, told.1, told.2.progress);
+      lacks_input = (told.0, told.1, c.lacks_input.ensures.meant told.0 told.2);
       waits = shows-waits-by c.args.machine.now c.args.table.now c.args.uses.now c.args.depths.now c.in_ok-waiting.waiting _
           c.in_ok-shown.shown.places.items c.in_ok-shown.shown.place_of_action.items c.as_slice-actions.result.now c.as_slice-events.result.now
           c.live_events-live.result.now.live c.as_slice-actions.ensures c.as_slice-events.ensures c.live_events-live.ensures c.in_ok-waiting.ensures

@@ -2,12 +2,16 @@
 use Rattle.std.proofs.Common.{◌≡◌, ℕ, ◌+◌, ◌-◌, ◌<◌, ◌≤◌, length, arith}
 use Rattle.address.specs.declared.Entry.TheVariants.{Ordered, Branch}
 use Rattle.process_tree.specs.View.{code_view}
-use Rattle.rings.specs.internal.Ends.{code_sum, sum_of}
-use Rattle.rings.proofs.Rows.{turned, branched, fresh-turn, fresh-branch, fresh-end, fresh-last}
+use Rattle.rings.specs.internal.Ends.{code_sum, line_sum, line_tail, sum_of}
+use Rattle.rings.proofs.Rows.{turned, branched, fresh-turn, fresh-behind, fresh-branch, fresh-end, fresh-no-tail, fresh-last}
 use Rattle.rings.proofs.fresh.+look_fresh.Goals as goal
 
 pub look_in_turn-children-init : goal.look_in_turn-children-init
-look_in_turn-children-init t c = (omega arith, fresh-end c.args.wanted.now c.args.codes.now (length c.args.codes.now) (omega arith))
+look_in_turn-children-init t c = (
+  omega arith,
+  fresh-end c.args.wanted.now c.args.codes.now (length c.args.codes.now) (omega arith),
+  fresh-no-tail c.args.wanted.now c.args.codes.now (length c.args.codes.now) (omega arith),
+)
 
 pub look_in_turn-children-preserved : goal.look_in_turn-children-preserved
 look_in_turn-children-preserved t c =
@@ -16,10 +20,12 @@ look_in_turn-children-preserved t c =
     let next : c.children.number ≡ i + 1 = omega arith in
     let less : i < length c.args.codes.now = omega arith in (
       omega arith,
-      fresh-turn c.args.wanted.now c.args.codes.now i c.children.number c.index-codes-number.result (sum_of c.children.found) _ next less
-          c.index-codes-number.is c.children.invariant.1
-          (turned (code_sum c.args.wanted.now (code_view c.index-codes-number.result)) (Ordered i) c.in_ok-entry.entry (sum_of c.in_ok-child.child) (sum_of c.children.found) _
-          c.in_ok-entry.ensures c.in_ok-child.ensures c.in_ok-found.ensures),
+      fresh-turn c.args.wanted.now c.args.codes.now i c.children.number c.index-codes-number.result (line_sum c.children.line) _ (line_tail c.children.line) next less
+          c.index-codes-number.is c.children.invariant.1 c.children.invariant.2
+          (turned (code_sum c.args.wanted.now (code_view c.index-codes-number.result)) (Ordered i) c.in_ok-entry.entry (sum_of c.in_ok-child.child) (line_sum c.children.line) _
+          (line_tail c.children.line) c.in_ok-entry.ensures c.in_ok-child.ensures c.in_ok-line.ensures.sum),
+      fresh-behind c.args.wanted.now c.args.codes.now i c.children.number c.index-codes-number.result (sum_of c.in_ok-child.child) (line_tail c.children.line) _ next less
+          c.index-codes-number.is c.in_ok-child.ensures c.children.invariant.2 c.in_ok-line.ensures.behind,
     )
 
 pub look_abreast-children-init : goal.look_abreast-children-init

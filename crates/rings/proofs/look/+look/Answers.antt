@@ -1,20 +1,21 @@
 -- Child by child, from the last.
 use Rattle.std.proofs.Common.{◌≡◌, ℕ, ◌+◌, ◌-◌, ◌<◌, ◌≤◌, length, arith}
 use Rattle.std.proofs.lemmas.Result.{IfOk-weaker}
-use Rattle.address.specs.declared.Entry.TheVariants.{Ordered, Branch}
-use Rattle.process_tree.specs.View.{await_view, code_view, proc_view}
+use Rattle.address.specs.declared.Entry.TheVariants.{Branch}
+use Rattle.process_tree.specs.View.{await_view, proc_view}
 use Rattle.local_actions.proofs.public.Begun.{begun-row}
 use Rattle.local_actions.proofs.public.Endings.{row-end, row-some}
-use Rattle.rings.specs.internal.Ends.{code_sum, proc_sum, sum_of}
-use Rattle.rings.proofs.Rows.{begun-sum-at, branched, fresh-sum-at, opened-sum, procs-branch, procs-end, procs-last, procs-turn, turned}
+use Rattle.rings.specs.internal.Ends.{line_sum, line_tail, proc_sum, sum_of}
+use Rattle.rings.proofs.Rows.{begun-sum-at, branched, fresh-sum-at, opened-sum, procs-behind, procs-branch, procs-end, procs-last, procs-no-tail, procs-turn}
 use Rattle.rings.proofs.look.+look.Goals as goal
 
 pub look_sequence-children-init : goal.look_sequence-children-init
-look_sequence-children-init t c = (
-  omega arith,
-  procs-end c.args.wanted.now (begun-row c.args.begun.now c.args.row.now) c.len-number.result
-      (row-end c.args.begun.now c.args.row.now c.len-number.result (omega arith)),
-)
+look_sequence-children-init t c =
+    let last = row-end c.args.begun.now c.args.row.now c.len-number.result (omega arith) in (
+      omega arith,
+      procs-end c.args.wanted.now (begun-row c.args.begun.now c.args.row.now) c.len-number.result last,
+      procs-no-tail c.args.wanted.now (begun-row c.args.begun.now c.args.row.now) c.len-number.result last,
+    )
 
 pub look_sequence-children-preserved : goal.look_sequence-children-preserved
 look_sequence-children-preserved t c =
@@ -24,8 +25,11 @@ look_sequence-children-preserved t c =
     let less : i < length c.args.row.now.codes = omega arith in
     let there = row-some c.args.begun.now c.args.row.now i less in (
       omega arith,
-      procs-turn c.args.wanted.now (begun-row c.args.begun.now c.args.row.now) i c.children.number there.0 (sum_of c.children.found) _ next there.1
-          c.children.invariant.1 c.in_ok-found.ensures,
+      procs-turn c.args.wanted.now (begun-row c.args.begun.now c.args.row.now) i c.children.number there.0 c.in_ok-entry.entry (sum_of c.in_ok-child.child)
+          (line_sum c.children.line) _ (line_tail c.children.line) next there.1 c.in_ok-entry.ensures c.children.invariant.1 c.children.invariant.2 c.in_ok-child.ensures
+          c.in_ok-line.ensures.sum,
+      procs-behind c.args.wanted.now (begun-row c.args.begun.now c.args.row.now) i c.children.number there.0 (sum_of c.in_ok-child.child) (line_tail c.children.line) _ next
+          there.1 c.children.invariant.2 c.in_ok-child.ensures c.in_ok-line.ensures.behind,
     )
 
 pub look_parallel-children-init : goal.look_parallel-children-init
@@ -52,12 +56,10 @@ look_gate-returns-in-Opened t c =
 
 pub look_number-returns-then-number-begun : goal.look_number-returns-then-number-begun
 look_number-returns-then-number-begun t c =
-    IfOk-weaker c.look_child.result _ _ (λ x h. begun-sum-at c.args.wanted.now c.args.begun.now c.args.row.now c.args.number c.index-begun-number.result
-    (sum_of c.args.rest) (sum_of x) (omega arith) c.requires c.index-begun-number.is h) c.look_child.ensures
+    IfOk-weaker c.look.result _ _ (λ x h. begun-sum-at c.args.wanted.now c.args.begun.now c.args.row.now c.args.number c.index-begun-number.result
+    (sum_of x) (omega arith) c.requires c.index-begun-number.is h) c.look.ensures
 
 pub look_number-returns : goal.look_number-returns
 look_number-returns t c =
-    IfOk-weaker c.after.result _ _ (λ x h. fresh-sum-at c.args.wanted.now c.args.begun.now c.args.row.now c.args.number c.as_slice.result.now c.index-as_slice-number.result
-    (sum_of c.args.rest) (sum_of x) (omega arith) c.as_slice.ensures c.requires c.index-as_slice-number.is
-    (turned (code_sum c.args.wanted.now (code_view c.index-as_slice-number.result)) (Ordered c.args.number) c.in_ok-entry.entry
-    (sum_of c.in_ok-found.found) (sum_of c.args.rest) (sum_of x) c.in_ok-entry.ensures c.in_ok-found.ensures h)) c.after.ensures
+    IfOk-weaker c.look_fresh.result _ _ (λ x h. fresh-sum-at c.args.wanted.now c.args.begun.now c.args.row.now c.args.number c.as_slice.result.now c.index-as_slice-number.result
+    (sum_of x) (omega arith) c.as_slice.ensures c.requires c.index-as_slice-number.is h) c.look_fresh.ensures

@@ -1,14 +1,15 @@
 -- From the last child down to this one all is found.
 use Rattle.std.proofs.Common.{◌≡◌, ◌≤◌, length, map}
 use Rattle.process_tree.specs.View.{begun_of, proc_view, row_view}
-use Rattle.rings.specs.internal.Ends.{sum_of}
-use Rattle.rings.proofs.Rows.{procs-abreast, procs-in-turn}
+use Rattle.rings.specs.internal.Ends.{line_sum, line_tail, sum_of}
+use Rattle.rings.proofs.Rows.{procs-abreast, procs-in-turn, procs-tail}
 use Rattle.rings.proofs.look.+look.Given as goal
 
 abbrev pub invariant-look_sequence-children : goal.invariant-look_sequence-children
 invariant-look_sequence-children l =
     (l.number ≤ length l.row.codes)
-    × (sum_of l.found ≡ procs-in-turn l.wanted (begun_of (map proc_view l.begun) (row_view l.row)) l.number)
+    × (line_sum l.line ≡ procs-in-turn l.wanted (begun_of (map proc_view l.begun) (row_view l.row)) l.number)
+    × (line_tail l.line ≡ procs-tail l.wanted (begun_of (map proc_view l.begun) (row_view l.row)) l.number)
 
 abbrev pub decreases-look_sequence-children : goal.decreases-look_sequence-children
 decreases-look_sequence-children l = l.number

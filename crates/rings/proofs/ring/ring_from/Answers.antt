@@ -1,4 +1,4 @@
-use Rattle.std.proofs.Common.{◌≡◌, ◌∙◌, ◌<◌, ◌≤◌, ◌+◌, ℕ, List, [], ◌∷◌, ◌++◌, Option, Some, None, length, slice_get, slice_set, vec_len, Vec, sym, ap, subst, arith, rules}
+use Rattle.std.proofs.Common.{◌≡◌, ◌∙◌, ◌<◌, ◌≤◌, ◌+◌, ℕ, List, [], ◌∷◌, ◌++◌, drop, Option, Some, None, length, slice_get, slice_set, vec_len, Vec, sym, ap, subst, arith, rules}
 use Rattle.std.specs.Global.{Global}
 use Rattle.std.proofs.lemmas.Option.{slice_get_within}
 use Rattle.std.proofs.lemmas.Result.{IfOk-weaker}
@@ -8,6 +8,7 @@ use Rattle.rings.specs.declared.ring.Seen.{Seen}
 use Rattle.rings.specs.declared.ring.Seen.TheVariants.{Done, New, OnWay}
 use Rattle.rings.specs.internal.Search.{Apart, NextOpen, Test, count_new, is_open, same_at, waits}
 use Rattle.rings.specs.internal.Trails.{SoundTrail}
+use Rattle.rings.proofs.FirstFound.{comes-first, comes-less, comes-nowhere, comes-on, comes-round}
 use Rattle.rings.proofs.Marked.{begins-as, count-kept, count-less, goes-back-as, goes-on-as, mark-within, next-is-new, told-from, top-within}
 use Rattle.rings.proofs.Places.{alike, itself}
 use Rattle.rings.proofs.Trailing.{sound-entered, sound-left, sound-next, sound-none}
@@ -29,6 +30,8 @@ search-init c =
       subst (λ (z : List ℕ). SoundTrail c.args.tables.now c.args.actions.now c.enter.new.trail z) (sym way)
           (sound-entered c.args.tables.now c.args.actions.now c.args.partners.now c.requires.tables c.args.start c.args.trail.now c.enter.new.trail [] within c.requires.so_far.size on
           c.enter.ensures c.requires.sound),
+      λ before d. comes-first c.args.actions.now c.args.partners.now c.args.marks.now before c.args.trail.now.seen.items c.enter.new.trail.seen.items c.args.start c.push.new.self.items d
+          c.requires.so_far.size within c.requires.start c.requires.before c.requires.so_far.on_way c.enter.ensures.seen way,
     )
 
 pub leave-requires-clause-within : goal.leave-requires-clause-within
@@ -81,6 +84,9 @@ search-preserved-in_default-next_open c =
       sound-left c.args.tables.now c.args.actions.now c.args.partners.now c.requires.tables c.in-Some.top c.next_open.new.trail c.leave.new.trail c.pop.new.self.items
           (subst (λ (k : ℕ). c.in-Some.top < k) c.search.invariant.0.searching.size top) (ap (λ (l : List Seen). length l) seen ∙ c.search.invariant.0.searching.size) apart
           c.leave.ensures (subst (λ (z : List ℕ). SoundTrail c.args.tables.now c.args.actions.now c.next_open.new.trail z) old sound),
+      λ before d. comes-less c.args.actions.now c.args.partners.now c.args.marks.now before c.search.trail.seen.items c.leave.new.trail.seen.items c.in-Some.top c.search.way.items
+          c.pop.new.self.items (c.search.invariant.2 before d) c.search.invariant.0.searching.size old top none
+          (c.leave.ensures.seen ∙ ap (λ (l : List Seen). slice_set l c.in-Some.top Done) seen),
     )
 
 pub met_on-requires : goal.met_on-requires
@@ -115,6 +121,22 @@ returns-in-Some-met_on-clause-ring c =
     c.in-Some-met_on.index c.search.way.items c.pop.new.self.items c.as_slice-in-Some-met_on.result.now part.items
     (alike c.args.actions.now c.args.partners.now c.args.marks.now) c.search.invariant.0 old next (c.as_slice-in-Some-met_on.ensures.value ∙ c.in_ok-push-2.ensures.items) at on.2 h)
     c.part_from.ensures
+
+pub returns-in-Some-met_on-clause-first : goal.returns-in-Some-met_on-clause-first
+returns-in-Some-met_on-clause-first c = λ before d.
+    let n : ℕ = length c.args.actions.now in
+    let w : Test = waits c.args.actions.now c.args.partners.now c.args.marks.now in
+    let on = c.in-Some-met_on.ensures in
+    let old : c.search.way.items ≡ c.pop.new.self.items ++ c.in-Some.top ∷ [] = c.pop.ensures.items ∙ ap (λ (o : Option ℕ). c.pop.new.self.items ++ option_to_list o) c.in-Some.is in
+    let next : NextOpen n w c.search.trail.seen.items c.in-Some.top (Some c.in-Some-next_open.next) =
+    subst (λ (o : Option ℕ). NextOpen n w c.search.trail.seen.items c.in-Some.top o) c.in-Some-next_open.is
+    (c.next_open.ensures.next c.args.actions.now c.requires.tables.groups c.requires.tables.waiters c.search.invariant.1.opens c.search.invariant.0.searching.size) in
+    let same : c.as_slice-in-Some-met_on.result.now ≡ c.search.way.items = c.as_slice-in-Some-met_on.ensures.value ∙ c.in_ok-push-2.ensures.items ∙ sym old in
+    let at : slice_get c.search.way.items c.in-Some-met_on.index ≡ Some on.0 =
+    ap (λ (z : List ℕ). slice_get z c.in-Some-met_on.index) (sym same ∙ c.as_slice-in-Some-met_on.ensures.value ∙ sym c.as_slice.ensures.value) ∙ on.1 in
+    IfOk-weaker c.part_from.result _ _ (λ part h. comes-round c.args.actions.now c.args.partners.now c.args.marks.now before c.search.trail.seen.items _ c.in-Some.top c.in-Some-next_open.next
+    on.0 c.in-Some-met_on.index c.search.way.items c.pop.new.self.items part.items (c.search.invariant.2 before d) c.search.invariant.0.searching.size old next
+    c.search.invariant.0.searching.apart at on.2 (h ∙ ap (drop c.in-Some-met_on.index) same)) c.part_from.ensures
 
 pub returns-in-Some-met_on-clause-sound : goal.returns-in-Some-met_on-clause-sound
 returns-in-Some-met_on-clause-sound c =
@@ -191,4 +213,14 @@ search-preserved c =
           (c.pop.new.self.items ++ c.in-Some.top ∷ []) next.0 (ap (λ (l : List Seen). length l) seen ∙ c.search.invariant.0.searching.size)
           (ap (λ (l : List Seen). is_open (slice_get l c.in-Some-next_open.next)) seen ∙ next.2) c.enter-in-Some.ensures
           (subst (λ (z : List ℕ). SoundTrail c.args.tables.now c.args.actions.now c.next_open.new.trail z) old sound)),
+      λ before d. comes-on c.args.actions.now c.args.partners.now c.args.marks.now before c.search.trail.seen.items c.enter-in-Some.new.trail.seen.items c.in-Some.top c.in-Some-next_open.next
+          c.search.way.items c.pop.new.self.items c.push-in-Some-2.new.self.items (c.search.invariant.2 before d) c.search.invariant.0.searching.size old next
+          (λ j i m. c.in_default-met_on.ensures j (subst (λ (z : List ℕ). In j z) (old ∙ sym same) i) m)
+          (c.enter-in-Some.ensures.seen ∙ ap (λ (l : List Seen). slice_set l c.in-Some-next_open.next OnWay) seen)
+          (way ∙ ap (λ (z : List ℕ). z ++ c.in-Some-next_open.next ∷ []) (sym old)),
     )
+
+pub returns-clause-first : goal.returns-clause-first
+returns-clause-first c = λ before d.
+    let none : length c.search.way.items ≡ 0 = first_of (search rules, omega arith, cc) in
+    comes-nowhere c.args.actions.now c.args.partners.now c.args.marks.now before c.search.trail.seen.items c.search.way.items _ (c.search.invariant.2 before d) none (search rules)

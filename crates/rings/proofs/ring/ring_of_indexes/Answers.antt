@@ -1,6 +1,7 @@
 use Rattle.std.proofs.Common.{◌≡◌, ◌∙◌, ◌+◌, List, true, length, slice_get, refl, sym, ap, arith, rules}
 use Rattle.rings.specs.declared.ring.Seen.{Seen}
 use Rattle.rings.specs.internal.Search.{is_new, same_at, waits}
+use Rattle.rings.proofs.FirstFound.{goes-further, none-first, not-begun}
 use Rattle.rings.proofs.Marked.{at-first, none-left, searched, was-new}
 use Rattle.rings.proofs.Trailing.{no-way}
 use Rattle.rings.proofs.ring.ring_of_indexes.Goals as goal
@@ -14,6 +15,7 @@ loop-start-init c = (
     size = c.in_ok-trail.ensures.held;
     on_way = no-way c.in_ok-tables.tables.standing c.args.actions.now c.in_ok-trail.trail.held.items;
   },
+  not-begun c.args.actions.now c.args.partners.now c.args.marks.now c.in_ok-trail.trail.seen.items c.in_ok-trail.ensures.done,
 )
 
 pub ring_from-requires-clause-start : goal.ring_from-requires-clause-start
@@ -27,9 +29,16 @@ loop-start-preserved c =
       searched (length c.args.actions.now) (waits c.args.actions.now c.args.partners.now c.args.marks.now) (same_at c.args.actions.now) c.loop-start.trail.seen.items
           c.ring_from.new.trail.seen.items c.loop-start.start (c.loop-start.start + 1) c.in_ok-ring.ring.items c.loop-start.invariant.0 refl none c.in_ok-ring.ensures.ring,
       c.in_ok-ring.ensures.sound,
+      goes-further c.args.actions.now c.args.partners.now c.args.marks.now c.loop-start.trail.seen.items c.ring_from.new.trail.seen.items c.in_ok-ring.ring.items c.loop-start.invariant.2 none
+          (c.in_ok-ring.ensures.first c.loop-start.invariant.2.0 c.loop-start.invariant.2.1),
     )
 
-pub returns : goal.returns
-returns c =
+pub returns-clause-ring : goal.returns-clause-ring
+returns-clause-ring c =
     none-left (length c.args.actions.now) (waits c.args.actions.now c.args.partners.now c.args.marks.now) (same_at c.args.actions.now) c.loop-start.trail.seen.items c.loop-start.start _
     c.loop-start.invariant.0 (omega arith) (search rules)
+
+pub returns-clause-first : goal.returns-clause-first
+returns-clause-first c =
+    none-first c.args.actions.now c.args.partners.now c.args.marks.now c.loop-start.trail.seen.items c.loop-start.start _ c.loop-start.invariant.0 c.loop-start.invariant.2 (omega arith)
+    (search rules)

@@ -6,8 +6,10 @@ use Rattle.syntax.specs.Lists.{In}
 use Rattle.local_actions.specs.Actions.{Offered, OffersExactly}
 use Rattle.local_actions.specs.View.{state_of}
 use Rattle.local_actions.specs.declared.action.LocalAction.{LocalAction}
+use Rattle.rings.specs.FirstRing.{IsFirstRing}
 use Rattle.rings.specs.Partners.{partner_in}
 use Rattle.rings.specs.Rings.{TellsDeadlocked, TellsRing}
+use Rattle.rings.specs.declared.partner.Partner.{Partner}
 use Rattle.waiting.specs.Input.{helped_in}
 use Rattle.waiting.specs.Waits.{ListsWaiting}
 use Rattle.waiting.specs.Progress.{body_is_over, StandsLike}
@@ -61,6 +63,11 @@ returns c =
         deadlocked = names-deadlocked c.args.machine.now S kept marks waits dead;
         ring = names-ring c.args.machine.now S kept c.in_ok-ring.ring.items waits
             (subst (λ (xs : List LocalAction). TellsRing (helped_in c.args.machine.now S) S.residual xs c.in_ok-ring.ring.items) c.as_slice-7.ensures
-            (c.in_ok-ring.ensures S.residual (helped_in c.args.machine.now S) given-again dead-again));
+            (c.in_ok-ring.ensures.ring S.residual (helped_in c.args.machine.now S) given-again dead-again));
+        first =
+            subst (λ (xs : List LocalAction). IsFirstRing xs c.in_ok-partners.partners.items marks c.in_ok-ring.ring.items) c.as_slice-7.ensures
+            (subst (λ (ps : List Partner). IsFirstRing c.as_slice-7.result.now ps marks c.in_ok-ring.ring.items) c.as_slice-8.ensures.value
+            (subst (λ (bs : List Bool). IsFirstRing c.as_slice-7.result.now c.as_slice-8.result.now bs c.in_ok-ring.ring.items) c.as_slice-9.ensures.value
+            c.in_ok-ring.ensures.first));
       },
     )

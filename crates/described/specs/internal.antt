@@ -1,0 +1,3 @@
+pub mod CallParts
+pub mod Pendings
+pub mod Starts

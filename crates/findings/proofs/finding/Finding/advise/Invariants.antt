@@ -1,0 +1,6 @@
+-- Nothing else of the finding is changed.
+use Rattle.std.proofs.Common.{◌≡◌}
+use Rattle.findings.proofs.finding.Finding.advise.Given as goal
+
+abbrev pub invariant-loop-part : goal.invariant-loop-part
+invariant-loop-part l = l.self ≡ record l.initial.self { help = l.self.help }
