@@ -69,20 +69,20 @@ fn broken_line(scene: &Scene<'_>, one: &Event, other: &Event) -> Option<u64> {
     }
 }
 
-/// Adds that all is done, or that something waits.
+/// Adds that all is done, that something waits, or that there is no memory to tell which.
 fn add_none(text: &mut Text, scene: &Scene<'_>) {
-    text.add(if is_done(scene) {
-        b"  all is done\n"
-    } else {
-        b"  no step can be taken now; `waiting` tells what is waited for\n"
+    text.add(match progress_now(scene) {
+        Some(Progress::Done) => b"  all is done\n",
+        Some(_) => b"  no step can be taken now; `waiting` tells what is waited for\n",
+        None => b"  no memory to tell whether all is done\n",
     });
 }
 
-/// Whether it is known that all is done.
-fn is_done(scene: &Scene<'_>) -> bool {
+/// How the run stands; `None` without memory.
+fn progress_now(scene: &Scene<'_>) -> Option<Progress> {
     match who_waits(scene.alloc, scene.machine()) {
-        Ok(waiting) => matches!(waiting.progress, Progress::Done),
-        Err(_) => false,
+        Ok(waiting) => Some(waiting.progress),
+        Err(_) => None,
     }
 }
 
