@@ -338,9 +338,11 @@ Examples:
   balsadbg picture examples/adder.balsa examples/adder.stimulus \\
     examples/adder.trace --svg --event 3 > adder.svg";
 
-pub const NO_PICTURE: &str =
-    "--svg, --vcd and --json exclude one another; --event, with the number of a step, \
-and --quiet go with --svg";
+pub const TWO_FORMS: &str = "--svg, --vcd and --json exclude one another";
+
+pub const NO_STEP: &str = "--event takes the number of a step, in digits that do not begin with 0";
+
+pub const NO_DRAWING: &str = "--event and --quiet go with --svg";
 
 /// The lines of refusals with what stands around them.
 macro_rules! refusals {

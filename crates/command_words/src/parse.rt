@@ -26,10 +26,34 @@ fn found<'a, S: AsStr>(
     Ok(chosen(&matches))
 }
 
+/// Whether this word is among them.
+fn has_word<S: AsStr>(words: &[S], word: &str) -> bool {
+    for it in words {
+        if it.as_str() == word {
+            return true;
+        }
+    }
+    false
+}
+
+/// Why words of a picture in good form ask for none: more than one form, no number of a step, or what goes with `--svg`.
+fn why_no_picture<S: AsStr>(words: &[S]) -> &'static str {
+    let svg = has_word(words, "--svg");
+    let vcd = has_word(words, "--vcd");
+    let json = has_word(words, "--json");
+    if svg && vcd || svg && json || vcd && json {
+        help::TWO_FORMS
+    } else if svg {
+        help::NO_STEP
+    } else {
+        help::NO_DRAWING
+    }
+}
+
 /// Why words of a command in good form ask for no request.
 fn why_none<S: AsStr>(words: &[S]) -> &'static str {
     match words.get(1) {
-        Some(name) if name.as_str() == "picture" => help::NO_PICTURE,
+        Some(name) if name.as_str() == "picture" => why_no_picture(words),
         _ => help::NO_REFUSAL,
     }
 }
