@@ -104,7 +104,8 @@ def wave_faults(case: Case, drawer: Drawer, small: bool) -> list[str]:
 
 # --- drawings
 
-HEAD = re.compile(rb">c\.trace: ([^<;]*)[<;]")
+# Behind the name of the trace, which `name_faults` reads.
+HEAD = re.compile(rb">[^<>]*: (\d+ events?, [^<;]*)[<;]")
 STATE = re.compile(rb">(\d+ causes?)</tspan> and <tspan [^>]*>(\d+ consequences?)</tspan>")
 
 
@@ -216,8 +217,8 @@ def refusal_faults(case: Case, drawer: Drawer) -> list[str]:
     found = []
     count = max(0, case.trace.count(b"\n") - 1)
     for event, status, told in (
-        (str(count + 1), 1, f"balsadbg: refused 23\nthe trace has no step {count + 1}: it has {count} steps\n"),
-        ("0", 1, f"balsadbg: refused 23\nthe trace has no step 0: it has {count} steps\n"),
+        (str(count + 1), 1, f"balsadbg: refused 23\nthe trace has no step {count + 1}: it has {counted(count, 'step')}\n"),
+        ("0", 1, f"balsadbg: refused 23\nthe trace has no step 0: it has {counted(count, 'step')}\n"),
     ):
         done = drawer.call("--svg", "--event", event)
         if (done.returncode, done.stdout, done.stderr.decode()) != (status, b"", told):
