@@ -136,6 +136,8 @@ button[aria-pressed=true] {
 }
 button:focus-visible,
 input:focus-visible,
+a:focus-visible,
+svg [tabindex]:focus-visible,
 #view:focus-visible {
   outline: 2px solid var(--past);
   outline-offset: -2px
@@ -278,6 +280,9 @@ a {
   text-decoration-color: var(--faint);
   text-underline-offset: 2px
 }
+a.line {
+  white-space: nowrap
+}
 .cp a,
 a.cp {
   color: var(--past)
@@ -315,6 +320,9 @@ a.cf {
   border-radius: 2px;
   margin-right: 5px;
   vertical-align: -1px
+}
+.sw.hollow {
+  border: 2px solid var(--next)
 }
 #help {
   position: fixed;
@@ -394,6 +402,13 @@ svg .on {
 }
 .f {
   color: var(--next)
+}
+.f text {
+  font-style: italic
+}
+.ln.f,
+.xe.f {
+  stroke-dasharray: 7 2
 }
 .n {
   opacity: .25
@@ -482,8 +497,10 @@ svg .on {
   color: var(--ring)
 }
 @media screen and (max-width: 760px) {
-  header {
-    flex-wrap: wrap
+  header,
+  footer {
+    flex-wrap: wrap;
+    white-space: normal
   }
   main {
     flex-direction: column
@@ -544,6 +561,7 @@ svg .on {
   }
   #sheets svg {
     display: block;
+    overflow: hidden;
     page-break-inside: avoid;
     break-inside: avoid;
     width: 100%;
@@ -553,6 +571,13 @@ svg .on {
   #pad {
     height: auto !important;
     width: auto !important
+  }
+  h2 {
+    break-after: avoid
+  }
+  tr,
+  .cmd {
+    break-inside: avoid
   }
   .box {
     stroke: none

@@ -605,7 +605,7 @@ function picture(sx, sy, w, h) {
   o.push(`<rect x="0" y="0" width="34" height="${h}" fill="var(--bg)" opacity=".88"/>`);
   for (let r = r0; r < rowEv.length && rowTop[r] < y1; r++)
     if (r % step === 0) o.push(
-      `<text class="s9 tk" x="30" y="${(rowTop[r]-sy+(text?16:4)).toFixed(1)}" text-anchor="end">${r}</text>`);
+      `<text class="s9 tk" x="30" y="${(rowTop[r]-sy+(text?12:4)).toFixed(1)}" text-anchor="end">${r}</text>`);
   if (now.length) o.push(
     `<text class="s9 tk" x="30" y="${nowTop-sy+8}" text-anchor="end" style="font-weight:700">now</text>`);
   o.push(
@@ -622,7 +622,7 @@ function picture(sx, sy, w, h) {
       y = 4 + b.row * 18,
       left = Math.max(b.x0, Math.min(sx + 36, b.x1 - full.length * CW - 8));
     o.push(
-      `<g class="ev" data-i="${b.inst}">` +
+      `<g class="ev" data-i="${b.inst}" tabindex="0" role="button">` +
         `<title>${esc(I[0]+' '+I[1]+' ('+I[5]+'), called on line '+I[3]+', declared on line '+I[4])}</title>` +
         `<rect x="${b.x0}" y="${y}" width="${Math.max(2,wd)}" height="16" rx="3" fill="var(--bg)" stroke="var(--faint)"/>` +
         `<text x="${left+5}" y="${y+12}" style="font-weight:600">${esc(fits(full,I[1].slice(0,-1),Math.floor((b.x1-left-8)/CW)))}</text>` +

@@ -1,7 +1,7 @@
 // What stands in the page from its map on. Made by scripts/picture_page of page/page.html, which is edited in place of this file.
 
 /// What stands in the page from its map on.
-pub(crate) const PANEL: &str = r#"// ---- the map: the whole run on a strip
+pub(crate) const PANEL: &str = r##"// ---- the map: the whole run on a strip
 let mapImage = null;
 const css = v => getComputedStyle(document.documentElement).getPropertyValue(v);
 
@@ -50,8 +50,8 @@ function mapView() {
   g.globalAlpha = 1
 }
 // ---- the panel
-const link = (i, c) => `<a class="${c||''}" data-go="${i}" title="${esc(E[i].text)}">#${E[i].t}</a>`,
-  lineLink = n => n ? ` <a data-line="${n}">line ${n}</a>` : '';
+const link = (i, c) => `<a class="${c||''}" href="#e${E[i].t}" data-go="${i}" title="${esc(E[i].text)}">#${E[i].t}</a>`,
+  lineLink = n => n ? ` <a class="line" href="#src" data-line="${n}">line ${n}</a>` : '';
 const copy = s => `<code>${esc(s)}</code><button data-copy="${esc(s)}" title="copy">copy</button>`;
 const some = (a, c) => a.slice(0, 12).map(i => link(i, c)).join(' ') + (a.length > 12 ? ` … ${a.length} in all` :
   '') || '<span class="soft">none</span>';
@@ -71,11 +71,12 @@ function card() {
         `row${Math.abs(e.since[0]-e.since[1])===1?'':'s'} for the other</div>` :
         '') +
       (e.reads.length ?
-        `<div class="soft">reads ${e.reads.map(v=>`<span class="m">${R.variables[v][0]} = ${vals0[v][0]}</span>`).join(', ')}</div>` :
+        `<div class="soft">reads ${e.reads.map(v=>`<span class="m">${R.variables[v][0]} = ${vals0[v][0]}</span>` +
+          (vals0[v][1] >= 0 ? ' of ' + link(vals0[v][1], 'cp') : '')).join(', ')}</div>` :
         '') +
       `<table><tr><td><span class="sw" style="background:var(--past)">` +
         `</span>${p} cause${p===1?'':'s'}<td>nearest ${some(e.from,'cp')}<tr><td>` +
-        `<span class="sw" style="background:var(--next)">` +
+        `<span class="sw hollow">` +
         `</span>${f} consequence${f===1?'':'s'}<td>nearest ${some(e.to,'cf')}<tr><td>` +
         `<span class="sw" style="background:var(--faint)">` +
         `</span>${N-1-p-f} independent<td>depth ${e.depth}</table>` +
@@ -141,6 +142,7 @@ function ringPicture(ring) {
   const n = ring.length,
     w = 378,
     h = n < 4 ? 170 : n < 7 ? 250 : 320,
+    labels = [],
     o = [`<svg width="${w}" height="${h}" role="img" aria-label="ring of waiting"><g class="rg0">`];
   const box = ring.map((p, i) => {
     const a = 2 * Math.PI * i / n - (n === 2 ? Math.PI : Math.PI / 2),
@@ -174,16 +176,21 @@ function ringPicture(ring) {
     while (t1 > .5 && inside(B, ...pt(t1))) t1 -= .02;
     const pts = [];
     for (let t = t0; t <= t1 + .001; t += (t1 - t0) / 16) pts.push(pt(t).map(v => v.toFixed(1)).join(' '));
-    const [ex, ey] = pt(t1), [fx, fy] = pt(t1 - .06), [lx, ly] = pt((t0 + t1) / 2), ang = Math.atan2(ey - fy,
-      ex - fx) * 180 / Math.PI;
+    const name = (P[3] === 'held' ? 'held ' : '') + short(R.channels[on[0]][0], P[0]),
+      half = name.length * CW / 2 + 3,
+      [ex, ey] = pt(t1), [fx, fy] = pt(t1 - .06), [lx, ly] = pt(t0 + (t1 - t0) * .45),
+      tx = Math.max(half, Math.min(w - half, lx)),
+      ang = Math.atan2(ey - fy, ex - fx) * 180 / Math.PI;
     o.push(
       `<path d="M${pts.join('L')}" fill="none" stroke="currentColor" stroke-width="2.2"/>` +
-        `<polygon points="1,0 -9,-5 -9,5" fill="currentColor" transform="translate(${ex},${ey}) rotate(${ang})"/>` +
-        `<text class="on" x="${lx}" y="${ly+4}" text-anchor="middle">` +
-        esc((P[3]==='held'?'held ':'')+short(R.channels[on[0]][0],P[0])) + `</text>`
+        `<polygon points="1,0 -9,-5 -9,5" fill="currentColor" transform="translate(${ex},${ey}) rotate(${ang})"/>`
+      );
+    labels.push(
+      `<rect x="${tx-half}" y="${ly-8}" width="${2*half}" height="15" fill="var(--panel)"/>` +
+        `<text class="on" x="${tx}" y="${ly+4}" text-anchor="middle">${esc(name)}</text>`
       )
   });
-  o.push('</g>');
+  o.push(...labels, '</g>');
   for (const b of box) o.push(
     `<g class="ev" data-line="${b.line}">` +
       `<rect x="${b.x-b.bw/2}" y="${b.y-16}" width="${b.bw}" height="32" rx="5" fill="var(--ringbg)" stroke="var(--ring)"/>` +
@@ -201,11 +208,13 @@ function valuesPanel() {
     set = vals0.map((v, k) => [k, v]).filter(([k, v]) => v[1] >= 0 || e && (e.w === k || e.reads.includes(k)) || R
       .variables.length <= 12),
     rest = R.variables.length - set.length;
+  $('vals').hidden = !R.variables.length;
   $('vals').innerHTML = `<h2>${e?'Values right after its causes':'Values now'}</h2><table>` + set.slice(0, 200).map(
     ([k, v]) =>
     `<tr${e&&e.w===k?' style="font-weight:600"':''}>` +
       `<td class="m">${R.variables[k][0]}<td class="m">${v[0]}${e&&e.w===k?` → ${e.val}`:''}` +
-      `<td>${v[1]>=0?'by '+link(v[1],e?'cp':''):'<span class="soft">from the start</span>'}` +
+      `<td>${e&&e.w===k?v[0]+' ':''}${v[1]>=0?'by '+link(v[1],e?'cp':''):'<span class="soft">from the start</span>'}` +
+      (e && e.w === k ? `, ${e.val} by this event` : '') +
       (R.variables[k][2]?' <span style="color:var(--race)">shared</span>':'')
     ).join('') + '</table>' + (rest ? `<div class="soft">and ${rest} more, 0 from the start</div>` : '')
 }
@@ -276,7 +285,7 @@ function sourceMarks(scroll) {
     const n = +d.dataset.l;
     d.className = e && n === e.line ? 'at' : e && (n === e.la || n === e.lb) ? 'by' : '';
     d.children[1].innerHTML = e ? (past.has(n) ? '<span style="color:var(--past)">●</span>' : '') + (next.has(n) ?
-        '<span style="color:var(--next)">●</span>' : '') : rd.has(n) ? '<span class="rd">▶</span>' : wt.has(n) ?
+        '<span style="color:var(--next)">○</span>' : '') : rd.has(n) ? '<span class="rd">▶</span>' : wt.has(n) ?
       `<span class="${R.rings.some(r=>r.some(p=>R.places[p][2]===n))?'rg':'soft'}">■</span>` : ''
   }
   if (e) {
@@ -313,7 +322,7 @@ function legend(t) {
   $('bar').innerHTML = t || (focus() >= 0 ?
     `<span><span class="sw" style="background:var(--past)"></span>causes</span><span>` +
       `<span class="sw" style="background:var(--self);outline:1px solid var(--ink)"></span>this event</span><span>` +
-      `<span class="sw" style="background:var(--next)"></span>consequences: what roll takes</span><span>` +
+      `<span class="sw hollow"></span>consequences, in italics: what roll takes</span><span>` +
       `<span class="sw" style="background:var(--faint)"></span>independent: stays</span><span>Esc: back</span>` :
     `<span>●—▸ rendezvous, to the receiver</span><span>■ assignment</span><span>○ turn ◇ test</span><span>` +
       `<span class="sw" style="background:var(--bar);outline:1px solid var(--barline)"></span>enclosed</span>` +
@@ -360,26 +369,26 @@ function search(s) {
   if (s) {
     hits = new Uint8Array(N);
     const m = s.match(/^line (\d+)$/),
-      low = s.toLowerCase();
-    let n = 0;
+      ticket = s.match(/^#?(\d+)$/),
+      low = s.toLowerCase(),
+      has = e => [e.text, label(e).join(''), e.w >= 0 ? R.variables[e.w][0] : ''].some(t => t.toLowerCase().includes(low));
     for (const e of E)
-      if (m ? e.la === +m[1] || e.lb === +m[1] : e.text.toLowerCase().includes(low) || e.w >= 0 && R.variables[e.w][
-          0
-        ] === s) hits[e.i] = 1, n++;
+      if (m ? e.la === +m[1] || e.lb === +m[1] : ticket && e.t === +ticket[1] || has(e)) hits[e.i] = 1;
+    const n = found().length;
     legend(`<b>${n}</b> event${n===1?'':'s'} with “${esc(s)}”; Enter goes to the next`)
   } else legend();
   draw()
 }
 
+// the events that were found and can be shown
+const found = () => hits ? E.filter(e => hits[e.i] && !(hid[e.i] && !quiet && e.quiet)).map(e => e.i) : [];
+
 function nextHit() {
-  if (!hits) return;
-  for (let k = 1; k <= N; k++) {
-    const i = (Math.max(sel, -1) + k) % N;
-    if (hits[i] && !(hid[i] && !quiet && E[i].quiet)) {
-      select(i);
-      return
-    }
-  }
+  const all = found(),
+    at = Math.max(0, all.findIndex(i => i > sel));
+  if (!all.length) return;
+  select(all[at]);
+  legend(`<b>${at+1}</b> of <b>${all.length}</b> with “${esc(find)}”; Enter goes to the next`)
 }
 
 function setZoom(z) {
@@ -474,12 +483,26 @@ const KEYS = {
   '?': () => $('help').hidden = !$('help').hidden,
   '/': () => $('find').focus(),
   n: nextHit,
+  Home: () => view.scrollTop = 0,
+  End: () => view.scrollTop = 1e9,
+  PageUp: () => view.scrollTop -= view.clientHeight - headH - 40,
+  PageDown: () => view.scrollTop += view.clientHeight - headH - 40,
   w: () => {
     select(-1);
     view.scrollTop = 1e9;
     draw()
   }
 };
+
+// folds the block of a call, or unfolds it
+function fold(i) {
+  closed.has(i) ? closed.delete(i) : closed.add(i);
+  layout();
+  if (sel >= 0 && hid[sel]) select(-1);
+  paint();
+  const block = document.querySelector(`#pic [data-i="${i}"]`);
+  if (block) block.focus()
+}
 
 function theme(dark) {
   document.documentElement.dataset.theme = dark ? 'dark' : 'light';
@@ -498,6 +521,13 @@ document.addEventListener('keydown', ev => {
     return
   }
   if (ev.ctrlKey || ev.metaKey || ev.altKey) return;
+  // the source scrolls by itself, and what has the focus is pressed
+  if (ev.target === $('src') && /^(Arrow|Page|Home|End)/.test(ev.key)) return;
+  const block = ev.target.closest('[data-i]');
+  if (block && ev.key === 'Enter') {
+    fold(+block.dataset.i);
+    return
+  }
   const k = KEYS[ev.key];
   if (k) {
     ev.preventDefault();
@@ -516,6 +546,7 @@ document.addEventListener('click', ev => {
     return
   }
   const d = t.dataset;
+  if (t.tagName === 'A') ev.preventDefault();
   if (d.e !== undefined) {
     lane = nearest(+d.e, ev);
     select(+d.e, false)
@@ -526,13 +557,8 @@ document.addEventListener('click', ev => {
     search('line ' + d.find)
   } else if (d.k) KEYS[d.k]();
   else if (d.copy !== undefined) put(d.copy, t);
-  else if (d.i !== undefined) {
-    const i = +d.i;
-    closed.has(i) ? closed.delete(i) : closed.add(i);
-    layout();
-    if (sel >= 0 && hid[sel]) select(-1);
-    draw()
-  } else if (d.w !== undefined) {
+  else if (d.i !== undefined) fold(+d.i);
+  else if (d.w !== undefined) {
     if (sel >= 0) select(-1);
     goLine(R.places[+d.w][2])
   } else if (d.r !== undefined) {
@@ -638,8 +664,14 @@ addEventListener('beforeprint', () => {
     from = whole ? 0 : view.scrollTop,
     to = whole ? now.end : view.scrollTop + view.clientHeight,
     o = [];
-  for (let y = from; y < to; y += sheet - headH - 10) o.push(
-    `<svg viewBox="0 0 ${W} ${Math.min(sheet,to-y+10)}">${picture(0,y,W,Math.min(sheet,to-y+10))}</svg>`);
+  for (let y = from; y < to;) {
+    // a sheet ends above a row, if it has one that is whole
+    const most = y + sheet,
+      above = rowTop[Math.max(0, lowerRow(most + 1) - 1)],
+      ends = most >= to + 10 ? to + 10 : above > y + headH + 20 ? above : most;
+    o.push(`<svg viewBox="0 0 ${W} ${ends-y}">${picture(0,y,W,ends-y)}</svg>`);
+    y = ends >= to + 10 ? to : ends - headH
+  }
   $('sheets').innerHTML = o.join('')
 });
 addEventListener('afterprint', () => $('sheets').innerHTML = '');
@@ -670,19 +702,20 @@ addEventListener('afterprint', () => $('sheets').innerHTML = '');
   sourceText();
   layout();
   const linked = t => {
-    const i = E.findIndex(x => x.t === +t);
-    if (i < 0) $('sub').textContent = `this run has no event ${t} · ` + $('sub').textContent;
-    select(i)
+    const i = E.findIndex(x => String(x.t) === t);
+    select(i);
+    if (i < 0) $('card').insertAdjacentHTML('afterbegin', `<div class="rg"><b>This run has no event ${esc(t)}.</b> ` +
+      (N ? `Its events are #${E[0].t} to #${E.reduce((m, x) => Math.max(m, x.t), 0)}.` : 'It has none.') + '</div>')
   };
-  const e = [...q].map(w => w.match(/^e(\d+)$/)).find(Boolean);
+  const e = [...q].map(w => w.match(/^e(.+)$/)).find(Boolean);
   if (e) linked(e[1]);
   else refocus(false);
   if (q.has('now')) KEYS.w();
   paint();
   addEventListener('hashchange', () => {
-    const m = location.hash.match(/^#e(\d+)/);
+    const m = location.hash.match(/^#e([^&]+)/);
     if (m) linked(m[1])
   })
 }
 </script></body></html>
-"#;
+"##;
