@@ -148,6 +148,12 @@ def odd_bytes() -> Case:
     return Case("odd_bytes", comment + case.source, case.stimulus, case.trace)
 
 
+def far_name() -> Case:
+    """A trace that lies in a folder."""
+    case = next(one for one in examples(()) if one.name == "one")
+    return Case("far_name", case.source, case.stimulus, case.trace, "a & folder/c.trace")
+
+
 def odd_name() -> Case:
     """A trace whose name has signs of XML and of JSON, and a letter that is no ASCII."""
     case = next(one for one in examples(()) if one.name == "one")

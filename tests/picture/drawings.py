@@ -35,6 +35,7 @@ class Drawer:
         self.folder = tempfile.TemporaryDirectory()
         self.room = Path(self.folder.name)
         for name, text in (("c.balsa", self.case.source), ("c.stimulus", self.case.stimulus), (self.case.trace_name, self.case.trace)):
+            (self.room / name).parent.mkdir(exist_ok=True)
             (self.room / name).write_bytes(text)
         return self
 
@@ -106,7 +107,9 @@ def wave_faults(case: Case, drawer: Drawer, small: bool) -> list[str]:
 
 # Behind the name of the trace, which `name_faults` reads.
 HEAD = re.compile(rb">[^<>]*: (\d+ events?, [^<;]*)[<;]")
-STATE = re.compile(rb">(\d+ causes?)</tspan> and <tspan [^>]*>(\d+ consequences?)</tspan>")
+STATE = re.compile(rb">(\d+ causes?)</tspan> and <tspan [^>]*>(\d+ consequences?)</tspan> \(dashed\)")
+# how wide a letter of the line at the top is, as a part of its size, and where the line begins
+LETTER, BEGIN = 0.603, 8
 
 
 def counted(count: int, word: str) -> str:
@@ -131,13 +134,18 @@ def well_formed(drawer: Drawer, drawing: bytes) -> list[str]:
 
 
 def name_faults(drawer: Drawer, drawing: bytes) -> list[str]:
-    """Whether the title of the drawing, and the line over it, are read back with the name of the trace as it is."""
+    """Whether the title of the drawing is read back with the name of the trace as it is, and the line over it without its folders; and
+    whether the drawing is as wide as that line."""
     try:
-        top = list(ElementTree.fromstring(drawing))
+        whole = ElementTree.fromstring(drawing)
+        top = list(whole)
     except ElementTree.ParseError as fault:
         return [f"no XML: {fault}"]
     name, title, line = drawer.case.trace_name, "".join(top[0].itertext()), "".join(top[-1].itertext())
-    return [] if title == name and line.startswith(f"{name}: ") else [f"the trace {name!r} has the title {title!r} and the line {line!r}"]
+    if title != name or not line.startswith(f"{Path(name).name}: "):
+        return [f"the trace {name!r} has the title {title!r} and the line {line!r}"]
+    width, end = int(whole.get("width")), BEGIN + len(line) * LETTER * float(top[-1].get("font-size"))
+    return [] if width >= end else [f"it is {width} wide, and the line {line!r} ends at {end}"]
 
 
 def drawing_faults(case: Case, drawer: Drawer, small: bool) -> list[str]:
@@ -167,7 +175,7 @@ def shown_faults(drawer: Drawer, drawing: bytes, quiet: bytes) -> list[str]:
             wanted = counted(causes, "cause"), counted(consequences, "consequence")
             if told is None or (told[1].decode(), told[2].decode()) != wanted:
                 return [f"--event {ticket}: told {told and told[0]}, wanted {wanted}"]
-            faults = marked_faults(facts, plain, marked, ticket - 1, bool(words))
+            faults = name_faults(drawer, marked) + marked_faults(facts, plain, marked, ticket - 1, bool(words))
             found += [f"--event {ticket} {' '.join(words)}: {fault}" for fault in faults] + well_formed(drawer, marked)
     return found
 

@@ -17,6 +17,8 @@ from facts import Facts
 PAPER = "#ffffff"
 NUMBERS = {"assign": r"(\d+)", "turn": r"(\d+)", "test": r"(\d+)", "meet": r"#(\d+)", "open": r"#(\d+)", "sync": r"#(\d+)"}
 QUIET = ("turn", "test")
+# how the edges of consequences are broken, and how those of all others
+SIGNS = {"3 1.5": None, "1 2": "3 3"}
 
 
 @dataclass(frozen=True)
@@ -31,7 +33,7 @@ class Piece:
     def kind(self) -> str:
         words, path = self.words, self.words.get("d", "")
         if self.tag == "line":
-            return "line " + words["stroke-width"] + (" broken" if "stroke-dasharray" in words else "")
+            return "line " + words["stroke-width"] + (" broken" if self.unsigned().get("stroke-dasharray") else "")
         if self.tag == "circle":
             return "circle " + words["r"]
         if self.tag == "rect":
@@ -43,9 +45,17 @@ class Piece:
     def colours(self) -> set[str]:
         return {self.words[name] for name in ("fill", "stroke") if name in self.words} - {PAPER, "none"}
 
+    def has_sign(self) -> bool:
+        return self.words.get("stroke-dasharray") in SIGNS
+
+    def unsigned(self) -> dict[str, str]:
+        """Its words, with its edge as it is where it is none of a consequence."""
+        dash = self.words.get("stroke-dasharray")
+        return {name: word for name, word in {**self.words, "stroke-dasharray": SIGNS.get(dash, dash)}.items() if word is not None}
+
     def shape(self) -> tuple:
-        """All of it but its colours."""
-        return self.tag, sorted((name, word) for name, word in self.words.items() if name not in ("fill", "stroke")), self.text
+        """All of it but its colours, and the sign of a consequence."""
+        return self.tag, sorted((name, word) for name, word in self.unsigned().items() if name not in ("fill", "stroke")), self.text
 
 
 # the pieces of the mark of each kind of event; the head of an arrow where a value passes, a second dot where none does
@@ -67,6 +77,10 @@ class Mark:
 
     def colours(self) -> set[str]:
         return set().union(*(piece.colours() for piece in self.pieces))
+
+    def signs(self) -> set[bool]:
+        """Whether its pieces have the sign of a consequence, and no piece is filled that has it; the head of an arrow has none."""
+        return {piece.has_sign() and piece.words.get("fill", PAPER) == PAPER for piece in self.pieces if piece.kind() != "arrow"}
 
     def points(self) -> list[tuple[Decimal, Decimal]]:
         """Where it stands in each of its columns."""
@@ -90,7 +104,10 @@ def ends_of(words: dict[str, str]) -> list[tuple[Decimal, Decimal]]:
 def pieces_of(drawing: bytes) -> list[Piece]:
     """What is drawn, in order. The paper under a text is taken together with it."""
     found, under = [], None
-    for one in list(ElementTree.fromstring(drawing))[2:]:
+    top = list(ElementTree.fromstring(drawing))
+    if [one.tag.rpartition("}")[2] for one in top[:3]] != ["title", "rect", "defs"]:
+        raise ValueError("a drawing begins with its title, its paper and the hatching")
+    for one in top[3:]:
         tag, words = one.tag.rpartition("}")[2], dict(one.attrib)
         if "opacity" in words:
             under = words["fill"]
@@ -182,7 +199,7 @@ def fits(text: str, whole: str) -> bool:
 
 # --- what has to be so
 
-COLOURS = re.compile(rb'<tspan fill="([^"]+)"[^>]*>\d+ causes?</tspan> and <tspan fill="([^"]+)"[^>]*>\d+ consequences?</tspan>')
+COLOURS = re.compile(rb'<tspan fill="([^"]+)"[^>]*>\d+ causes?</tspan> and <tspan fill="([^"]+)"[^>]*>\d+ consequences?</tspan> \(dashed\)')
 
 
 def events_of(facts: Facts, quiet: bool) -> list[int]:
@@ -201,16 +218,17 @@ def taken_apart(facts: Facts, drawing: bytes, quiet: bool) -> Drawn:
 
 
 def plain_faults(drawn: Drawn) -> list[str]:
-    """Where none is asked for, all marks are in one colour, and none has a frame."""
+    """Where none is asked for, all marks are in one colour, and none has a frame or a sign."""
     found = {colour for mark in drawn.marks for colour in mark.colours()}
     if len(found) > 1 or any(mark.frame for mark in drawn.marks):
         return [f"colours {found}, frames {[mark.frame for mark in drawn.marks if mark.frame]}"]
-    return []
+    return ["signs of consequences"] if any(piece.has_sign() for piece in drawn.pieces) else []
 
 
 def marked_faults(facts: Facts, plain: Drawn, drawing: bytes, at: int, quiet: bool) -> list[str]:
     """Whether exactly the causes of an event are in the causes' colour, exactly the consequences in theirs, the event itself in its own
-    and in a frame, and the rest in a fourth; and whether all else is as in the drawing in which none is asked for."""
+    and in a frame, and the rest in a fourth; whether exactly the consequences have the sign that is no colour; and whether all else is as
+    in the drawing in which none is asked for."""
     drawn, named = taken_apart(facts, drawing, quiet), COLOURS.search(drawing)
     causes, consequences = set(facts.causes(at)), set(facts.consequences(at))
     wanted = {**dict.fromkeys(causes, named[1].decode()), **dict.fromkeys(consequences, named[2].decode())}
@@ -219,6 +237,8 @@ def marked_faults(facts: Facts, plain: Drawn, drawing: bytes, at: int, quiet: bo
     for index, mark in zip(events_of(facts, quiet), drawn.marks):
         told = mark.colours()
         words = {colour for word in mark.words for colour in word.colours()}
+        if mark.signs() != {index in consequences}:
+            found.append(f"event {index + 1}: signs {mark.signs()}")
         if index == at:
             if told != {own} or mark.frame is None or words & set(wanted.values()):
                 found.append(f"event {index + 1} itself: {told}, words {words}, frame {mark.frame}")
@@ -226,6 +246,8 @@ def marked_faults(facts: Facts, plain: Drawn, drawing: bytes, at: int, quiet: bo
             found.append(f"event {index + 1}: {told}, words {words}, frame {mark.frame}, wanted {wanted.get(index, 'the rest')}")
         elif index not in wanted:
             rest |= told
+    if sum(piece.has_sign() for piece in drawn.pieces) != sum(piece.has_sign() for mark in drawn.marks for piece in mark.pieces):
+        found.append("signs of consequences beside the marks")
     if len(rest) > 1 or rest & {own, *map(bytes.decode, named.groups())} or len({own, *map(bytes.decode, named.groups())}) != 3:
         found.append(f"the rest is in {rest}, the event in {own}, causes and consequences in {named.groups()}")
     frames = [mark.frame for mark in drawn.marks if mark.frame is not None]

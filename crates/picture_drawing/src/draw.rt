@@ -7,10 +7,10 @@ use crate::columns::{columns_of, set_apart};
 use crate::cones::{Asked, Cones, asked_of};
 use crate::depth_rows::rows_of;
 use crate::figure::{Figure, Scene, inks_of};
-use crate::heads::{draw_axis, draw_heads, draw_title};
+use crate::heads::{draw_axis, draw_heads, draw_title, title_width};
 use crate::links::draw_links;
 use crate::marks::draw_marks;
-use crate::now::{bottom_of, draw_now};
+use crate::now::{bottom_of, draw_now, now_width};
 use crate::sheet::Sheet;
 use crate::trails::draw_trails;
 use machine::Machine;
@@ -60,13 +60,17 @@ fn drawn(
         Some(cones) => inks_of(alloc, scene.live, cones)?,
         None => Vec::new(alloc),
     };
-    let figure = Figure {
+    let mut figure = Figure {
         scene: *scene,
         columns: &columns,
         rows: &rows,
         inks: inks.as_slice(),
         bottom: bottom_of(scene, rows.bottom),
+        right: columns.right().saturating_add(160),
     };
+    let needed = title_width(alloc, &figure, trace.as_bytes(), cones)?;
+    let needed = needed.max(now_width(alloc, &figure)?);
+    figure.right = figure.right.max(needed);
     let mut sheet = Sheet::new(alloc);
     draw_all(alloc, &mut sheet, &figure, trace.as_bytes(), cones)?;
     Ok(sheet.into_bytes())
@@ -94,7 +98,7 @@ fn draw_all(
 
 /// Begins the drawing: its size, its title and what lies under all.
 fn begin(sheet: &mut Sheet, figure: &Figure<'_>, trace: &[u8]) -> Result<(), AllocError> {
-    let width = figure.columns.right().saturating_add(160) / 10;
+    let width = figure.right / 10;
     let height = figure.bottom.saturating_add(80) / 10;
     sheet.add("<svg xmlns=\"http://www.w3.org/2000/svg\" width=\"")?;
     sheet.add_number(width)?;
@@ -106,5 +110,6 @@ fn begin(sheet: &mut Sheet, figure: &Figure<'_>, trace: &[u8]) -> Result<(), All
     sheet.add_number(height)?;
     sheet.add("\" font-family=\"'DejaVu Sans Mono',Menlo,Consolas,monospace\">\n<title>")?;
     sheet.add_text(trace)?;
-    sheet.add("</title>\n<rect width=\"100%\" height=\"100%\" fill=\"#ffffff\"/>\n")
+    sheet.add("</title>\n<rect width=\"100%\" height=\"100%\" fill=\"#ffffff\"/>\n")?;
+    sheet.hatching()
 }

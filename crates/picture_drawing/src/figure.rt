@@ -95,8 +95,9 @@ pub(crate) struct Figure<'a> {
     pub(crate) rows: &'a Rows,
     /// how each event stands to the one that is asked for; empty where none is
     pub(crate) inks: &'a [Ink],
-    /// where it ends, in tenths of a pixel
+    /// where it ends below and at the right, in tenths of a pixel
     pub(crate) bottom: u64,
+    pub(crate) right: u64,
 }
 
 impl Figure<'_> {

@@ -140,7 +140,37 @@ fn tell_lane(lane: &Lane, is_first: bool, text: &mut Vec<u8>) -> Result<(), Allo
     }
 }
 
-/// Writes the line over all: the trace, how many events it has, how it stands, and what is marked.
+/// How wide a letter of the line over all is at most, in tenths of a pixel.
+const TITLE_LETTER: u64 = 62;
+
+/// How wide the drawing has to be for the line over all.
+pub(crate) fn title_width(
+    alloc: Global,
+    figure: &Figure<'_>,
+    trace: &[u8],
+    cones: Option<&Cones>,
+) -> Result<u64, AllocError> {
+    let mut line = Sheet::new(alloc);
+    add_title(&mut line, figure, trace, cones)?;
+    let letters = letters_of(line.into_bytes().as_slice());
+    Ok(letters.saturating_mul(TITLE_LETTER).saturating_add(160))
+}
+
+/// How many letters of the text are none of a tag.
+fn letters_of(text: &[u8]) -> u64 {
+    let mut letters: u64 = 0;
+    let mut is_tag = false;
+    for byte in text {
+        is_tag = is_tag || *byte == b'<';
+        if !is_tag {
+            letters = letters.saturating_add(1);
+        }
+        is_tag = is_tag && *byte != b'>';
+    }
+    letters
+}
+
+/// Writes the line over all.
 pub(crate) fn draw_title(
     sheet: &mut Sheet,
     figure: &Figure<'_>,
@@ -148,7 +178,26 @@ pub(crate) fn draw_title(
     cones: Option<&Cones>,
 ) -> Result<(), AllocError> {
     sheet.add("<text x=\"8\" y=\"11\" font-size=\"9\" fill=\"#5d6872\">")?;
-    sheet.add_text(trace)?;
+    add_title(sheet, figure, trace, cones)?;
+    sheet.add("</text>\n")
+}
+
+/// The name of a file without the folders before it.
+fn base_of(path: &[u8]) -> &[u8] {
+    match path.iter().rposition(|byte| *byte == b'/') {
+        Some(slash) => path.get(slash.saturating_add(1)..).unwrap_or(path),
+        None => path,
+    }
+}
+
+/// Adds what the line over all says: the file of the trace, how many events it has, how it stands, and what is marked.
+fn add_title(
+    sheet: &mut Sheet,
+    figure: &Figure<'_>,
+    trace: &[u8],
+    cones: Option<&Cones>,
+) -> Result<(), AllocError> {
+    sheet.add_text(base_of(trace))?;
     sheet.add(": ")?;
     add_counted(sheet, figure.scene.live.len() as u64, " event")?;
     sheet.add(", ")?;
@@ -156,7 +205,7 @@ pub(crate) fn draw_title(
     if let Some(cones) = cones {
         add_cones(sheet, cones)?;
     }
-    sheet.add("</text>\n")
+    Ok(())
 }
 
 /// Adds how the run stands.
@@ -203,7 +252,7 @@ fn add_cones(sheet: &mut Sheet, cones: &Cones) -> Result<(), AllocError> {
         (cones.consequences.len() as u64).saturating_sub(1),
         " consequence",
     )?;
-    sheet.add("</tspan>")
+    sheet.add("</tspan> (dashed)")
 }
 
 /// Adds how many there are of what this word is for.

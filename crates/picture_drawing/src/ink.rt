@@ -23,7 +23,7 @@ pub(crate) enum Ink {
     Enclosed,
     /// within it, on the action that opened the arm
     Opened,
-    /// within it, on the action that is held
+    /// within it, on the action that is held: the pattern that `Sheet::hatching` draws
     Held,
     /// within it, where it has nothing to do with the event that is asked for
     Pale,
@@ -46,7 +46,7 @@ impl Ink {
             Ink::Ready => "#007a58",
             Ink::Enclosed => "#2d9a7c",
             Ink::Opened => "#bfe5d8",
-            Ink::Held => "#eef7f3",
+            Ink::Held => "url(#held)",
             Ink::Pale => "#f4f7f6",
             Ink::White => "#ffffff",
             Ink::Chosen => "#ffe97a",
@@ -69,6 +69,10 @@ pub(crate) enum Dash {
     Dots,
     Short,
     Long,
+    /// the edge of a consequence's mark
+    Parts,
+    /// the end of what a handshake encloses, as a consequence
+    Fine,
 }
 
 impl Dash {
@@ -79,6 +83,8 @@ impl Dash {
             Dash::Dots => "1 4",
             Dash::Short => "3 3",
             Dash::Long => "5 4",
+            Dash::Parts => "3 1.5",
+            Dash::Fine => "1 2",
         }
     }
 }

@@ -20,6 +20,11 @@ struct Scratch {
 #[derive(Clone, Copy)]
 struct Look {
     ink: Ink,
+    /// within the edge of a mark that is else filled
+    fill: Ink,
+    /// the edge of a mark, and the end of what a handshake encloses
+    dash: Dash,
+    end: Dash,
     /// the colour of small words
     soft: Ink,
     under: Ink,
@@ -75,12 +80,25 @@ fn draw_event(
     }
 }
 
-/// How the event at an index is drawn: where one is asked for, and it is this, as the chosen one.
+/// How the event at an index is drawn: where one is asked for, and it is this, as the chosen one. A consequence is
+/// hollow with a broken edge, so that it is told from a cause without colours too.
 fn look_of(figure: &Figure<'_>, index: usize) -> Look {
     let ink = figure.ink(index);
     let is_chosen = !figure.inks.is_empty() && ink == Ink::Dark;
+    let is_consequence = ink == Ink::Consequence;
     Look {
         ink,
+        fill: if is_consequence { Ink::White } else { ink },
+        dash: if is_consequence {
+            Dash::Parts
+        } else {
+            Dash::Whole
+        },
+        end: if is_consequence {
+            Dash::Fine
+        } else {
+            Dash::Short
+        },
         soft: ink.or(Ink::Soft),
         under: if is_chosen { Ink::Chosen } else { Ink::White },
     }
@@ -137,9 +155,9 @@ fn draw_single(
 ) -> Result<(), AllocError> {
     let at = figure.point(column, index);
     match event.kind {
-        Kind::Assign => sheet.square(at, look.ink, look.ink)?,
-        Kind::Turn => sheet.circle(at, 30, Ink::White, look.ink)?,
-        _ => sheet.diamond(at, look.ink)?,
+        Kind::Assign => sheet.square(at, look.fill, look.ink, look.dash)?,
+        Kind::Turn => sheet.circle(at, 30, Ink::White, look.ink, look.dash)?,
+        _ => sheet.diamond(at, look.ink, look.dash)?,
     }
     let quiet = is_quiet(event);
     let letter = if quiet { SMALL_LETTER } else { LETTER };
@@ -186,14 +204,14 @@ fn draw_pair(
     let to = figure.point(second, index);
     let to_right = to.x > from.x;
     if event.kind == Kind::Close {
-        return sheet.line(from, to, look.ink, 10, Dash::Short);
+        return sheet.line(from, to, look.ink, 10, look.end);
     }
-    sheet.line(from, to, look.ink, 17, Dash::Whole)?;
-    sheet.circle(from, 32, look.ink, look.ink)?;
+    sheet.line(from, to, look.ink, 17, look.dash)?;
+    sheet.circle(from, 32, look.fill, look.ink, look.dash)?;
     if event.value.is_some() {
         sheet.arrow(to, to_right, look.ink)?;
     } else {
-        sheet.circle(to, 32, look.ink, look.ink)?;
+        sheet.circle(to, 32, look.fill, look.ink, look.dash)?;
     }
     let own = figure.point(ends.own, index);
     let right = own.x <= from.x.min(to.x);

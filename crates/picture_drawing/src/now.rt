@@ -1,4 +1,5 @@
 // What stands at the end: the events that can be taken, and what waits for whom.
+use crate::columns::text_width;
 use crate::figure::{Ends, Figure, Scene, ends_of};
 use crate::ink::{Dash, Ink};
 use crate::labels::{Words, add_cut};
@@ -11,6 +12,9 @@ use std::alloc::{AllocError, Global};
 const LINE: u64 = 220;
 
 const GAP: u64 = 260;
+
+/// How far from the edge of the drawing words begin and end at least.
+const MARGIN: u64 = 60;
 
 /// Whether the place is shown as one that waits.
 fn is_shown(scene: &Scene<'_>, place: &Place) -> bool {
@@ -68,18 +72,52 @@ pub(crate) fn draw_now(
     draw_places(alloc, sheet, figure, height)
 }
 
+/// How wide the drawing has to be for the words of what stands at the end.
+pub(crate) fn now_width(alloc: Global, figure: &Figure<'_>) -> Result<u64, AllocError> {
+    let mut words = Words::new(alloc);
+    let mut text = Vec::new(alloc);
+    let mut width: u64 = 0;
+    for (index, event) in figure.scene.picture.end.ready.as_slice().iter().enumerate() {
+        tell_ready(figure, &mut words, &mut text, index, event)?;
+        let end = ready_x(figure, index, event).saturating_add(text_width(text.as_slice(), false));
+        width = width.max(end);
+    }
+    let width = width.max(places_width(alloc, figure)?.saturating_add(MARGIN));
+    Ok(width.saturating_add(MARGIN))
+}
+
+/// How wide the widest words of a place are that waits.
+fn places_width(alloc: Global, figure: &Figure<'_>) -> Result<u64, AllocError> {
+    let mut whole = Vec::new(alloc);
+    let mut text = Vec::new(alloc);
+    let mut width: u64 = 0;
+    for place in figure.scene.picture.end.places.as_slice() {
+        if is_shown(&figure.scene, place) {
+            tell_place(figure, place, &mut whole, &mut text)?;
+            width = text_width(text.as_slice(), false).max(width);
+        }
+    }
+    Ok(width)
+}
+
+/// Where words begin that stand to the right of there, or further to the left, where they do not fit.
+fn fitting(figure: &Figure<'_>, x: u64, text: &[u8]) -> u64 {
+    let room = figure.right.saturating_sub(MARGIN);
+    x.min(room.saturating_sub(text_width(text, false)))
+}
+
 /// Draws the line under the rows.
 fn draw_edge(sheet: &mut Sheet, figure: &Figure<'_>, start: u64) -> Result<(), AllocError> {
-    let y = start.saturating_sub(80);
+    let y = start.saturating_sub(110);
     let from = Point { x: 0, y };
     let to = Point {
-        x: figure.columns.right().saturating_add(100),
+        x: figure.right.saturating_sub(MARGIN),
         y,
     };
     sheet.line(from, to, Ink::Faint, 10, Dash::Whole)?;
     let at = Point {
         x: 300,
-        y: start.saturating_add(80),
+        y: start.saturating_sub(20),
     };
     sheet.label(at, b"now", small(Ink::Soft, false))
 }
@@ -128,6 +166,17 @@ fn ready_ends(figure: &Figure<'_>, index: usize, event: &Event) -> Option<Ends> 
     ends_of(figure.columns, *actions, event)
 }
 
+/// Where the words of the event begin at an index of those that can be taken.
+fn ready_x(figure: &Figure<'_>, index: usize, event: &Event) -> u64 {
+    match ready_ends(figure, index, event) {
+        Some(ends) => {
+            let column = ends.first.min(ends.second.unwrap_or(ends.first));
+            figure.columns.at(column).saturating_add(90)
+        }
+        None => 0,
+    }
+}
+
 /// Draws an event that can be taken, at this height.
 fn draw_ready(
     sheet: &mut Sheet,
@@ -153,9 +202,9 @@ fn draw_ready(
     };
     if ends.second.is_some() {
         sheet.line(from, to, Ink::Ready, 16, Dash::Short)?;
-        sheet.circle(to, 40, Ink::White, Ink::Ready)?;
+        sheet.circle(to, 40, Ink::White, Ink::Ready, Dash::Whole)?;
     }
-    sheet.circle(from, 40, Ink::White, Ink::Ready)?;
+    sheet.circle(from, 40, Ink::White, Ink::Ready, Dash::Whole)?;
     let at = Point {
         x: from.x.min(to.x).saturating_add(90),
         y: if ends.second.is_some() {
@@ -383,19 +432,22 @@ fn draw_place(
         return Ok(());
     };
     let ink = if is_ring { Ink::Ring } else { Ink::Soft };
-    sheet.square(at, Ink::White, ink)?;
-    let right = far >= at.x;
+    sheet.square(at, Ink::White, ink, Dash::Whole)?;
+    let end = at.x.saturating_sub(90);
+    let right = far >= at.x || end < text_width(text, false).saturating_add(MARGIN);
     let style = Style {
         ink,
         is_small: false,
         anchor: if right { Anchor::Start } else { Anchor::End },
         under: Ink::White,
     };
-    let x = if right {
-        at.x.saturating_add(90)
+    let x = if far >= at.x {
+        fitting(figure, at.x.saturating_add(90), text)
+    } else if right {
+        MARGIN
     } else {
-        at.x.saturating_sub(90)
+        end
     };
-    let y = y.saturating_sub(50);
+    let y = y.saturating_sub(60);
     sheet.label(Point { x, y }, text, style)
 }

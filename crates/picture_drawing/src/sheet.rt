@@ -165,6 +165,17 @@ impl Sheet {
         self.add("/>\n")
     }
 
+    /// Adds the pattern with which the held side of a handshake is filled.
+    pub(crate) fn hatching(&mut self) -> Result<(), AllocError> {
+        self.add(
+            "<defs><pattern id=\"held\" width=\"5\" height=\"5\" patternUnits=\"userSpaceOnUse\"",
+        )?;
+        self.add(
+            " patternTransform=\"rotate(45)\"><rect width=\"5\" height=\"5\" fill=\"#ffffff\"/>",
+        )?;
+        self.add("<path d=\"M1 0v5\" stroke=\"#2d9a7c\" stroke-width=\"0.8\"/></pattern></defs>\n")
+    }
+
     /// Adds the ends of an area.
     fn add_area(&mut self, area: Area) -> Result<(), AllocError> {
         self.add_measure("x", area.x)?;
@@ -191,7 +202,13 @@ impl Sheet {
     }
 
     /// Draws a small square.
-    pub(crate) fn square(&mut self, centre: Point, fill: Ink, edge: Ink) -> Result<(), AllocError> {
+    pub(crate) fn square(
+        &mut self,
+        centre: Point,
+        fill: Ink,
+        edge: Ink,
+        dash: Dash,
+    ) -> Result<(), AllocError> {
         self.add("<rect")?;
         self.add_area(Area {
             x: centre.x.saturating_sub(40),
@@ -201,6 +218,7 @@ impl Sheet {
         })?;
         self.add_word("fill", fill.code())?;
         self.add_word("stroke", edge.code())?;
+        self.add_dash(dash)?;
         self.add("/>\n")
     }
 
@@ -211,6 +229,7 @@ impl Sheet {
         radius: u64,
         fill: Ink,
         edge: Ink,
+        dash: Dash,
     ) -> Result<(), AllocError> {
         self.add("<circle")?;
         self.add_measure("cx", centre.x)?;
@@ -218,6 +237,7 @@ impl Sheet {
         self.add_measure("r", radius)?;
         self.add_word("fill", fill.code())?;
         self.add_word("stroke", edge.code())?;
+        self.add_dash(dash)?;
         self.add("/>\n")
     }
 
@@ -230,12 +250,18 @@ impl Sheet {
     }
 
     /// Draws a small diamond.
-    pub(crate) fn diamond(&mut self, centre: Point, ink: Ink) -> Result<(), AllocError> {
+    pub(crate) fn diamond(
+        &mut self,
+        centre: Point,
+        ink: Ink,
+        dash: Dash,
+    ) -> Result<(), AllocError> {
         self.add("<path d=\"")?;
         self.add_point("M", centre.x, centre.y.saturating_sub(40))?;
         self.add("l4 4l-4 4l-4 -4z\"")?;
         self.add_word("fill", Ink::White.code())?;
         self.add_word("stroke", ink.code())?;
+        self.add_dash(dash)?;
         self.add("/>\n")
     }
 
@@ -281,7 +307,7 @@ impl Sheet {
             Anchor::Middle => width / 2,
             Anchor::End => width,
         };
-        self.add("<rect opacity=\"0.85\"")?;
+        self.add("<rect opacity=\"1\"")?;
         self.add_area(Area {
             x: at.x.saturating_sub(before),
             y: at.y.saturating_sub(height).saturating_add(20),
