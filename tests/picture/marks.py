@@ -54,8 +54,10 @@ class Piece:
         return {name: word for name, word in {**self.words, "stroke-dasharray": SIGNS.get(dash, dash)}.items() if word is not None}
 
     def shape(self) -> tuple:
-        """All of it but its colours, and the sign of a consequence."""
-        return self.tag, sorted((name, word) for name, word in self.unsigned().items() if name not in ("fill", "stroke")), self.text
+        """All of it but its colours, and the sign of a consequence. The line above what stands now goes as far as the drawing, which is
+        wider where the line at the top is longer."""
+        free = ("fill", "stroke", "x2") if self.tag == "line" and self.words["x1"] == "0" else ("fill", "stroke")
+        return self.tag, sorted((name, word) for name, word in self.unsigned().items() if name not in free), self.text
 
 
 # the pieces of the mark of each kind of event; the head of an arrow where a value passes, a second dot where none does
