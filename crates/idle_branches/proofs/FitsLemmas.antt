@@ -87,7 +87,7 @@ module _ (u : Known) where
   moved (send c w e) a m q f (_, inr (is, g)) = by-equal m _ q _ is g f f
   moved (receive c x) a m q f (_, is, g) = by-equal m _ q _ is g f tt
   moved (sync c) a m q f (_, inl (is, g)) = by-equal m _ q _ is g f tt
-  moved (sync c) a m q f (_, inr (is, g)) = by-equal m _ q _ is g f tt
+  moved (sync c) a m q f (_, inr (is, g)) = by-equal m _ q _ is g f f.1
   moved (held c) a m q f (_, is, g) = by-equal m _ q _ is g f tt
   moved (loop k body) a m q f (_, is, g) =
       by-equal m _ q _ is g tt (fits-within (2 * k + 1) body (loop (k + 1) body) f f)

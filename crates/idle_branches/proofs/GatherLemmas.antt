@@ -1,9 +1,9 @@
 -- What is gathered, part by part.
-use Rattle.std.proofs.Common.{◌≡◌, ◌≢◌, ◌⊎◌, inl, inr, ℕ, zero, suc, ◌+◌, ◌<◌, ◌≤◌, List, [], ◌∷◌, ◌++◌, length, map, drop, get_or, Option, Some, None, Result, Ok, Err, refl, sym, ap, ◌∙◌, subst, arith}
-use Rattle.std.specs.Prelude.{OnOk, slice_get, slice_set}
-use Rattle.std.proofs.lemmas.List.{append_assoc, append-nil, drop_all, drop_more, length-append}
+use Rattle.std.proofs.Common.{◌≡◌, inl, inr, ℕ, zero, suc, ◌+◌, ◌<◌, ◌≤◌, List, [], ◌∷◌, ◌++◌, length, map, drop, get_or, Option, Some, None, Result, Ok, Err, refl, sym, ap, ◌∙◌, subst, arith}
+use Rattle.std.specs.Prelude.{OnOk, slice_set}
+use Rattle.std.proofs.lemmas.List.{drop_all, drop_more, length-append}
 use Rattle.syntax.specs.Lists.{In, Every}
-use Rattle.system.specs.Residual.{Residual, Arms, send, sync}
+use Rattle.system.specs.Residual.{Residual, send, sync}
 use Rattle.system.specs.Expression.{constant}
 use Rattle.system.specs.Translation.{OnChannel, arms_of, branch_of, choose_of, in_parallel, in_sequence, feed_from, syncs_from}
 use Rattle.system.specs.declared.system.System.{System}
@@ -13,7 +13,7 @@ use Rattle.runs.proofs.public.Lists.{in-left, in-right}
 use Rattle.idle_branches.specs.Idle.{AreEnds}
 use Rattle.idle_branches.specs.declared.ends.Ends.{Ends}
 use Rattle.idle_branches.specs.declared.used.Used.{Used}
-use Rattle.idle_branches.specs.internal.Known.{Known, Acts, ActsOn, FitEach, Fits, FitsArms, Grows, known_at, list_at, parts, parts_of}
+use Rattle.idle_branches.specs.internal.Known.{Known, Acts, FitEach, Fits, FitsArms, Gives, Grows, known_at, list_at, parts, parts_of}
 use Rattle.idle_branches.specs.internal.Gathering.{Adds, FitsArm, FitsLast, Holds}
 use Rattle.idle_branches.specs.internal.Gathered.{AddsParts}
 use Rattle.idle_branches.proofs.FitsLemmas.{fits-along, fits-within}
@@ -91,27 +91,26 @@ bodies-fit u (a ∷ arms) f = (f.0.1, bodies-fit u arms f.1)
 pub choose-fits : (u : Known) (arms : List OnChannel) → Every (FitsArm u) arms → Fits u (choose_of arms)
 choose-fits u arms f = (arms-act u arms f, bodies-fit u arms f)
 
-pub feed-fits : (u : Known) (k c w : ℕ) (vs : List Word) → Fits u (feed_from k c w vs)
-feed-fits u k c w [] = tt
-feed-fits u k c w (v ∷ vs) = fits-within u k (send c w (constant v)) (feed_from (suc k) c w vs) tt (feed-fits u (suc k) c w vs)
+pub feed-fits : (u : Known) (k c w : ℕ) (vs : List Word) → Gives u c → Fits u (feed_from k c w vs)
+feed-fits u k c w [] f = tt
+feed-fits u k c w (v ∷ vs) f = fits-within u k (send c w (constant v)) (feed_from (suc k) c w vs) f (feed-fits u (suc k) c w vs f)
 
-pub syncs-fit : (u : Known) (k c n : ℕ) → Acts u c → Fits u (syncs_from k c n)
+pub syncs-fit : (u : Known) (k c n : ℕ) → Acts u c × Gives u c → Fits u (syncs_from k c n)
 syncs-fit u k c zero f = tt
 syncs-fit u k c (suc n) f = fits-within u k (sync c) (syncs_from (suc k) c n) f (syncs-fit u (suc k) c n f)
 
--- ---- a channel more
--- one more acts on a channel
-acts-more : (t : List (List ℕ)) (n k : ℕ) → n < length t → ActsOn (slice_set t n (list_at t n ++ k ∷ [])) n k
-acts-more [] n k less = absurd (omega arith)
-acts-more (x ∷ t) zero k less = in-right k x (k ∷ []) (inl refl)
-acts-more (x ∷ t) (suc n) k less = acts-more t n k (omega arith)
+-- ---- one more in a list of a table
+put-more : (t : List (List ℕ)) (n k : ℕ) → n < length t → In k (list_at (slice_set t n (list_at t n ++ k ∷ [])) n)
+put-more [] n k less = absurd (omega arith)
+put-more (x ∷ t) zero k less = in-right k x (k ∷ []) (inl refl)
+put-more (x ∷ t) (suc n) k less = put-more t n k (omega arith)
 
-acts-still : (t : List (List ℕ)) (n k : ℕ) → Grows t (slice_set t n (list_at t n ++ k ∷ []))
-acts-still [] n k c i acts = acts
-acts-still (x ∷ t) zero k zero i acts = in-left i x (k ∷ []) acts
-acts-still (x ∷ t) zero k (suc c) i acts = acts
-acts-still (x ∷ t) (suc n) k zero i acts = acts
-acts-still (x ∷ t) (suc n) k (suc c) i acts = acts-still t n k c i acts
+put-still : (t : List (List ℕ)) (n k : ℕ) → Grows t (slice_set t n (list_at t n ++ k ∷ []))
+put-still [] n k c i there = there
+put-still (x ∷ t) zero k zero i there = in-left i x (k ∷ []) there
+put-still (x ∷ t) zero k (suc c) i there = there
+put-still (x ∷ t) (suc n) k zero i there = there
+put-still (x ∷ t) (suc n) k (suc c) i there = put-still t n k c i there
 
 -- what stands in a list
 pub get-list : (t : List (List ℕ)) (n : ℕ) (row : List ℕ) → n < length t → row ≡ get_or t n row → list_at t n ≡ row
@@ -119,18 +118,34 @@ get-list [] n row less is = absurd (omega arith)
 get-list (x ∷ t) zero row less is = sym is
 get-list (x ∷ t) (suc n) row less is = get-list t n row (omega arith) is
 
-pub act-added : (k channel : ℕ) (a b : Used) → channel < length a.acting.items
+grown : (t all : List (List ℕ)) (n k : ℕ) → Grows (slice_set t n (list_at t n ++ k ∷ [])) all → Grows t all
+grown t all n k more c i there = more c i (put-still t n k c i there)
+
+-- one more acts on a channel
+pub act-added : (k channel : ℕ) (a b : Used) → channel < length a.acting.items → b.giving ≡ a.giving
     → b.acting.items ≡ slice_set a.acting.items channel (list_at a.acting.items channel ++ k ∷ []) → Adds k a (λ u. Acts u channel) b
-act-added k channel a b less more u is held =
-    let grown : Grows (slice_set a.acting.items channel (list_at a.acting.items channel ++ k ∷ [])) u.acting =
-    subst (λ (t : List (List ℕ)). Grows t u.acting) more held in (
-      (λ c i acts. grown c i (acts-still a.acting.items channel k c i acts)),
-      subst (λ (n : ℕ). ActsOn u.acting channel n) (sym is) (grown channel k (acts-more a.acting.items channel k less)),
+act-added k channel a b less same more u is held =
+    let table = a.acting.items in
+    let acts : Grows (slice_set table channel (list_at table channel ++ k ∷ [])) u.acting =
+    subst (λ (t : List (List ℕ)). Grows t u.acting) more held.0 in (
+      (grown table u.acting channel k acts, subst (λ (t : List (List ℕ)). Grows t u.giving) (ap (λ g. g.items) same) held.1),
+      subst (λ (n : ℕ). In n (list_at u.acting channel)) (sym is) (acts channel k (put-more table channel k less)),
+    )
+
+-- a branch gives on one more
+pub gift-added : (k channel : ℕ) (a b : Used) → k < length a.giving.items → b.acting ≡ a.acting
+    → b.giving.items ≡ slice_set a.giving.items k (list_at a.giving.items k ++ channel ∷ []) → Adds k a (λ u. Gives u channel) b
+gift-added k channel a b less same more u is held =
+    let table = a.giving.items in
+    let gives : Grows (slice_set table k (list_at table k ++ channel ∷ [])) u.giving =
+    subst (λ (t : List (List ℕ)). Grows t u.giving) more held.1 in (
+      (subst (λ (t : List (List ℕ)). Grows t u.acting) (ap (λ g. g.items) same) held.0, grown table u.giving k channel gives),
+      subst (λ (n : ℕ). In channel (list_at u.giving n)) (sym is) (gives k channel (put-more table k channel less)),
     )
 
 -- ---- branches one after another
 pub parts-none : (a : Ends) → AddsParts a [] a
-parts-none a = record { count = omega arith; fits = λ acting e. (e, tt) }
+parts-none a = record { count = omega arith; fits = λ acting giving e. (e, tt) }
 
 pub parts-both : (a b c : Ends) (rs qs : List Residual) → AddsParts a rs b → AddsParts b qs c → AddsParts a (rs ++ qs) c
 parts-both a b c rs qs one other = record {
@@ -139,11 +154,12 @@ parts-both a b c rs qs one other = record {
       let first = one.count in
       let second = other.count in
       omega arith;
-  fits = λ acting e.
-      let last = other.fits acting e in
-      let first = one.fits acting last.0 in (
+  fits = λ acting giving e.
+      let last = other.fits acting giving e in
+      let first = one.fits acting giving last.0 in (
         first.0,
-        each-both (known_at acting) a.count rs qs first.1 (subst (λ (n : ℕ). FitEach (known_at acting) n qs) one.count last.1),
+        each-both (known_at acting giving) a.count rs qs first.1
+            (subst (λ (n : ℕ). FitEach (known_at acting giving) n qs) one.count last.1),
       );
 }
 
@@ -155,8 +171,8 @@ pub part-added : (a b : Ends) (k : ℕ) (r : Residual) → k ≡ a.count → b.c
     → AddsParts a (r ∷ []) b
 part-added a b k r number more adds = record {
   count = omega arith;
-  fits = λ acting held.
-      let before = adds (known_at acting a.count) (sym number) held in (before.0, (before.1, tt));
+  fits = λ acting giving held.
+      let before = adds (known_at acting giving a.count) (sym number) held in (before.0, (before.1, tt));
 }
 
 -- those of a system
@@ -164,8 +180,8 @@ pub are-ends : (system : System) (a b c : Ends) → a.count ≡ 0 → AddsParts 
     → AddsParts b (map branch_of system.environment) c → AreEnds system c
 are-ends system a b c none body ports =
     let all = parts-both a b c (parts_of system.main (parallel_of system.main)) (map branch_of system.environment) body ports in
-    subst (λ (n : ℕ). FitEach (known_at c.used.acting.items) n (parts system)) none
-    (all.fits c.used.acting.items (λ n i acts. acts)).1
+    subst (λ (n : ℕ). FitEach (known_at c.used.acting.items c.used.giving.items) n (parts system)) none
+    (all.fits c.used.acting.items c.used.giving.items ((λ k x there. there), (λ k x there. there))).1
 
 -- a loop over branches
 pub parts-on : {X : Type 0} (f : X → Residual) (xs : List X) (i : ℕ) (x : X) (a b : Ends) → drop i xs ≡ x ∷ drop (i + 1) xs

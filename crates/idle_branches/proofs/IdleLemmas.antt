@@ -2,27 +2,26 @@
 use Rattle.std.proofs.Common.{◌≡◌, ◌⊎◌, inl, inr, ℕ, List, [], ◌∷◌, ◌++◌, Bool, true, false, Option, Some, None, if◌then◌else◌, length, refl, sym, ap, ◌∙◌, subst}
 use Rattle.std.specs.Prelude.{nat_lt, ◌==◌}
 use Rattle.address.specs.Places.{Before}
-use Rattle.address.specs.declared.Entry.{Entry}
 use Rattle.address.specs.declared.Entry.TheVariants.{Ordered, Branch}
 use Rattle.syntax.specs.Lists.{In, Every}
 use Rattle.system.specs.declared.command.Command.{Command}
 use Rattle.system.specs.declared.system.System.{System}
-use Rattle.system_places.specs.SystemBranches.{parallel_of, branch_at, branch_of_port, branch_within, child_number}
+use Rattle.system_places.specs.SystemBranches.{parallel_of, branch_at, branch_of_port, branch_within}
 use Rattle.sharing_check.specs.Rule.{is_shared, SharesWell}
-use Rattle.runs.specs.Moves.{Place, Move, sends, syncs, releases}
+use Rattle.runs.specs.Moves.{Place, Move, assigns, tests, turns, sends, receives, syncs, opens, releases, closes}
 use Rattle.runs.specs.Dependence.{Directly, Earlier, SomeBefore}
 use Rattle.runs.specs.Events.{Located, at, Makes, assigning, testing, turning, meeting, opening as opens_with_data, opening_without_data, shutting, syncing, acting, places}
-use Rattle.runs.specs.Steps.{State, Run, Step, Allowed, opening}
+use Rattle.runs.specs.Steps.{State, Run, opening}
 use Rattle.runs.specs.declared.event.Event.{Event}
 use Rattle.runs.proofs.public.AtOnce.{Offers, OffersAll, offered}
 use Rattle.runs.proofs.public.FromOpening.{ordered, states_are_well_formed}
-use Rattle.runs.proofs.public.Orders.{Last, past, run-formed, run-join}
+use Rattle.runs.proofs.public.Orders.{past, run-formed, run-join}
 use Rattle.local_actions.specs.Actions.{Decided, Offered, action_of}
 use Rattle.local_actions.specs.declared.action.LocalAction.{LocalAction}
-use Rattle.idle_branches.specs.Idle.{AreEnds, IdleIn, Passes, StaysIdle, TakesPart, TouchesNoShared, given_on}
+use Rattle.idle_branches.specs.Idle.{GivesWhatIsKnown, Passes, StaysIdle, TouchesNoShared, given_on}
 use Rattle.idle_branches.specs.declared.ends.Ends.{Ends}
-use Rattle.idle_branches.specs.internal.Known.{ActsOn, Known, known_at}
-use Rattle.idle_branches.proofs.ChainLemmas.{FitsLocated, moves-fit, run-keeps, whole-opens}
+use Rattle.idle_branches.specs.internal.Known.{ActsOn, FitsMove, Gives, Known, known_at}
+use Rattle.idle_branches.proofs.ChainLemmas.{FitsLocated, moves-fit, run-keeps, whole-makes, whole-opens}
 
 -- a place before another lies in its branch
 same-within : (o : Option (List Command)) (a b : Place) → Before a b → branch_within o a ≡ branch_within o b
@@ -59,7 +58,7 @@ shown T a m o d = record { move = m; after = o.0; possible = o.1; decided = d; s
 
 module _ (system : System) (ends : Ends) where
   abbrev known : ℕ → Known
-  known k = known_at ends.used.acting.items k
+  known k = known_at ends.used.acting.items ends.used.giving.items k
 
   -- at the place the state offers the other side of a channel on which branch k acts
   record Partner (T : State) (b : Place) (k : ℕ) : Type 0 where
@@ -97,7 +96,7 @@ module _ (system : System) (ends : Ends) where
   partner T ls x b k (shutting a c d p) o f (inr (inr bad)) acts = absurd bad
   partner T ls x b k (syncing a c d p l) o f (inl is) acts = inl is
   partner T ls x b k (syncing a c d p l) o f (inr (inl is)) acts =
-      inr (record { action = _; channel = d; offered = shown T c (syncs d false) o.1.0 tt; is = sym is; given = refl; acts = f.0 k acts })
+      inr (record { action = _; channel = d; offered = shown T c (syncs d false) o.1.0 tt; is = sym is; given = refl; acts = (f.0 k acts).0 })
   partner T ls x b k (syncing a c d p l) o f (inr (inr bad)) acts = absurd bad
 
   -- what comes at a place behind one of e is not in a branch that e cannot have brought a step
@@ -145,3 +144,23 @@ stays-idle system ends h S T e k rule are run step passes idle x (U, next) acts 
     let last = past S T U e (x ∷ []) formed step (U, next, refl)
     (not-direct system h U e x rule all passes.unshared later, tt) in
     idle x (last.run.0, last.run.1) acts
+
+-- the channel at whose other side a move is
+gives-move : (u : Known) (T : State) (m : Move) (c : ℕ) → FitsMove u m → given_on (action_of T.store m) ≡ Some c → Gives u c
+gives-move u T (assigns x w e) c f is = cc
+gives-move u T (tests d n) c f is = cc
+gives-move u T turns c f is = cc
+gives-move u T (sends d w e held) c f is = let same : d ≡ c = cc in subst (λ (n : ℕ). Gives u n) same f
+gives-move u T (receives d x) c f is = cc
+gives-move u T (syncs d held) c f is = let same : d ≡ c = cc in subst (λ (n : ℕ). Gives u n) same f.1
+gives-move u T (opens d n v) c f is = cc
+gives-move u T (releases d) c f is = let same : d ≡ c = cc in subst (λ (n : ℕ). Gives u n) same f
+gives-move u T (closes d) c f is = cc
+
+-- the law
+pub gives-what-is-known : GivesWhatIsKnown
+gives-what-is-known system ends h S a x k c are run offer before is given =
+    let whole = run-keeps (known system ends) system (opening system) S h (whole-opens (known system ends) system are) run in
+    let at : branch_at system x.place ≡ Some k = sym (same-branch system a x.place before) ∙ is in
+    let fits = whole-makes (known system ends) system S.residual x.place offer.move offer.after k whole offer.possible at in
+    gives-move (known system ends k) S offer.move c fits (ap given_on (sym offer.shown) ∙ given)

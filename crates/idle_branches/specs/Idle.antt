@@ -14,7 +14,7 @@ use Rattle.local_actions.specs.declared.action.ActionKind.{ActionKind}
 use Rattle.local_actions.specs.declared.action.ActionKind.TheVariants.{Sends, Syncs, Releases}
 use Rattle.local_actions.specs.declared.action.LocalAction.{LocalAction}
 use Rattle.idle_branches.specs.declared.ends.Ends.{Ends}
-use Rattle.idle_branches.specs.internal.Known.{ActsOn, FitEach, known_at, parts}
+use Rattle.idle_branches.specs.internal.Known.{ActsOn, FitEach, GivesOn, known_at, parts}
 
 -- no event that is allowed in S acts in branch k
 abbrev pub IdleIn : System → State → ℕ → Type 0
@@ -59,9 +59,9 @@ pub record Passes (system : System) (ends : Ends) (T : State) (e : Event) (k : �
   pub faces_none : Faces ends T e k → ⊥
   pub unshared : TouchesNoShared system e
 
--- all channels on which the branches act are known
+-- all channels on which the branches act or give are known
 abbrev pub AreEnds : System → Ends → Type 0
-AreEnds system ends = FitEach (known_at ends.used.acting.items) 0 (parts system)
+AreEnds system ends = FitEach (known_at ends.used.acting.items ends.used.giving.items) 0 (parts system)
 
 -- a branch that has no step has none behind an event that cannot bring it one
 abbrev pub StaysIdle : Type 0
@@ -69,3 +69,10 @@ StaysIdle =
     (system : System) (ends : Ends) (h : List Event) (S T : State) (e : Event) (k : ℕ) → SharesWell system →
     AreEnds system ends → Run (opening system) h S → Step S e T → Passes system ends T e k → IdleIn system S k →
     IdleIn system T k
+
+-- what a branch offers behind a place, at the other side of a channel, is on a channel on which it gives
+abbrev pub GivesWhatIsKnown : Type 0
+GivesWhatIsKnown =
+    (system : System) (ends : Ends) (h : List Event) (S : State) (a : Place) (x : LocalAction) (k c : ℕ) →
+    AreEnds system ends → Run (opening system) h S → Offered S x → Before a x.place → branch_at system a ≡ Some k →
+    given_on x.action ≡ Some c → GivesOn ends.used.giving.items k c

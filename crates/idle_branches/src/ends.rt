@@ -1,4 +1,4 @@
-// The channels on which the branches of a system act.
+// The channels on which the branches of a system act, and those on which they give.
 ghost use Rattle.std.specs.Prelude.{◌≡◌, ℕ, ◌∷◌, [], map, true, Some, IfOk, MatchBool, OnOk};
 ghost use Rattle.syntax.specs.Lists.{In};
 ghost use Rattle.std.specs.Option.{option_copied};
@@ -15,9 +15,10 @@ use sharing_check::Checked;
 use std::alloc::{AllocError, Global};
 use syntax::Items;
 use system::{Action, Branch, Command, System};
+use system_places::branch_count;
 
 /// For each channel of a system the branches that act on it: of a meeting the receiver, of two handshakes without data
-/// both.
+/// both. And for each branch the channels on which it gives: on which it sends, or has handshakes without data.
 #[derive(Drop)]
 pub struct Ends {
     /// so many branches were gone through
@@ -31,7 +32,8 @@ impl Ends {
         ensures { IfOk result (λ ends. AreEnds checked.now ends) }
     {
         let system = checked.system();
-        let mut ends = Ends::none(alloc, system.channels.len())?;
+        let branches = branch_count(system) as usize;
+        let mut ends = Ends::none(alloc, system.channels.len(), branches)?;
         ends.add_body(&system.main)?;
         ends.add_ports(system.environment.as_slice())?;
         Ok(ends)
@@ -44,17 +46,23 @@ impl Ends {
         list_in(self.used.acting.as_slice(), channel)
     }
 
-    /// No branches yet, of a system of so many channels.
-    fn none(alloc: Global, channels: usize) -> Result<Ends, AllocError>
+    /// The channels on which the branch gives, one as often as it does.
+    pub fn given_by(&self, branch: u32) -> &[u32]
+        ensures { result.now ≡ list_at self.now.used.giving.items branch }
+    {
+        list_in(self.used.giving.as_slice(), branch)
+    }
+
+    /// No branches yet, of a system of so many channels and branches.
+    fn none(alloc: Global, channels: usize, branches: usize) -> Result<Ends, AllocError>
         ensures { IfOk result (λ ends. ends.count ≡ 0) }
     {
-        let mut acting = Vec::with_capacity(alloc, channels)?;
-        for number in 0..channels {
-            acting.push(Items::new(alloc))?;
-        }
         Ok(Ends {
             count: 0,
-            used: Used { acting },
+            used: Used {
+                acting: empty_lists(alloc, channels)?,
+                giving: empty_lists(alloc, branches)?,
+            },
         })
     }
 
@@ -125,6 +133,15 @@ impl Ends {
         }
         Ok(self.count as u32)
     }
+}
+
+/// So many lists in which nothing stands.
+fn empty_lists(alloc: Global, count: usize) -> Result<Vec<Items<u32>>, AllocError> {
+    let mut lists = Vec::with_capacity(alloc, count)?;
+    for number in 0..count {
+        lists.push(Items::new(alloc))?;
+    }
+    Ok(lists)
 }
 
 /// Whether the event reads or writes a variable that branches may share.

@@ -1,8 +1,13 @@
-// The law of branches that have no step, the contract of a function that does nothing.
-ghost use Rattle.idle_branches.specs.Idle.{StaysIdle};
+// The laws of branches that have no step, the contracts of functions that do nothing.
+ghost use Rattle.idle_branches.specs.Idle.{GivesWhatIsKnown, StaysIdle};
 
 /// A branch that has no step has none behind a step of others, where it acts on no channel whose other side is offered
 /// behind that, and the step is on no shared variable.
 pub fn stays_idle()
     ensures { StaysIdle }
+{}
+
+/// What a branch offers behind a place, at the other side of a channel, is on a channel on which it gives.
+pub fn gives_what_is_known()
+    ensures { GivesWhatIsKnown }
 {}

@@ -1,5 +1,6 @@
 //! Which branches may come to have a step by a step of others: those that act on a channel whose other side is offered
-//! behind it. All others that have none still have none behind it.
+//! behind it, and so, at most, those that act on a channel on which a branch of that step gives. All others that have none
+//! still have none behind it.
 #![tactic(auto)]
 
 mod behind;
@@ -9,4 +10,4 @@ mod used;
 
 pub use behind::{given_on, offers_behind};
 pub use ends::{Ends, touches_shared};
-pub use laws::stays_idle;
+pub use laws::{gives_what_is_known, stays_idle};

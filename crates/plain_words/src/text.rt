@@ -1,4 +1,5 @@
 use address::Address;
+use itoa::Buffer;
 use std::alloc::{AllocError, Global};
 use std::io::Write;
 use system::{QualifiedName, System};
@@ -14,8 +15,13 @@ pub struct Text {
 impl Text {
     /// An empty text.
     pub fn new(alloc: Global) -> Text {
+        Text::behind(Vec::new(alloc))
+    }
+
+    /// A text that begins with these bytes.
+    pub fn behind(bytes: Vec<u8>) -> Text {
         Text {
-            bytes: Vec::new(alloc),
+            bytes,
             is_whole: true,
         }
     }
@@ -23,6 +29,16 @@ impl Text {
     /// Whether nothing was added, or nothing could be.
     pub fn is_empty(&self) -> bool {
         self.bytes.is_empty()
+    }
+
+    /// How many bytes it has.
+    pub fn len(&self) -> usize {
+        self.bytes.len()
+    }
+
+    /// Leaves out what stands behind so many bytes.
+    pub fn cut(&mut self, length: usize) {
+        self.bytes.truncate(length);
     }
 
     /// Adds bytes.
@@ -35,10 +51,8 @@ impl Text {
 
     /// Adds a number in decimal.
     pub fn add_number(&mut self, number: u64) {
-        if self.is_whole {
-            let added = write!(self.bytes, "{number}").map_err(|_| AllocError);
-            self.keep(added);
-        }
+        let mut buffer = Buffer::new();
+        self.add(buffer.format(number).as_bytes());
     }
 
     /// Adds words, a number and more words.

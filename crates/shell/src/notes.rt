@@ -2,6 +2,7 @@
 ghost use Rattle.std.specs.Prelude.{◌≡◌, IfSome};
 
 use debug_session::write_answer;
+use line_text::add_entry;
 use locked_execution::{Choice, Command, Desk, Machine, Reply};
 use plain_words::Text;
 use shell_desk::Watch;
@@ -9,12 +10,19 @@ use std::alloc::Global;
 use std::mem;
 use system::System;
 
+/// Of a run of more steps than so many the first and the last are shown.
+const MOST_SHOWN: u64 = 60;
+
+/// So many of them each.
+const SHOWN_AT_ENDS: u64 = 20;
+
 /// Which answers of a line are kept.
 #[derive(Clone, Copy, Debug, PartialEq, Eq)]
 pub(crate) enum Shows {
     None,
     All,
-    /// but for those of branches that have no step, and of a breakpoint that is passed
+    /// those of a run: none of branches that have no step, and of a breakpoint that is passed; of many steps the first and
+    /// the last
     Steps,
 }
 
@@ -29,6 +37,10 @@ pub struct Notes {
     session: u32,
     shows: Shows,
     shown: Text,
+    /// How long the answers to the first steps of a run are.
+    head: usize,
+    /// Whether answers to steps of a run were left out.
+    is_cut: bool,
     /// How many steps the commands of this line took or took back.
     steps: u64,
 }
@@ -43,6 +55,8 @@ impl Notes {
             session: 0,
             shows: Shows::None,
             shown: Text::new(alloc),
+            head: 0,
+            is_cut: false,
             steps: 0,
         }
     }
@@ -72,6 +86,8 @@ impl Notes {
     pub(crate) fn begin_line(&mut self, shows: Shows) {
         self.shows = shows;
         self.shown = Text::new(self.alloc);
+        self.head = 0;
+        self.is_cut = false;
         self.steps = 0;
     }
 
@@ -88,7 +104,7 @@ impl Notes {
 
     /// Adds the line that names this session: its lines follow.
     pub(crate) fn add_turn(&mut self, session: u32) {
-        let mut text = Text::new(self.alloc);
+        let mut text = self.take_script();
         self.session = session;
         add_session(&mut text, session);
         self.keep(text);
@@ -126,9 +142,15 @@ impl Notes {
         self.keep(text);
     }
 
-    /// A text with the line that names the session, where it is another than before.
+    /// The lines so far, and none are kept.
+    fn take_script(&mut self) -> Text {
+        let script = mem::replace(&mut self.script, Vec::new(self.alloc));
+        Text::behind(script)
+    }
+
+    /// The lines so far, with that which names the session, where it is another than before.
     fn begin_text(&mut self, session: u32) -> Text {
-        let mut text = Text::new(self.alloc);
+        let mut text = self.take_script();
         if session != self.session {
             self.session = session;
             add_session(&mut text, session);
@@ -138,20 +160,69 @@ impl Notes {
 
     /// Keeps these lines.
     fn keep(&mut self, text: Text) {
-        let kept = match text.into_bytes() {
-            Ok(bytes) => self.script.extend_from_slice(bytes.as_slice()).is_ok(),
-            Err(_) => false,
-        };
-        if !kept {
-            self.is_whole = false;
+        match text.into_bytes() {
+            Ok(bytes) => self.script = bytes,
+            Err(_) => self.is_whole = false,
         }
+    }
+
+    /// Ends the answers of a run, where the last steps of many are not shown yet.
+    pub(crate) fn end_run(&mut self, machine: &Machine) {
+        if self.shows != Shows::Steps || self.steps <= MOST_SHOWN || self.is_cut {
+            return;
+        }
+        let left_out = self.steps.saturating_sub(2 * SHOWN_AT_ENDS);
+        self.is_cut = true;
+        self.shown.cut(self.head);
+        self.shown
+            .add_counted(b"  .. ", left_out, b" more steps, which `live` lists\n");
+        let end = machine.live_events().len() as u64;
+        for index in end.saturating_sub(SHOWN_AT_ENDS)..end {
+            self.show_live(machine, index);
+        }
+    }
+
+    /// Keeps the answer to the step at this index of the live ones.
+    fn show_live(&mut self, machine: &Machine, index: u64) {
+        let Some((ticket, event)) = machine.live_at(index) else {
+            return;
+        };
+        let mut line = Vec::new(self.alloc);
+        let made = add_entry(
+            &mut line,
+            b"step",
+            machine.checked().system(),
+            ticket,
+            event,
+        );
+        self.shown.add_if(made, line.as_slice());
     }
 
     /// Keeps the answer to a command, where it is to be shown.
     fn show(&mut self, desk: &Desk, command: &Command, reply: &Reply) {
-        if self.shows == Shows::None || (self.shows == Shows::Steps && is_done(reply)) {
+        match self.shows {
+            Shows::None => {}
+            Shows::All => self.add_answer(desk, command, reply),
+            Shows::Steps => self.show_of_run(desk, command, reply),
+        }
+    }
+
+    /// The same of a run.
+    fn show_of_run(&mut self, desk: &Desk, command: &Command, reply: &Reply) {
+        if is_done(reply) || (is_step(reply) && self.steps > MOST_SHOWN) {
             return;
         }
+        if !is_step(reply) {
+            self.end_run(desk.machine());
+        }
+        self.add_answer(desk, command, reply);
+        if self.steps == SHOWN_AT_ENDS {
+            self.head = self.shown.len();
+        }
+    }
+
+    /// Keeps the answer to a command.
+    fn add_answer(&mut self, desk: &Desk, command: &Command, reply: &Reply) {
         match write_answer(self.alloc, desk.machine().checked(), command, reply) {
             Ok(bytes) => self.shown.add(bytes.as_slice()),
             Err(error) => self.shown.add_if(Err(error), b""),

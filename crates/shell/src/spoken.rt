@@ -204,6 +204,7 @@ impl Session {
         let mut progress = Progress::new(&mut self.notes, host);
         let done = self.bench.perform(deed, &mut progress);
         progress.end();
+        self.notes.end_run(self.bench.desk().machine());
         let own = self.notes.take_shown();
         let words = self.done_text(setting, deed, &done);
         Answer {

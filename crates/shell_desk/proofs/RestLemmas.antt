@@ -109,7 +109,8 @@ rests-stepped law ends b h' e k good are system more passes rests T reaches =
     let step : Step parts.middle e T = subst (λ (S : State). Step parts.middle e S) parts.second.2 parts.second.1 in
     subst (λ s. IdleIn s T k) (sym system)
     (law b.desk.machine.checked ends (events b.desk.machine.live) parts.middle T e k good.1 are parts.first step
-    (subst (λ s. Passes s ends T e k) system (passes T reaches)) (rests parts.middle parts.first))
+    (subst (λ s. Passes s ends T e k) system (passes (subst (λ s. AreEnds s ends) (sym system) are) T reaches))
+    (rests parts.middle parts.first))
 
 -- ---- one command
 module _ (law : StaysIdle) (ends : Ends) where

@@ -20,11 +20,12 @@ use Rattle.runs.proofs.public.Orders.{run-formed}
 use Rattle.runs.proofs.public.StateLaws.{reaches-one}
 use Rattle.local_actions.specs.Actions.{Offered}
 use Rattle.local_actions.specs.declared.action.LocalAction.{LocalAction}
-use Rattle.idle_branches.specs.Idle.{Faces, HasBehind, Passes, TouchesNoShared}
+use Rattle.idle_branches.specs.Idle.{AreEnds, Faces, GivesWhatIsKnown, HasBehind, Passes, TouchesNoShared, given_on}
 use Rattle.idle_branches.specs.declared.ends.Ends.{Ends}
+use Rattle.idle_branches.specs.internal.Known.{list_at}
 use Rattle.machine.specs.AtMachine.{AtMachine, object}
 use Rattle.locked_execution.specs.declared.command.Reply.{Reply}
-use Rattle.shell_desk.specs.internal.Sleeping.{AllSleep, FacedAt, FacedBy, IsAsleep, NoneSleeps, PassesAt, PassesNow, SleepBehindEvent, SleepBehindPlaces, SleepBut, SleepButAt, SleepButFaced, SleepButFacedAt, SleepButThese, SleepsBehind, acting_on, faced_by}
+use Rattle.shell_desk.specs.internal.Sleeping.{ActsOnOne, AllSleep, AreGiven, FacedAt, FacedBy, IsAsleep, NoneSleeps, PassesAt, PassesNow, SleepBehindEvent, SleepBehindPlaces, SleepBut, SleepButActing, SleepButAt, SleepButFaced, SleepButFacedAt, SleepButThese, SleepsBehind, acting_on, faced_by}
 
 -- nothing is something
 none-some : {X : Type 0} (x : X) → None ≡ Some x → ⊥
@@ -149,12 +150,60 @@ pub faced-woken : (ends : Ends) (h : AtMachine) (a : Place) (S : State) (offers 
     → SleepButFacedAt ends h a before after
 faced-woken ends h a S offers before after sound here has woken i sleeps =
     let one = woken i sleeps in
-    (one.0, λ faced. not one.1 faced)
+    (one.0, λ are faced. not one.1 faced)
   where
     not : (FacedBy ends offers i → ⊥) → FacedAt ends h a i → ⊥
     not none (T, x, reaches, offered, behind, on) =
         let same : T ≡ S = reaches-one (object h) T S sound reaches here in
         none (x, has x (subst (λ (U : State). Offered U x) same offered) behind, on)
+
+-- ---- by one channel after another
+abbrev pub KeptActing : Ends → List ℕ → List ℕ → List Bool → List Bool → Type 0
+KeptActing ends all rest before after =
+    (i : ℕ) → IsAsleep after i → IsAsleep before i × (ActsOnOne ends all i → ActsOnOne ends rest i)
+
+pub acting-begins : (ends : Ends) (all : List ℕ) (asleep : List Bool) → KeptActing ends all (drop 0 all) asleep asleep
+acting-begins ends all asleep i h = (h, λ acts. acts)
+
+pub acting-more : (ends : Ends) (all : List ℕ) (n x : ℕ) (before between after : List Bool) → n < length all → x ≡ get_or all n 0
+    → KeptActing ends all (drop n all) before between → SleepButThese (list_at ends.used.acting.items x) between after
+    → KeptActing ends all (drop (n + 1) all) before after
+acting-more ends all n x before between after less is kept but i h =
+    let one : IsAsleep between i × (In i (list_at ends.used.acting.items x) → ⊥) = but i h in
+    let old = kept i one.0 in
+    (old.0, λ acts. others one.1 (old.1 acts))
+  where
+    others : (In i (list_at ends.used.acting.items x) → ⊥) → ActsOnOne ends (drop n all) i → ActsOnOne ends (drop (n + 1) all) i
+    others not (c, among, on) = elim (subst (λ (rest : List ℕ). In c rest) (drop_more all n 0 less) among) [
+      | inl e ↦ absurd (not (subst (λ (d : ℕ). In i (list_at ends.used.acting.items d)) (e ∙ sym is) on))
+      | inr more ↦ (c, more, on)
+    ]
+
+pub acting-ends : (ends : Ends) (all : List ℕ) (n : ℕ) (before after : List Bool) → length all ≤ n
+    → KeptActing ends all (drop n all) before after → SleepButActing ends all before after
+acting-ends ends all n before after past kept i h =
+    let old = kept i h in
+    (old.0, λ acts. none (subst (λ (rest : List ℕ). ActsOnOne ends rest i) (drop_all n all past) (old.1 acts)))
+  where
+    none : ActsOnOne ends [] i → ⊥
+    none (c, among, on) = absurd among
+
+-- what is offered behind a place is on one of the channels on which its branch gives
+pub acting-woken : GivesWhatIsKnown → (ends : Ends) (h : AtMachine) (a : Place) (channels : List ℕ) (before after : List Bool)
+    → AreGiven h.checked ends a channels → SleepButActing ends channels before after → SleepButFacedAt ends h a before after
+acting-woken law ends h a channels before after (k, is, same) woken i sleeps =
+    let one = woken i sleeps in
+    (one.0, λ are faced. not are one.1 faced)
+  where
+    on : (o : Option ℕ) → In i (acting_on ends o) → ((c : ℕ) → o ≡ Some c → In c channels) → ActsOnOne ends channels i
+    on None acts given = absurd acts
+    on (Some c) acts given = (c, given c refl, acts)
+
+    not : AreEnds h.checked ends → (ActsOnOne ends channels i → ⊥) → FacedAt ends h a i → ⊥
+    not are none (T, x, reaches, offered, behind, acts) =
+        none (on (given_on x.action) acts
+        (λ c given. subst (λ (cs : List ℕ). In c cs) (sym same)
+        (law h.checked ends (events h.live) T a x k c are reaches offered behind is given)))
 
 -- the state is one of runs
 pub state-formed : (h : AtMachine) (S : State) → Sound (object h) → Reaches (object h) S → WellFormed S.residual
@@ -199,15 +248,16 @@ wakes-event ends h e before between after one other unshared i sleeps =
     (sooner.0, passes at)
   where
     passes : ((a : Place) → In a (places e) → PassesAt ends h a i) → PassesNow ends h e i
-    passes at T reaches = record {
+    passes at are T reaches = record {
       apart = λ part. (at part.0 part.1).elsewhere part.2;
-      faces_none = λ faced. faces at T reaches faced;
+      faces_none = λ faced. faces at are T reaches faced;
       unshared = unshared;
     }
       where
-        faces : ((a : Place) → In a (places e) → PassesAt ends h a i) → (T : State) → Reaches (object h) T → Faces ends T e i → ⊥
-        faces at T reaches (x, c, (offered, (a, among, behind)), given, acts) =
-            (at a among).faced_by_none
+        faces : ((a : Place) → In a (places e) → PassesAt ends h a i) → AreEnds h.checked ends → (T : State) → Reaches (object h) T
+            → Faces ends T e i → ⊥
+        faces at are T reaches (x, c, (offered, (a, among, behind)), given, acts) =
+            (at a among).faced_by_none are
             (T, x, reaches, offered, behind, subst (λ (o : Option ℕ). In i (acting_on ends o)) (sym given) acts)
 
 -- one more sleeps

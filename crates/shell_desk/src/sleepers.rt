@@ -1,16 +1,21 @@
 // The branches that a run passes over: they had no step, and no step since could bring them one.
-ghost use Rattle.std.specs.Prelude.{◌≡◌, ◌∷◌, [], ◌⊎◌, ◌<◌, ◌≤◌, ℕ, IfOk, MatchBool, MatchOption};
+ghost use Rattle.std.specs.Prelude.{◌≡◌, ◌∷◌, [], ◌⊎◌, ◌<◌, ◌≤◌, ℕ, IfOk, IfSome, MatchBool, MatchOption};
 ghost use Rattle.runs.specs.Events.{places_of};
 ghost use Rattle.idle_branches.specs.Idle.{AreEnds};
-ghost use Rattle.shell_desk.specs.internal.Sleeping.{AllSleep, IsAsleep, NoneSleeps, SleepBehindEvent, SleepBehindPlaces, SleepBut, SleepButAt, SleepButFaced, SleepButFacedAt, SleepButThese, SleepsBehind, faced_by};
+ghost use Rattle.idle_branches.specs.internal.Known.{list_at};
+ghost use Rattle.shell_desk.specs.internal.Sleeping.{AllSleep, AreGiven, IsAsleep, NoneSleeps, SleepBehindEvent, SleepBehindPlaces, SleepBut, SleepButActing, SleepButAt, SleepButFaced, SleepButFacedAt, SleepButThese, SleepsBehind, faced_by};
 
 use address::Address;
-use idle_branches::{Ends, given_on, offers_behind, touches_shared};
+use idle_branches::{Ends, given_on, gives_what_is_known, offers_behind, touches_shared};
 use local_actions::LocalAction;
 use locked_execution::{Event, Machine, Reply};
 use std::alloc::{AllocError, Global};
 use system::System;
 use system_places::branch_at;
+
+/// Where a branch gives on so many channels at most, all that act on them are woken behind its steps, and what it offers
+/// is not looked at.
+const FEW_CHANNELS: usize = 16;
 
 /// For each branch whether it is asleep. Those that are left out are awake.
 #[derive(Drop)]
@@ -108,8 +113,36 @@ impl Sleepers {
         }
     }
 
-    /// Wakes who acts on a channel whose other side is offered behind the place; without memory all.
+    /// Wakes who acts on a channel whose other side is offered behind the place, and perhaps others.
     fn wake_faced_at(&mut self, machine: &Machine, ends: &Ends, place: &Address)
+        ensures { SleepButFacedAt ends.now machine.now place.now self.old.asleep.items self.new.asleep.items }
+    {
+        gives_what_is_known();
+        match few_given(machine.checked().system(), ends, place) {
+            Some(channels) => self.wake_acting(ends, channels),
+            None => self.wake_offered_at(machine, ends, place),
+        }
+    }
+
+    /// Wakes who acts on one of these channels.
+    fn wake_acting(&mut self, ends: &Ends, channels: &[u32])
+        ensures { SleepButActing ends.now channels.now self.old.asleep.items self.new.asleep.items }
+    {
+        for channel in channels {
+            self.wake_on(ends, *channel);
+        }
+    }
+
+    /// Wakes who acts on the channel.
+    fn wake_on(&mut self, ends: &Ends, channel: u32)
+        ensures { SleepButThese (list_at ends.now.used.acting.items channel)
+            self.old.asleep.items self.new.asleep.items }
+    {
+        self.wake_each(ends.acting_on(channel));
+    }
+
+    /// Wakes who acts on a channel whose other side is offered behind the place; without memory all.
+    fn wake_offered_at(&mut self, machine: &Machine, ends: &Ends, place: &Address)
         ensures { SleepButFacedAt ends.now machine.now place.now self.old.asleep.items self.new.asleep.items }
     {
         machine.is_sound();
@@ -165,6 +198,27 @@ impl Sleepers {
             return;
         }
         self.asleep[index] = true;
+    }
+}
+
+/// The channels on which the branch gives in which the place lies, where they are few.
+fn few_given<'a>(system: &System, ends: &'a Ends, place: &Address) -> Option<&'a [u32]>
+    ensures { IfSome result (λ channels. AreGiven system.now ends.now place.now channels.now) }
+{
+    match branch_at(system, place) {
+        Some(branch) => few_of(ends.given_by(branch)),
+        None => None,
+    }
+}
+
+/// These, where they are few.
+fn few_of(channels: &[u32]) -> Option<&[u32]>
+    ensures { IfSome result (λ few. few.now ≡ channels.now) }
+{
+    if channels.len() <= FEW_CHANNELS {
+        Some(channels)
+    } else {
+        None
     }
 }
 

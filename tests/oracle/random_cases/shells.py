@@ -5,7 +5,7 @@ from __future__ import annotations
 from copy import copy
 from random import Random
 
-from reference.shell import Bench, Quit, Slip
+from reference.shell import Bench, Deed, Quit, Slip
 
 from .circuits import circuits
 from .scripts import BROKEN_LINES, ScriptWriter, desk_for
@@ -31,6 +31,8 @@ MIXES = [
 FILES = ["one", "two", "three"]
 # A run without a bound is typed where it ends after so many steps at most.
 MOST_STEPS = 80
+# Of a run of more steps than so many the first and the last are told, so many each.
+MOST_TOLD, TOLD_AT_ENDS = 60, 20
 
 
 class ShellWriter(ScriptWriter):
@@ -67,7 +69,7 @@ class ShellWriter(ScriptWriter):
     def run(self) -> str:
         if self.random.random() < 0.4 and self.ends_soon():
             return self.random.choice(["run", "run", f"run {2**64 - 1}"])
-        return f"run {self.random.choice([0, 1, 1, 2, 3, 5, 20])}"
+        return f"run {self.random.choice([0, 1, 1, 2, 3, 5, 20, 61, 70])}"
 
     def next(self) -> str:
         word = self.random.choice(["next", "n"])
@@ -126,4 +128,14 @@ def done_at(bench: Bench, line: bytes) -> list[str]:
         deed = bench.perform(line)
     except (Slip, Quit):
         return []
-    return [answer for asked in deed.asked for answer in asked.answer]
+    return told(deed)
+
+
+def told(deed: Deed) -> list[str]:
+    """The answers that are written: of many steps those of the first and the last."""
+    answers = [answer for asked in deed.asked for answer in asked.answer]
+    steps = sum(asked.has_stepped for asked in deed.asked)
+    if steps <= MOST_TOLD:
+        return answers
+    left_out = f"  .. {steps - 2 * TOLD_AT_ENDS} more steps, which `live` lists"
+    return [*answers[:TOLD_AT_ENDS], left_out, *answers[steps - TOLD_AT_ENDS :]]

@@ -1,6 +1,6 @@
--- What is gathered from commands: the channels on which they act.
--- No reader has to believe it: what it leads to is `StaysIdle` of `Idle.antt`.
-use Rattle.std.specs.Prelude.{◌≡◌, ℕ, List, [], ◌∷◌, Option, None, Some}
+-- What is gathered from commands: the channels on which they act, and those on which they give.
+-- No reader has to believe it: what it leads to are the laws of `Idle.antt`.
+use Rattle.std.specs.Prelude.{◌≡◌, ℕ, List, Option, None, Some}
 use Rattle.syntax.specs.Lists.{Every}
 use Rattle.system.specs.Residual.{Residual}
 use Rattle.system.specs.Translation.{OnChannel}
@@ -9,7 +9,7 @@ use Rattle.idle_branches.specs.internal.Known.{Known, Acts, Fits, Grows}
 
 -- all that was gathered is known
 abbrev pub Holds : Used → Known → Type 0
-Holds used u = Grows used.acting.items u.acting
+Holds used u = Grows used.acting.items u.acting × Grows used.giving.items u.giving
 
 -- where all that is gathered of branch k afterwards is known, so was all before, and this holds of what is known
 abbrev pub Adds : ℕ → Used → (Known → Type 0) → Used → Type 0

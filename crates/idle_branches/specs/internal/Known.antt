@@ -1,14 +1,13 @@
 -- What is known of the channels that the parts of a system use.
--- No reader has to believe it: what it leads to is `StaysIdle` of `Idle.antt`.
-use Rattle.std.specs.Prelude.{◌≡◌, ℕ, zero, suc, ◌+◌, ◌-◌, List, [], ◌∷◌, ◌++◌, Option, None, Some, map, slice_get}
-use Rattle.address.specs.declared.Entry.{Entry}
+-- No reader has to believe it: what it leads to are the laws of `Idle.antt`.
+use Rattle.std.specs.Prelude.{ℕ, ◌+◌, List, [], ◌∷◌, ◌++◌, Option, None, Some, map, slice_get}
 use Rattle.syntax.specs.Lists.{In, Every}
 use Rattle.system.specs.Residual.{Residual, done, halted, inside, beside, assign, send, receive, sync, held, loop, while, test, choose, closing, drain, Arms, no_arms, arm}
 use Rattle.system.specs.Translation.{residual_of, branch_of}
 use Rattle.system.specs.declared.command.Command.{Command}
 use Rattle.system.specs.declared.system.System.{System}
-use Rattle.system_places.specs.SystemBranches.{parallel_of, branches_of}
-use Rattle.runs.specs.Moves.{Move, assigns, tests, turns, sends, receives, syncs, opens, releases, closes}
+use Rattle.system_places.specs.SystemBranches.{parallel_of}
+use Rattle.runs.specs.Moves.{Move, sends, receives, syncs, opens, releases, closes}
 
 -- the list of this number
 abbrev pub list_or : Option (List ℕ) → List ℕ
@@ -22,31 +21,40 @@ list_at lists k = list_or (slice_get lists k)
 abbrev pub ActsOn : List (List ℕ) → ℕ → ℕ → Type 0
 ActsOn acting c i = In i (list_at acting c)
 
--- who acts, acts by the other table too
-abbrev pub Grows : List (List ℕ) → List (List ℕ) → Type 0
-Grows before after = (c i : ℕ) → ActsOn before c i → ActsOn after c i
+-- branch i gives on channel c, by this table: it is at the other side of it
+abbrev pub GivesOn : List (List ℕ) → ℕ → ℕ → Type 0
+GivesOn giving i c = In c (list_at giving i)
 
--- what is known of one branch: its number, and who acts on which channel
+-- what stands in the lists of a table stands in those of the other too
+abbrev pub Grows : List (List ℕ) → List (List ℕ) → Type 0
+Grows before after = (k x : ℕ) → In x (list_at before k) → In x (list_at after k)
+
+-- what is known of one branch: its number, who acts on which channel, and on which channels each branch gives
 pub record Known : Type 0 where
   pub branch : ℕ
   pub acting : List (List ℕ)
+  pub giving : List (List ℕ)
 
 -- it acts on the channel
 abbrev pub Acts : Known → ℕ → Type 0
 Acts u c = ActsOn u.acting c u.branch
 
+-- it gives on the channel
+abbrev pub Gives : Known → ℕ → Type 0
+Gives u c = GivesOn u.giving u.branch c
+
 abbrev mutual
-  -- all channels on which the residual acts are known
+  -- all channels on which the residual acts or gives are known
   pub Fits : Known → Residual → Type 0
   Fits u done = Unit {0}
   Fits u halted = Unit {0}
   Fits u (inside i child next) = Fits u child × Fits u next
   Fits u (beside k child rest) = Fits u child × Fits u rest
   Fits u (assign x w e) = Unit {0}
-  Fits u (send c w e) = Unit {0}
+  Fits u (send c w e) = Gives u c
   Fits u (receive c x) = Acts u c
-  Fits u (sync c) = Acts u c
-  Fits u (held c) = Unit {0}
+  Fits u (sync c) = Acts u c × Gives u c
+  Fits u (held c) = Gives u c
   Fits u (loop k body) = Fits u body
   Fits u (while k e body) = Fits u body
   Fits u (test d arms) = FitsArms u arms
@@ -59,19 +67,19 @@ abbrev mutual
   FitsArms u no_arms = Unit {0}
   FitsArms u (arm r rest) = Fits u r × FitsArms u rest
 
--- the channel on which the move acts is known
+-- the channel on which the move acts or gives is known
 abbrev pub FitsMove : Known → Move → Type 0
-FitsMove u (sends c w e opening) = Unit {0}
+FitsMove u (sends c w e opening) = Gives u c
 FitsMove u (receives c x) = Acts u c
-FitsMove u (syncs c opening) = Acts u c
+FitsMove u (syncs c opening) = Acts u c × Gives u c
 FitsMove u (opens c k v) = Acts u c
-FitsMove u (releases c) = Unit {0}
+FitsMove u (releases c) = Gives u c
 FitsMove u (closes c) = Acts u c
 FitsMove u _ = Unit {0}
 
 -- what is known of branch k
-abbrev pub known_at : List (List ℕ) → ℕ → Known
-known_at acting k = record { branch = k; acting = acting }
+abbrev pub known_at : List (List ℕ) → List (List ℕ) → ℕ → Known
+known_at acting giving k = record { branch = k; acting = acting; giving = giving }
 
 -- what the branches of the body are to do
 abbrev pub parts_of : Command → Option (List Command) → List Residual

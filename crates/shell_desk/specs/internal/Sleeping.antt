@@ -36,9 +36,10 @@ Rests b k = (T : State) → Reaches (execution b.desk) T → IdleIn b.desk.machi
 abbrev pub Resting : Ends → AtBench → List Bool → Type 0
 Resting ends b asleep = AreEnds b.desk.machine.checked ends × ((k : ℕ) → IsAsleep asleep k → Rests b k)
 
--- the event that was taken last at the machine brought branch i no step
+-- the event that was taken last at the machine brought branch i no step, where the ends are those of its system
 abbrev pub PassesNow : Ends → AtMachine → Event → ℕ → Type 0
-PassesNow ends h e i = (T : State) → Reaches (object h) T → Passes h.checked ends T e i
+PassesNow ends h e i =
+    AreEnds h.checked ends → (T : State) → Reaches (object h) T → Passes h.checked ends T e i
 
 -- who sleeps behind the reply to branch k: only who slept before and to whom the step brought none, or k, where it has
 -- none
@@ -113,15 +114,29 @@ abbrev pub FacedAt : Ends → AtMachine → Place → ℕ → Type 0
 FacedAt ends h a i =
     (T : State) × (x : LocalAction) × Reaches (object h) T × Offered T x × Before a x.place × In i (faced_by ends x)
 
--- the same, but for those that are faced there
+-- these are the channels on which the branch gives in which the place lies
+abbrev pub AreGiven : System → Ends → Place → List ℕ → Type 0
+AreGiven system ends a channels =
+    (k : ℕ) × (branch_at system a ≡ Some k) × (channels ≡ list_at ends.used.giving.items k)
+
+-- branch i acts on one of these channels
+abbrev pub ActsOnOne : Ends → List ℕ → ℕ → Type 0
+ActsOnOne ends channels i = (c : ℕ) × In c channels × In i (list_at ends.used.acting.items c)
+
+-- the same, but for those that act on one of these channels
+abbrev pub SleepButActing : Ends → List ℕ → List Bool → List Bool → Type 0
+SleepButActing ends channels before after =
+    (i : ℕ) → IsAsleep after i → IsAsleep before i × (ActsOnOne ends channels i → ⊥)
+
+-- the same, but for those that are faced there, where the ends are those of the system
 abbrev pub SleepButFacedAt : Ends → AtMachine → Place → List Bool → List Bool → Type 0
 SleepButFacedAt ends h a before after =
-    (i : ℕ) → IsAsleep after i → IsAsleep before i × (FacedAt ends h a i → ⊥)
+    (i : ℕ) → IsAsleep after i → IsAsleep before i × (AreEnds h.checked ends → FacedAt ends h a i → ⊥)
 
--- a step at the place brought branch i none
+-- a step at the place brought branch i none, where the ends are those of the system
 pub record PassesAt (ends : Ends) (h : AtMachine) (a : Place) (i : ℕ) : Type 0 where
   pub elsewhere : branch_at h.checked a ≡ Some i → ⊥
-  pub faced_by_none : FacedAt ends h a i → ⊥
+  pub faced_by_none : AreEnds h.checked ends → FacedAt ends h a i → ⊥
 
 -- only who slept before sleeps, and to whom a step at these places brought none
 abbrev pub SleepBehindPlaces : Ends → AtMachine → List Place → List Bool → List Bool → Type 0

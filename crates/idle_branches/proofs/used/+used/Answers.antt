@@ -23,7 +23,12 @@ add_command-returns-in-Receive t c =
 pub add_command-returns-in-Sync : goal.add_command-returns-in-Sync
 add_command-returns-in-Sync t c =
     let is : residual_of c.args.command.now ≡ residual.sync c.in-Sync.channel.number = search (rules, the_lemmas) in
-    subst (λ (r : Residual). OnOk c.add_act-in-Sync.result (Adds c.args.branch c.args.used.now (λ u. Fits u r) c.add_act-in-Sync.new.self)) (sym is) c.add_act-in-Sync.ensures
+    subst (λ (r : Residual). OnOk c.add_both.result (Adds c.args.branch c.args.used.now (λ u. Fits u r) c.add_both.new.self)) (sym is) c.add_both.ensures
+
+pub add_command-returns-in-Send : goal.add_command-returns-in-Send
+add_command-returns-in-Send t c =
+    let is : residual_of c.args.command.now ≡ residual.send c.in-Send.channel.number c.in-Send.field-1 (expression_of c.in-Send.field-2) = search (rules, the_lemmas) in
+    subst (λ (r : Residual). OnOk c.add_gift.result (Adds c.args.branch c.args.used.now (λ u. Fits u r) c.add_gift.new.self)) (sym is) c.add_gift.ensures
 
 pub add_command-returns-in-Loop : goal.add_command-returns-in-Loop
 add_command-returns-in-Loop t c =
