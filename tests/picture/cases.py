@@ -1,6 +1,6 @@
 """The runs that are drawn: those of examples/, random ones, and some that go to a limit."""
 
-from dataclasses import dataclass
+from dataclasses import dataclass, replace
 from pathlib import Path
 from random import Random
 
@@ -12,6 +12,8 @@ from reference.traces import load, trace_of
 
 EXAMPLES = Path(__file__).resolve().parents[2] / "examples"
 HEADER = b"balsadbg trace 1\n"
+# a run of more steps is large, and one of more branches
+LARGE, WIDE = 4000, 100
 
 
 @dataclass(frozen=True)
@@ -21,6 +23,8 @@ class Case:
     stimulus: bytes
     trace: bytes
     trace_name: str = "c.trace"
+    # the second implementation takes too long for it
+    is_large: bool = False
 
 
 def random_trace(source: bytes, stimulus: bytes, seed: int, steps: int) -> bytes:
@@ -76,7 +80,7 @@ def one_lane(turns: int) -> Case:
     """One branch that counts, so often."""
     source = b"type byte is 8 bits\nprocedure count is\n  variable x : byte\nbegin\n  loop\n    x := (x + 1 as byte)\n  end\nend\n"
     lines = "".join(f"step /0.{turn} 0\n" for turn in range(turns))
-    return Case(f"one_lane_{turns}", source, b"", HEADER + lines.encode())
+    return Case(f"one_lane_{turns}", source, b"", HEADER + lines.encode(), is_large=turns > LARGE)
 
 
 def wide(lanes: int) -> Case:
@@ -111,6 +115,11 @@ def end_case(name: str, source: str, stimulus: str = "", steps: tuple[str, ...] 
     """A run of a procedure with these ports, channels and variables of 8 bits, behind these steps."""
     lines = "".join(f"step {step}\n" for step in steps)
     return Case(name, source.encode(), stimulus.encode(), HEADER + lines.encode())
+
+
+def random_case(name: str, source: str, stimulus: str, steps: int) -> Case:
+    """A run of so many random steps."""
+    return Case(name, source.encode(), stimulus.encode(), random_trace(source.encode(), stimulus.encode(), 1, steps))
 
 
 def ends() -> list[tuple[Case, str, str]]:
@@ -158,3 +167,56 @@ def odd_name() -> Case:
     """A trace whose name has signs of XML and of JSON, and a letter that is no ASCII."""
     case = next(one for one in examples(()) if one.name == "one")
     return Case("odd_name", case.source, case.stimulus, case.trace, "a<b>&\"'\\\u00e9.trace")
+
+
+def long_race(letters: int) -> Case:
+    """Two branches between which only a variable makes an order, whose name has so many letters."""
+    name = "s" * letters
+    source = f"procedure race is\n  shared variable {name} : 8 bits\n  variable y : 8 bits\nbegin\n  {name} := 1 || y := {name}\nend\n"
+    return end_case(f"race_{letters}", source, "", ("/0/0 0", "/0/1 0"))
+
+
+def received_left(letters: int) -> Case:
+    """A value that goes to the left, into a variable in the first column whose name has so many letters."""
+    name = "r" * letters
+    source = (f"procedure left (output o : 8 bits) is\n  channel c : 8 bits\n  variable {name} : 8 bits\nbegin\n"
+              f"  [ c -> {name} || c <- 5 ] ; o <- {name}\nend\n")
+    return end_case(f"received_left_{letters}", source, "", ("/0.0/0 0", "/1.0 0"))
+
+
+def late_lines(lines: int) -> Case:
+    """Branches side by side behind so many lines of comment."""
+    source = "-- c\n" * lines + "procedure late (sync s, t, u) is\nbegin\n  sync s ||\n  sync t ||\n  sync u\nend\n"
+    return random_case(f"late_lines_{lines}", source, "s * 1\nt * 1\nu * 1\n", 3)
+
+
+def counters(steps: int) -> Case:
+    """Two branches that count in one variable, so many steps."""
+    body = "loop {0} := counter ; counter := ({0} + 1 as 8 bits) end"
+    source = ("procedure counters is\n  shared variable counter : 8 bits\n  variable a, b : 8 bits\nbegin\n  "
+              + " || ".join(body.format(name) for name in "ab") + "\nend\n")
+    return random_case(f"counters_{steps}", source, "", steps)
+
+
+def loops(lanes: int) -> Case:
+    """Behind one assignment so many branches side by side, each a loop, of which each makes one round."""
+    names = [f"x{number}" for number in range(lanes)]
+    source = ("procedure loops is\n  variable x, " + ", ".join(names) + " : 8 bits\nbegin\n  x := 1 ;\n  [ "
+              + " || ".join(f"loop {name} := 1 end" for name in names) + " ]\nend\n")
+    steps = ["/0.0 0", *(f"/0.1/{lane}.{part} 0" for lane in range(lanes) for part in (0, 1))]
+    return replace(end_case(f"loops_{lanes}", source, "", tuple(steps)), is_large=lanes > WIDE)
+
+
+def rounds(lanes: int, turns: int) -> Case:
+    """A loop around so many branches side by side, so often."""
+    names = [f"x{number}" for number in range(lanes)]
+    source = ("procedure rounds is\n  variable " + ", ".join(names) + " : 8 bits\nbegin\n  loop "
+              + " || ".join(f"{name} := 1" for name in names) + " end\nend\n")
+    steps = [step for turn in range(turns) for step in (f"/0.{2 * turn} 0", *(f"/0.{2 * turn + 1}/{lane} 0" for lane in range(lanes)))]
+    return replace(end_case(f"rounds_{lanes}_{turns}", source, "", tuple(steps)), is_large=lanes > WIDE)
+
+
+def wide_letters() -> Case:
+    """A trace in whose name are letters that take more than one byte."""
+    case = next(one for one in examples(()) if one.name == "one")
+    return Case("wide_letters", case.source, case.stimulus, case.trace, "\u00e9" * 80 + "\u4e2d" * 20 + ".trace")

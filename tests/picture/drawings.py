@@ -13,10 +13,13 @@ from pathlib import Path
 from xml.etree import ElementTree
 
 from cases import Case
-from facts import Facts
-from marks import marked_faults, plain_faults, quiet_faults, race_faults, taken_apart
+from facts import Facts, ToldFacts
+from marks import events_of, inks_of, marked_faults, plain_faults, quiet_faults, race_faults, taken_apart
+from placed import Ground, bar_faults, column_faults, hatching_faults, placed_faults, point_faults
 from reference.debugger import accept
 from reference.traces import load
+from standing import standing_faults
+from texts import text_faults
 
 TOOLS = {"vcd2fst": "the waves by GTKWave's reader", "fst2vcd": "the last values of waves", "xmllint": "whether drawings are well formed"}
 
@@ -56,6 +59,10 @@ class Drawer:
     def facts(self) -> Facts:
         return Facts(self.case)
 
+    @cached_property
+    def data(self) -> dict:
+        return json.loads(self.draw("--json"))
+
 
 # --- waves
 
@@ -82,7 +89,7 @@ def last_values(text: str) -> dict[str, int]:
     return {name: int(values[code], 2) for code, name in names.items()}
 
 
-def wave_faults(case: Case, drawer: Drawer, small: bool) -> list[str]:
+def wave_faults(case: Case, drawer: Drawer) -> list[str]:
     waves = drawer.draw("--vcd")
     if drawer.draw("--vcd") != waves:
         return ["two calls differ"]
@@ -93,7 +100,7 @@ def wave_faults(case: Case, drawer: Drawer, small: bool) -> list[str]:
     done = subprocess.run(["vcd2fst", str(vcd), str(fst)], capture_output=True, check=False)
     if done.returncode or done.stderr:
         return [(done.stderr or done.stdout).decode()[:200]]
-    if shutil.which("fst2vcd") is None or not small:
+    if shutil.which("fst2vcd") is None or case.is_large:
         return []
     back = subprocess.run(["fst2vcd", str(fst)], capture_output=True, check=False).stdout.decode("latin-1")
     system = accept(case.source, case.stimulus)
@@ -108,8 +115,8 @@ def wave_faults(case: Case, drawer: Drawer, small: bool) -> list[str]:
 # Behind the name of the trace, which `name_faults` reads.
 HEAD = re.compile(rb">[^<>]*: (\d+ events?, [^<;]*)[<;]")
 STATE = re.compile(rb">(\d+ causes?)</tspan> and <tspan [^>]*>(\d+ consequences?)</tspan> \(dashed\)")
-# how wide a letter of the line at the top is, as a part of its size, and where the line begins
-LETTER, BEGIN = 0.603, 8
+# a drawing of more bytes is not taken apart
+MOST_READ = 8_000_000
 
 
 def counted(count: int, word: str) -> str:
@@ -134,40 +141,51 @@ def well_formed(drawer: Drawer, drawing: bytes) -> list[str]:
 
 
 def name_faults(drawer: Drawer, drawing: bytes) -> list[str]:
-    """Whether the title of the drawing is read back with the name of the trace as it is, and the line over it without its folders; and
-    whether the drawing is as wide as that line."""
+    """Whether the title of the drawing is read back with the name of the trace as it is, and the line over it without its folders."""
     try:
-        whole = ElementTree.fromstring(drawing)
-        top = list(whole)
+        top = list(ElementTree.fromstring(drawing))
     except ElementTree.ParseError as fault:
         return [f"no XML: {fault}"]
     name, title, line = drawer.case.trace_name, "".join(top[0].itertext()), "".join(top[-1].itertext())
     if title != name or not line.startswith(f"{Path(name).name}: "):
         return [f"the trace {name!r} has the title {title!r} and the line {line!r}"]
-    width, end = int(whole.get("width")), BEGIN + len(line) * LETTER * float(top[-1].get("font-size"))
-    return [] if width >= end else [f"it is {width} wide, and the line {line!r} ends at {end}"]
+    return []
 
 
-def drawing_faults(case: Case, drawer: Drawer, small: bool) -> list[str]:
+def drawing_faults(case: Case, drawer: Drawer) -> list[str]:
     drawing = drawer.draw("--svg")
     if drawer.draw("--svg") != drawing:
         return ["two calls differ"]
     quiet = drawer.draw("--svg", "--quiet")
-    found = [fault for one in (drawing, quiet) for fault in well_formed(drawer, one) + name_faults(drawer, one)]
-    if found or not small:
+    found = [fault for one in (drawing, quiet) for fault in well_formed(drawer, one) + name_faults(drawer, one) + text_faults(one)]
+    if found or len(drawing) > MOST_READ:
         return found
     try:
-        return shown_faults(drawer, drawing, quiet)
+        return shown_faults(drawer, drawing, quiet) + ([] if case.is_large else all_marked_faults(drawer, drawing, quiet))
     except ValueError as fault:
         return [str(fault)]
 
 
 def shown_faults(drawer: Drawer, drawing: bytes, quiet: bytes) -> list[str]:
-    """Whether the events are drawn and marked as they have to be, without turns and tests too."""
-    facts = drawer.facts
+    """Whether the events are drawn as they have to be, without turns and tests too."""
+    facts = ToldFacts(drawer.case, drawer.data) if drawer.case.is_large else drawer.facts
+    found = single_faults(facts, drawer.data, drawing, False)
+    found += ["--quiet: " + fault for fault in single_faults(facts, drawer.data, quiet, True)]
+    return found or quiet_faults(facts, taken_apart(facts, drawing, False), taken_apart(facts, quiet, True))
+
+
+def single_faults(facts: Facts, data: dict, drawing: bytes, quiet: bool) -> list[str]:
+    """Whether a drawing shows what the facts are, where none is asked for."""
+    drawn, shown = taken_apart(facts, drawing, quiet), events_of(facts, quiet)
+    ground = Ground(facts, drawn)
+    found = head_faults(facts, drawing) + plain_faults(drawn) + hatching_faults(drawing) + race_faults(facts, drawn, shown)
+    return found + (placed_faults(ground, shown, not quiet) or bar_faults(ground, shown) + standing_faults(ground, data))
+
+
+def all_marked_faults(drawer: Drawer, drawing: bytes, quiet: bytes) -> list[str]:
+    """Whether causes and consequences of some events are marked as they have to be, without turns and tests too."""
+    facts, found = drawer.facts, []
     whole, less = taken_apart(facts, drawing, False), taken_apart(facts, quiet, True)
-    found = head_faults(facts, drawing) + head_faults(facts, quiet)
-    found += plain_faults(whole) + plain_faults(less) + quiet_faults(facts, whole, less) + race_faults(facts, whole)
     for ticket in tickets(len(facts.events), drawer.case.name):
         for plain, words in ((whole, ()), (less, ("--quiet",))):
             marked = drawer.draw("--svg", "--event", str(ticket), *words)
@@ -175,7 +193,11 @@ def shown_faults(drawer: Drawer, drawing: bytes, quiet: bytes) -> list[str]:
             wanted = counted(causes, "cause"), counted(consequences, "consequence")
             if told is None or (told[1].decode(), told[2].decode()) != wanted:
                 return [f"--event {ticket}: told {told and told[0]}, wanted {wanted}"]
-            faults = name_faults(drawer, marked) + marked_faults(facts, plain, marked, ticket - 1, bool(words))
+            drawn, shown = taken_apart(facts, marked, bool(words), ticket - 1), events_of(facts, bool(words), ticket - 1)
+            faults = name_faults(drawer, marked) + marked_faults(facts, plain, drawn, marked, ticket - 1, shown) + text_faults(marked)
+            ground = Ground(facts, drawn)
+            faults += (placed_faults(ground, shown, False) if len(shown) > len(plain.marks) else column_faults(ground, shown)) \
+                + point_faults(ground, shown, inks_of(facts, marked, ticket - 1))
             found += [f"--event {ticket} {' '.join(words)}: {fault}" for fault in faults] + well_formed(drawer, marked)
     return found
 

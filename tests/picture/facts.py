@@ -62,6 +62,11 @@ def orders_by(earlier: Event, later: Event) -> int:
     return later.writes.number
 
 
+def ways_between(earlier: Event, later: Event) -> list[tuple[str, str]]:
+    """The lanes of each two places of the events of which the one is before the other."""
+    return [(lane_of(one), lane_of(other)) for one in earlier.places for other in later.places if is_before(one, other)]
+
+
 def lines_of(event: Event) -> list[int]:
     return [move.command.line if move.command is not None else 0 for move in event.moves]
 
@@ -171,6 +176,7 @@ def facts(case: Case) -> dict:
         "events": rows,
         "races": [[one, at, orders_by(events[one], events[at])] for at, kept in enumerate(causes) for one in kept
                   if race(events[one], events[at])],
+        "events taken": events,
         "ready": [[event.text, [lane_of(place) for place in event.places], lines_of(event), step_line(event)] for event in machine.ready()],
         "places": end.places(),
         "progress": end.progress(),
@@ -250,7 +256,12 @@ class Facts:
 
     def __init__(self, case: Case) -> None:
         self.case, self.all = case, facts(case)
-        self.events = self.all["events"]
+        self.events, self.cones = self.all["events"], {}
+
+    def ways(self, one: int, other: int) -> list[tuple[str, str]] | None:
+        """The lanes of each two places of events at these indexes of which the one is before the other."""
+        events = self.all["events taken"]
+        return ways_between(events[one], events[other]) if max(one, other) < len(events) else None
 
     def other_order(self) -> Case:
         """The same events in another order that respects dependence, as a trace of version 1, which may stand in any."""
@@ -271,20 +282,26 @@ class Facts:
         trace = "balsadbg trace 1\n" + "".join(lines[at] + "\n" for at in order)
         return replace(self.case, trace=trace.encode())
 
+    def cone(self, at: int) -> set[int]:
+        """The indexes of the events that depend on this one, but for itself, found once."""
+        if at not in self.cones:
+            found, work = set(), [at]
+            while work:
+                one = work.pop()
+                for ahead in self.events[one]["followers"]:
+                    if one + ahead not in found:
+                        found.add(one + ahead)
+                        work.append(one + ahead)
+            self.cones[at] = found
+        return self.cones[at]
+
     def consequences(self, at: int) -> list[int]:
-        """The indexes of the events that depend on this one, but for itself."""
-        found, work = set(), [at]
-        while work:
-            one = work.pop()
-            for ahead in self.events[one]["followers"]:
-                if one + ahead not in found:
-                    found.add(one + ahead)
-                    work.append(one + ahead)
-        return sorted(found)
+        """They in order."""
+        return sorted(self.cone(at))
 
     def causes(self, at: int) -> list[int]:
         """The indexes of the events on which this one depends, but for itself."""
-        return [one for one in range(at) if at in self.consequences(one)]
+        return [one for one in range(at) if at in self.cone(one)]
 
     def values_behind(self, indexes: list[int]) -> list[int]:
         """The values of the variables where these events are taken, and no others."""
@@ -298,6 +315,14 @@ class Facts:
     def cone_sizes(self, at: int) -> tuple[int, int]:
         """How many causes the event has, and how many consequences."""
         return len(self.causes(at)), len(self.consequences(at))
+
+
+class ToldFacts(Facts):
+    """Those that the data tell of a run for which the second implementation takes too long."""
+
+    def __init__(self, case: Case, data: dict) -> None:
+        self.case, self.all = case, {**told(data), "has_ring": bool(data["rings"]), "events taken": []}
+        self.events, self.cones = self.all["events"], {}
 
 
 def difference(told_data: object, wanted: object, way: str = "") -> str:
@@ -327,7 +352,7 @@ def data_faults(case: Case, drawer: object) -> list[str]:
         return [f"files {data['files']}"]
     if found := faults_of(data):
         return found
-    if len(data["events"]) >= 4000:
+    if case.is_large:
         return []
     shown, known = told(data), drawer.facts.all
     wanted = {name: part for name, part in known.items() if name in shown}

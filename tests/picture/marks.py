@@ -42,6 +42,10 @@ class Piece:
             return "curve" if words["fill"] == "none" else "diamond" if path.endswith("l4 4l-4 4l-4 -4z") else "arrow"
         return self.tag
 
+    def is_bare(self) -> bool:
+        """Whether it is a text with no paper under it, as those over and beside the rows."""
+        return self.tag == "text" and not self.under
+
     def colours(self) -> set[str]:
         return {self.words[name] for name in ("fill", "stroke") if name in self.words} - {PAPER, "none"}
 
@@ -64,8 +68,10 @@ class Piece:
 PAIR = ("line 1.7", "circle 3.2", "circle 3.2"), ("line 1.7", "circle 3.2", "arrow")
 MARKS = {"assign": (("square",),), "turn": (("circle 3",),), "test": (("diamond",),), "close": (("line 1 broken",),),
          "meet": PAIR, "open": PAIR, "sync": PAIR[:1]}
-# what is drawn before the events and behind them
-BEFORE = {"line 2", "line 2 broken", "area", "curve", "text"}
+# a turn or a test that is left out, and at which orders meet
+POINT = "circle 2"
+# what is drawn before the events
+BEFORE = {"line 2", "line 2 broken", "area", "curve", POINT, "text"}
 
 
 @dataclass
@@ -83,6 +89,13 @@ class Mark:
     def signs(self) -> set[bool]:
         """Whether its pieces have the sign of a consequence, and no piece is filled that has it; the head of an arrow has none."""
         return {piece.has_sign() and piece.words.get("fill", PAPER) == PAPER for piece in self.pieces if piece.kind() != "arrow"}
+
+    def is_framed(self) -> bool:
+        """Whether a frame is around its points."""
+        if self.frame is None:
+            return False
+        x, y, width, height = (Decimal(self.frame.words[name]) for name in ("x", "y", "width", "height"))
+        return all(x < across < x + width and y < down < y + height for across, down in self.points())
 
     def points(self) -> list[tuple[Decimal, Decimal]]:
         """Where it stands in each of its columns."""
@@ -124,9 +137,9 @@ class Drawn:
     """A drawing, taken apart: what is under the events, the events of these kinds, what is behind them, and the line over all."""
 
     def __init__(self, drawing: bytes, kinds: list[str]) -> None:
-        self.pieces = pieces_of(drawing)
+        self.pieces, self.height = pieces_of(drawing), int(re.search(rb'height="(\d+)"', drawing)[1])
         self.title, self.at = self.pieces[-1], 0
-        while self.at < len(self.pieces) - 1 and self.kind() in BEFORE and not self.is_frame():
+        while self.at < len(self.pieces) - 1 and self.kind() in BEFORE and not self.pieces[self.at].is_bare() and not self.is_frame():
             self.at += 1
         self.under = self.pieces[:self.at]
         self.marks = [self.mark(number, kind) for number, kind in enumerate(kinds)]
@@ -165,19 +178,30 @@ class Drawn:
     def bars(self) -> int:
         return sum(piece.kind() == "area" for piece in self.under)
 
-    def races(self) -> list[str]:
-        """The variables that stand beside the curves."""
-        return sorted(piece.text for piece in self.under if piece.tag == "text" and piece.under)
+    def edge(self) -> int:
+        """Where the line over what stands now is among what is behind the marks."""
+        return next((at for at, piece in enumerate(self.behind) if piece.kind() == "line 1"), len(self.behind))
+
+    def races(self) -> list[Piece]:
+        """The names of variables that make an order."""
+        return [piece for piece in self.under + self.behind[:self.edge()] if piece.tag == "text" and piece.under]
+
+    def now(self) -> list[Piece]:
+        """What stands under the rows, behind the line over it and its word."""
+        pieces = self.behind[self.edge() + 2:]
+        return pieces[:next((at for at, piece in enumerate(pieces) if piece.is_bare()), len(pieces))]
 
     def end(self) -> list[tuple[str, str]]:
         """What stands under the rows: the pieces of it, with their texts."""
-        edge = [at for at, piece in enumerate(self.behind) if piece.text == "now"]
-        behind = [at for at, piece in enumerate(self.behind) if piece.tag == "text" and not piece.under]
-        return [(piece.kind(), piece.text) for piece in self.behind[edge[0] - 1:behind[0]]] if edge else []
+        return [(piece.kind(), piece.text) for piece in self.now()]
+
+    def points(self) -> list[Piece]:
+        """The turns and tests that are left out, and at which orders meet."""
+        return [piece for piece in self.under if piece.kind() == POINT]
 
     def heads(self) -> list[str]:
         """What stands over the columns, but for the numbers of rows."""
-        return [piece.text for piece in self.behind if piece.tag == "text" and not piece.under and piece.words["x"] != "30"]
+        return [piece.text for piece in self.behind if piece.is_bare() and piece.words.get("text-anchor") != "end"]
 
 
 def numbers(drawn: Drawn) -> list[int | None]:
@@ -204,14 +228,14 @@ def fits(text: str, whole: str) -> bool:
 COLOURS = re.compile(rb'<tspan fill="([^"]+)"[^>]*>\d+ causes?</tspan> and <tspan fill="([^"]+)"[^>]*>\d+ consequences?</tspan> \(dashed\)')
 
 
-def events_of(facts: Facts, quiet: bool) -> list[int]:
-    """The indexes of the events that are to be drawn."""
-    return [at for at, event in enumerate(facts.events) if not (quiet and event["kind"] in QUIET)]
+def events_of(facts: Facts, quiet: bool, asked: int | None = None) -> list[int]:
+    """The indexes of the events that are to be drawn: that which is asked for in any case."""
+    return [at for at, event in enumerate(facts.events) if at == asked or not (quiet and event["kind"] in QUIET)]
 
 
-def taken_apart(facts: Facts, drawing: bytes, quiet: bool) -> Drawn:
+def taken_apart(facts: Facts, drawing: bytes, quiet: bool, asked: int | None = None) -> Drawn:
     """The drawing, in which exactly the events that are wanted are drawn, each under its number."""
-    wanted = events_of(facts, quiet)
+    wanted = events_of(facts, quiet, asked)
     drawn = Drawn(drawing, [facts.events[at]["kind"] for at in wanted])
     told = [None if facts.events[at]["kind"] == "close" else at + 1 for at in wanted]
     if numbers(drawn) != told:
@@ -227,22 +251,28 @@ def plain_faults(drawn: Drawn) -> list[str]:
     return ["signs of consequences"] if any(piece.has_sign() for piece in drawn.pieces) else []
 
 
-def marked_faults(facts: Facts, plain: Drawn, drawing: bytes, at: int, quiet: bool) -> list[str]:
+def inks_of(facts: Facts, drawing: bytes, at: int) -> dict[int, str]:
+    """The colours of the causes and of the consequences of an event, by the line at the top."""
+    named = COLOURS.search(drawing)
+    return {**dict.fromkeys(facts.causes(at), named[1].decode()), **dict.fromkeys(facts.consequences(at), named[2].decode())}
+
+
+def marked_faults(facts: Facts, plain: Drawn, drawn: Drawn, drawing: bytes, at: int, shown: list[int]) -> list[str]:
     """Whether exactly the causes of an event are in the causes' colour, exactly the consequences in theirs, the event itself in its own
     and in a frame, and the rest in a fourth; whether exactly the consequences have the sign that is no colour; and whether all else is as
-    in the drawing in which none is asked for."""
-    drawn, named = taken_apart(facts, drawing, quiet), COLOURS.search(drawing)
+    in the drawing in which none is asked for, unless that leaves the event out."""
+    named, chosen = COLOURS.search(drawing), drawn.marks[shown.index(at)]
     causes, consequences = set(facts.causes(at)), set(facts.consequences(at))
-    wanted = {**dict.fromkeys(causes, named[1].decode()), **dict.fromkeys(consequences, named[2].decode())}
-    own = plain.marks[0].pieces[0].words["stroke"] if plain.marks else ""
+    wanted = inks_of(facts, drawing, at)
+    own = (plain.marks or [chosen])[0].pieces[0].words["stroke"]
     rest, found = set(), []
-    for index, mark in zip(events_of(facts, quiet), drawn.marks):
+    for index, mark in zip(shown, drawn.marks):
         told = mark.colours()
         words = {colour for word in mark.words for colour in word.colours()}
         if mark.signs() != {index in consequences}:
             found.append(f"event {index + 1}: signs {mark.signs()}")
         if index == at:
-            if told != {own} or mark.frame is None or words & set(wanted.values()):
+            if told != {own} or not mark.is_framed() or words & set(wanted.values()):
                 found.append(f"event {index + 1} itself: {told}, words {words}, frame {mark.frame}")
         elif mark.frame is not None or words | told != {wanted.get(index, "")} and index in wanted or len(words | told) != 1:
             found.append(f"event {index + 1}: {told}, words {words}, frame {mark.frame}, wanted {wanted.get(index, 'the rest')}")
@@ -254,10 +284,9 @@ def marked_faults(facts: Facts, plain: Drawn, drawing: bytes, at: int, quiet: bo
         found.append(f"the rest is in {rest}, the event in {own}, causes and consequences in {named.groups()}")
     frames = [mark.frame for mark in drawn.marks if mark.frame is not None]
     pieces = [piece.shape() for piece in drawn.pieces[:-1] if piece not in frames]
-    if pieces != [piece.shape() for piece in plain.pieces[:-1]]:
+    if len(drawn.marks) == len(plain.marks) and pieces != [piece.shape() for piece in plain.pieces[:-1]]:
         found.append("more than colours differ")
-    return found + lane_faults(drawn, events_of(facts, quiet), at, causes, named[1].decode()) \
-        + lane_faults(drawn, events_of(facts, quiet), at, consequences, named[2].decode())
+    return found + lane_faults(drawn, shown, at, causes, named[1].decode()) + lane_faults(drawn, shown, at, consequences, named[2].decode())
 
 
 def lane_faults(drawn: Drawn, shown: list[int], at: int, cone: set[int], colour: str) -> list[str]:
@@ -277,11 +306,30 @@ def lane_faults(drawn: Drawn, shown: list[int], at: int, cone: set[int], colour:
     return faults
 
 
-def race_faults(facts: Facts, drawn: Drawn) -> list[str]:
-    """Whether beside a curve each variable stands that alone makes an order, of events that have no lane in common."""
-    wanted = sorted(facts.all["variables"][variable][0] for cause, event, variable in facts.all["races"]
-                    if not set(facts.events[cause]["lanes"]) & set(facts.events[event]["lanes"]))
-    return [] if drawn.races() == wanted else [f"orders that only a variable makes: {drawn.races()}, wanted {wanted}"]
+def race_faults(facts: Facts, drawn: Drawn, shown: list[int]) -> list[str]:
+    """Whether over the row of each event, and under the one before, each variable is named that alone makes an order to it from an event
+    with which it has no lane in common."""
+    rows: dict[int, list[Decimal]] = {}
+    depth = rows_of(facts, shown)
+    for at, mark in zip(shown, drawn.marks):
+        rows.setdefault(depth[at], []).append(mark.points()[0][1])
+    wanted = {(depth[event], event, variable) for cause, event, variable in facts.all["races"]
+              if {cause, event} <= set(shown) and not set(facts.events[cause]["lanes"]) & set(facts.events[event]["lanes"])}
+    wanted = sorted((row, facts.all["variables"][variable][0]) for row, _, variable in wanted)
+    told = sorted((min((row for row, heights in rows.items() if min(heights) > Decimal(piece.words["y"])), default=-1), piece.text)
+                  for piece in drawn.races())
+    good = len(told) == len(wanted) and all(one[0] == other[0] and fits(one[1], other[1]) for one, other in zip(told, wanted))
+    return [] if good else [f"orders that only a variable makes: {told}, wanted {wanted}"]
+
+
+def rows_of(facts: Facts, shown: list[int]) -> list[int]:
+    """The row of each event: its depth, where some are left out the length of the longest chain of others before it."""
+    rows, kept = [0] * len(facts.events), set(shown)
+    for at, event in enumerate(facts.events):
+        behind = rows[at] + (at in kept)
+        for ahead in event["followers"]:
+            rows[at + ahead] = max(rows[at + ahead], behind)
+    return rows
 
 
 def quiet_faults(facts: Facts, whole: Drawn, quiet: Drawn) -> list[str]:

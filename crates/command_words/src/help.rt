@@ -340,7 +340,8 @@ Examples:
 
 pub const TWO_FORMS: &str = "--svg, --vcd and --json exclude one another";
 
-pub const NO_STEP: &str = "--event takes the number of a step, in digits that do not begin with 0";
+pub const NO_STEP: &str =
+    "--event takes the number of a step, as 12: below 2^64, with no 0 before it";
 
 pub const NO_DRAWING: &str = "--event and --quiet go with --svg";
 

@@ -26,11 +26,12 @@ fn found<'a, S: AsStr>(
     Ok(chosen(&matches))
 }
 
-/// Whether this word is among them.
-fn has_word<S: AsStr>(words: &[S], word: &str) -> bool {
-    for it in words {
-        if it.as_str() == word {
-            return true;
+/// Whether this option is among them: not behind `--`, where no word is an option.
+fn has_option<S: AsStr>(words: &[S], option: &str) -> bool {
+    for word in words {
+        let word = word.as_str();
+        if word == option || word == "--" {
+            return word == option;
         }
     }
     false
@@ -38,9 +39,9 @@ fn has_word<S: AsStr>(words: &[S], word: &str) -> bool {
 
 /// Why words of a picture in good form ask for none: more than one form, no number of a step, or what goes with `--svg`.
 fn why_no_picture<S: AsStr>(words: &[S]) -> &'static str {
-    let svg = has_word(words, "--svg");
-    let vcd = has_word(words, "--vcd");
-    let json = has_word(words, "--json");
+    let svg = has_option(words, "--svg");
+    let vcd = has_option(words, "--vcd");
+    let json = has_option(words, "--json");
     if svg && vcd || svg && json || vcd && json {
         help::TWO_FORMS
     } else if svg {

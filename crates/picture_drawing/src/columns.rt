@@ -1,13 +1,17 @@
 // The columns: a lane each, so far apart that the labels fit.
 use crate::figure::{Ends, Scene, ends_of, is_quiet};
-use crate::labels::{Words, group_title};
+use crate::labels::{Words, group_title, tell_lane};
 use crate::sheet::{LETTER, SMALL_LETTER};
-use picture_data::{Actions, Lane, LaneKind, Picture, Place};
+use crate::shown::Shown;
+use picture_data::{Actions, Lane, LaneKind, Place};
 use runs::Event;
 use std::alloc::{AllocError, Global};
 
-/// Where the first column stands, in tenths of a pixel.
+/// Where the first column stands at least, in tenths of a pixel, and where what stands at its left begins at least:
+/// behind the numbers of rows.
 const LEFT: u64 = 620;
+
+pub(crate) const EDGE: u64 = 340;
 
 /// The columns.
 #[derive(Drop)]
@@ -43,6 +47,11 @@ impl Columns {
     pub(crate) fn len(&self) -> usize {
         self.lanes.len()
     }
+
+    /// The lane of the column.
+    pub(crate) fn lane<'a>(&self, scene: &Scene<'a>, column: usize) -> Option<&'a Lane> {
+        scene.picture.lanes.get(*self.lanes.get(column)?)
+    }
 }
 
 /// The room that is wanted between two columns: from the one that stands further to the left to the other.
@@ -61,16 +70,99 @@ pub(crate) fn block_of(lane: &Lane) -> Option<usize> {
     }
 }
 
-/// The columns of the run, without where they stand.
-pub(crate) fn columns_of(alloc: Global, picture: &Picture) -> Result<Columns, AllocError> {
+/// What the columns have to have room for.
+#[derive(Drop)]
+struct Needs {
+    /// where the first column stands at least
+    left: u64,
+    /// how wide each column is at least
+    widths: Vec<u64>,
+    spans: Vec<Span>,
+}
+
+impl Needs {
+    /// Makes a column at least so wide.
+    fn widen(&mut self, column: usize, room: u64) {
+        if let Some(width) = self.widths.get_mut(column) {
+            *width = (*width).max(room);
+        }
+    }
+
+    /// Sees that so much has room at the left of a column, as far as that is the first.
+    fn widen_left(&mut self, column: usize, room: u64) {
+        if column == 0 {
+            self.left = self.left.max(room.saturating_add(EDGE));
+        }
+    }
+
+    /// Notes the room that an event wants, whose ticket is so wide.
+    fn add_event(
+        &mut self,
+        event: &Event,
+        ends: Ends,
+        words: &Words,
+        number: u64,
+    ) -> Result<(), AllocError> {
+        let label = text_width(words.label.as_slice(), is_quiet(event));
+        let Some(second) = ends.second else {
+            let room = label.saturating_add(number).saturating_add(240);
+            self.widen(ends.first, room.min(1700));
+            self.widen_left(ends.first, number.saturating_add(100));
+            return Ok(());
+        };
+        self.add_stored(ends.first, second, words.stored.as_slice());
+        let room = label.saturating_add(number).saturating_add(420);
+        self.spans.push(Span {
+            right: ends.first.max(second),
+            left: ends.first.min(second),
+            room: room.min(1500),
+        })?;
+        Ok(())
+    }
+
+    /// Notes the room for the name of the variable into which the second column receives, which stands at its far side.
+    fn add_stored(&mut self, first: usize, second: usize, name: &[u8]) {
+        if name.is_empty() {
+            return;
+        }
+        let width = text_width(name, true).min(1000);
+        if second > first {
+            self.widen(second, width.saturating_add(220));
+        } else {
+            self.widen(second.saturating_sub(1), width.saturating_add(220));
+            self.widen_left(second, width.saturating_add(80));
+        }
+    }
+}
+
+/// The columns of the run.
+pub(crate) fn columns_of(
+    alloc: Global,
+    scene: &Scene<'_>,
+    shown: &Shown,
+) -> Result<Columns, AllocError> {
+    let used = used_lanes(alloc, scene)?;
+    let mut columns = numbered(alloc, used.as_slice())?;
+    set_apart(alloc, &mut columns, scene, shown)?;
+    Ok(columns)
+}
+
+/// Which lanes have a column.
+fn used_lanes(alloc: Global, scene: &Scene<'_>) -> Result<Vec<bool>, AllocError> {
+    let picture = scene.picture;
     let mut used = vec![in alloc; false; picture.lanes.len()]?;
     mark_first(used.as_mut_slice(), picture.lanes.as_slice());
     mark_actions(used.as_mut_slice(), picture.steps.actions.as_slice());
     mark_actions(used.as_mut_slice(), picture.end.ready_actions.as_slice());
     mark_places(used.as_mut_slice(), picture.end.places.as_slice());
+    Ok(used)
+}
+
+/// The columns of these lanes, without where they stand.
+fn numbered(alloc: Global, used: &[bool]) -> Result<Columns, AllocError> {
     let mut of_lane = Vec::with_capacity(alloc, used.len())?;
     let mut lanes = Vec::new(alloc);
-    for (lane, is_used) in used.as_slice().iter().enumerate() {
+    for (lane, is_used) in used.iter().enumerate() {
         if *is_used {
             of_lane.push(Some(lanes.len()))?;
             lanes.push(lane)?;
@@ -122,34 +214,30 @@ fn mark_places(used: &mut [bool], places: &[Place]) {
 }
 
 /// Puts the columns so far apart that what stands between them fits.
-pub(crate) fn set_apart(
+fn set_apart(
     alloc: Global,
     columns: &mut Columns,
     scene: &Scene<'_>,
+    shown: &Shown,
 ) -> Result<(), AllocError> {
-    let mut needs = vec![in alloc; 420; columns.len()]?;
-    let mut spans = Vec::new(alloc);
+    let mut needs = Needs {
+        left: LEFT,
+        widths: vec![in alloc; 420; columns.len()]?,
+        spans: Vec::new(alloc),
+    };
     let mut words = Words::new(alloc);
     for (index, (ticket, event)) in scene.live.iter().enumerate() {
-        if scene.shows(event) {
+        if shown.is_marked(index) {
             let actions = scene.actions(index);
             words.tell(scene, event, actions)?;
             if let Some(ends) = ends_of(columns, actions, event) {
-                let number = digits_width(ticket);
-                want(
-                    needs.as_mut_slice(),
-                    &mut spans,
-                    event,
-                    ends,
-                    &words,
-                    number,
-                )?;
+                needs.add_event(event, ends, &words, digits_width(ticket))?;
             }
         }
     }
-    add_titles(alloc, columns, scene, &mut spans)?;
-    spans.sort_unstable();
-    columns.at = places_of(alloc, needs.as_slice(), spans.as_slice())?;
+    add_heads(alloc, columns, scene, &mut needs)?;
+    needs.spans.sort_unstable();
+    columns.at = places_of(alloc, &needs)?;
     Ok(())
 }
 
@@ -172,61 +260,22 @@ pub(crate) fn text_width(text: &[u8], is_small: bool) -> u64 {
     (text.len() as u64).saturating_mul(if is_small { SMALL_LETTER } else { LETTER })
 }
 
-/// Notes the room that an event wants, whose ticket is so wide.
-fn want(
-    needs: &mut [u64],
-    spans: &mut Vec<Span>,
-    event: &Event,
-    ends: Ends,
-    words: &Words,
-    number: u64,
-) -> Result<(), AllocError> {
-    let label = text_width(words.label.as_slice(), is_quiet(event));
-    let Some(second) = ends.second else {
-        let room = label.saturating_add(number).saturating_add(240);
-        widen(needs, ends.first, room.min(1700));
-        return Ok(());
-    };
-    if !words.stored.is_empty() {
-        let room = text_width(words.stored.as_slice(), true).saturating_add(220);
-        let outside = if second > ends.first {
-            second
-        } else {
-            second.saturating_sub(1)
-        };
-        widen(needs, outside, room.min(1200));
-    }
-    let room = label.saturating_add(number).saturating_add(420);
-    spans.push(Span {
-        right: ends.first.max(second),
-        left: ends.first.min(second),
-        room: room.min(1500),
-    })?;
-    Ok(())
-}
-
-/// Makes a column at least so wide.
-fn widen(needs: &mut [u64], column: usize, room: u64) {
-    if column < needs.len() {
-        needs[column] = needs[column].max(room);
-    }
-}
-
-/// Notes the room that the titles of blocks want.
-fn add_titles(
+/// Notes the room that the titles of blocks want, and the words over each column.
+fn add_heads(
     alloc: Global,
     columns: &Columns,
     scene: &Scene<'_>,
-    spans: &mut Vec<Span>,
+    needs: &mut Needs,
 ) -> Result<(), AllocError> {
-    let mut title = Vec::new(alloc);
+    let mut text = Vec::new(alloc);
     let mut first = 0;
     for column in 0..columns.len() {
+        tell_lane(columns.lane(scene, column), column == first, &mut text)?;
+        needs.widen(column, text_width(text.as_slice(), true).saturating_add(28));
         if ends_group(columns, &scene.picture.lanes, column) {
-            title.clear();
-            group_title(scene, columns.lanes.get(first).copied(), &mut title)?;
-            let room = text_width(title.as_slice(), false).saturating_add(200);
-            spans.push(Span {
+            group_title(scene, columns.lanes.get(first).copied(), &mut text)?;
+            let room = text_width(text.as_slice(), false).saturating_add(200);
+            needs.spans.push(Span {
                 right: column.saturating_add(1),
                 left: first,
                 room: room.min(1500),
@@ -249,15 +298,15 @@ fn block_at(columns: &Columns, lanes: &Vec<Lane>, column: usize) -> Option<usize
     block_of(lanes.get(*lane)?)
 }
 
-/// Where the columns stand that are so wide, with so much room between them, and where the last ends.
-fn places_of(alloc: Global, needs: &[u64], spans: &[Span]) -> Result<Vec<u64>, AllocError> {
-    let mut at = Vec::with_capacity(alloc, needs.len().saturating_add(1))?;
-    at.push(LEFT)?;
+/// Where the columns stand, and where the last ends.
+fn places_of(alloc: Global, needs: &Needs) -> Result<Vec<u64>, AllocError> {
+    let mut at = Vec::with_capacity(alloc, needs.widths.len().saturating_add(1))?;
+    at.push(needs.left)?;
     let mut next = 0;
-    for (column, need) in needs.iter().enumerate() {
+    for (column, width) in needs.widths.as_slice().iter().enumerate() {
         let right = column.saturating_add(1);
-        let end = end_of(at.as_slice(), column, *need);
-        let (place, behind) = pushed(at.as_slice(), spans, next, right, end);
+        let end = end_of(at.as_slice(), column, *width);
+        let (place, behind) = pushed(at.as_slice(), needs.spans.as_slice(), next, right, end);
         at.push(place)?;
         next = behind;
     }

@@ -2,16 +2,35 @@
 use crate::columns::{Columns, digits_width, text_width};
 use crate::figure::{Ends, Scene, ends_of, is_quiet};
 use crate::labels::Words;
-use crate::tracks::{Placed, Tracks};
+use crate::race_names::{RaceName, names_of};
+use crate::shown::{Shown, Standing};
+use crate::tracks::{Band, Level, Placed, Tracks};
 use runs::{Event, Kind};
 use std::alloc::{AllocError, Global};
+
+/// How deep an event stands.
+#[derive(Clone, Copy, Debug, PartialEq, Eq, PartialOrd, Ord)]
+pub(crate) struct Depth {
+    /// how many events with marks are in the longest chain of those that led to it
+    pub(crate) row: usize,
+    /// how many points are behind the last of them
+    points: usize,
+}
+
+/// The depth at an index.
+pub(crate) fn depth_at(depths: &[Depth], index: usize) -> Depth {
+    depths
+        .get(index)
+        .copied()
+        .unwrap_or(Depth { row: 0, points: 0 })
+}
 
 /// The rows.
 #[derive(Drop)]
 pub(crate) struct Rows {
-    /// the row of each event, by its index
-    rows: Vec<usize>,
-    /// how far down each event stands; 0 where it is not drawn
+    /// how deep each event stands, by its index
+    depths: Vec<Depth>,
+    /// how far down each event stands, and behind them each name; 0 where it is not drawn
     heights: Vec<u64>,
     /// where each row begins
     pub(crate) tops: Vec<(usize, u64)>,
@@ -19,6 +38,7 @@ pub(crate) struct Rows {
     pub(crate) bottom: u64,
     /// from where to where an event reaches with its words
     reaches: Vec<(u64, u64)>,
+    pub(crate) names: Vec<RaceName>,
 }
 
 impl Rows {
@@ -27,9 +47,14 @@ impl Rows {
         self.heights.get(index).copied().unwrap_or(0)
     }
 
-    /// Its row.
+    /// How far down the name stands.
+    pub(crate) fn name_height(&self, name: usize) -> u64 {
+        self.height(self.depths.len().saturating_add(name))
+    }
+
+    /// The row of the event.
     pub(crate) fn row(&self, index: usize) -> usize {
-        self.rows.get(index).copied().unwrap_or(0)
+        depth_at(self.depths.as_slice(), index).row
     }
 
     /// From where to where it reaches.
@@ -42,46 +67,68 @@ impl Rows {
 pub(crate) fn rows_of(
     alloc: Global,
     scene: &Scene<'_>,
+    shown: &Shown,
     columns: &Columns,
 ) -> Result<Rows, AllocError> {
-    let rows = seen_depths(alloc, scene)?;
-    let reaches = reaches_of(alloc, scene, columns)?;
-    let placed = placed_of(alloc, scene, rows.as_slice(), reaches.as_slice())?;
-    let tracks = Tracks::of(alloc, placed.as_slice())?;
-    let mut heights = vec![in alloc; 0; rows.len()]?;
-    tracks.set_heights(placed.as_slice(), heights.as_mut_slice());
+    let depths = depths_of(alloc, scene, shown)?;
+    let names = names_of(alloc, scene, shown, columns, depths.as_slice())?;
+    let reaches = reaches_of(alloc, scene, shown, columns)?;
+    let mut placed = placed_of(alloc, scene, shown, depths.as_slice(), reaches.as_slice())?;
+    add_names(&mut placed, depths.as_slice(), names.as_slice())?;
+    placed.sort_unstable();
+    stacked(alloc, placed.as_slice(), depths, reaches, names)
+}
+
+/// The rows with these tracks, where all is placed.
+fn stacked(
+    alloc: Global,
+    placed: &[Placed],
+    depths: Vec<Depth>,
+    reaches: Vec<(u64, u64)>,
+    names: Vec<RaceName>,
+) -> Result<Rows, AllocError> {
+    let tracks = Tracks::of(alloc, placed)?;
+    let mut heights = vec![in alloc; 0; depths.len().saturating_add(names.len())]?;
+    tracks.set_heights(placed, heights.as_mut_slice());
     let (tops, bottom) = tracks.into_tops();
     Ok(Rows {
-        rows,
+        depths,
         heights,
         tops,
         bottom,
         reaches,
+        names,
     })
 }
 
-/// The row of each event: the length of the longest chain of events that are drawn and led to it.
-fn seen_depths(alloc: Global, scene: &Scene<'_>) -> Result<Vec<usize>, AllocError> {
-    let mut rows = vec![in alloc; 0; scene.live.len()]?;
-    for (index, (_, event)) in scene.live.iter().enumerate() {
-        let drawn = usize::from(scene.shows(event));
-        let behind = own_depth(rows.as_slice(), index).saturating_add(drawn);
-        push_down(rows.as_mut_slice(), index, scene.ahead(index), behind);
+/// How deep each event stands.
+fn depths_of(alloc: Global, scene: &Scene<'_>, shown: &Shown) -> Result<Vec<Depth>, AllocError> {
+    let top = Depth { row: 0, points: 0 };
+    let mut depths = vec![in alloc; top; shown.len()]?;
+    for index in 0..shown.len() {
+        let own = depth_at(depths.as_slice(), index);
+        let behind = match shown.standing(index) {
+            Standing::Marked => Depth {
+                row: own.row.saturating_add(1),
+                points: 0,
+            },
+            Standing::Point => Depth {
+                row: own.row,
+                points: own.points.saturating_add(1),
+            },
+            Standing::Hidden => own,
+        };
+        push_down(depths.as_mut_slice(), index, scene.ahead(index), behind);
     }
-    Ok(rows)
-}
-
-/// The row at an index.
-fn own_depth(rows: &[usize], index: usize) -> usize {
-    rows.get(index).copied().unwrap_or(0)
+    Ok(depths)
 }
 
 /// Puts the events that stand so far ahead at least so deep.
-fn push_down(rows: &mut [usize], index: usize, ahead: &[usize], depth: usize) {
+fn push_down(depths: &mut [Depth], index: usize, ahead: &[usize], depth: Depth) {
     for far in ahead {
         let later = index.saturating_add(*far);
-        if later < rows.len() {
-            rows[later] = rows[later].max(depth);
+        if later < depths.len() {
+            depths[later] = depths[later].max(depth);
         }
     }
 }
@@ -90,6 +137,7 @@ fn push_down(rows: &mut [usize], index: usize, ahead: &[usize], depth: usize) {
 fn reaches_of(
     alloc: Global,
     scene: &Scene<'_>,
+    shown: &Shown,
     columns: &Columns,
 ) -> Result<Vec<(u64, u64)>, AllocError> {
     let mut reaches = Vec::with_capacity(alloc, scene.live.len())?;
@@ -98,12 +146,20 @@ fn reaches_of(
         let actions = scene.actions(index);
         words.tell(scene, event, actions)?;
         let reach = match ends_of(columns, actions, event) {
-            Some(ends) => reach_of(columns, ends, event, &words, digits_width(ticket)),
+            Some(ends) if shown.is_marked(index) => {
+                reach_of(columns, ends, event, &words, digits_width(ticket))
+            }
+            Some(ends) => around(columns.at(ends.first)),
             None => (0, 0),
         };
         reaches.push(reach)?;
     }
     Ok(reaches)
+}
+
+/// From where to where a point reaches.
+fn around(x: u64) -> (u64, u64) {
+    (x.saturating_sub(40), x.saturating_add(40))
 }
 
 /// From where to where an event reaches with these words and a ticket that is so wide.
@@ -138,32 +194,61 @@ fn reach_of(
     }
 }
 
-/// The events that are drawn, in order of rows, and in one from the left.
+/// The events that are drawn.
 fn placed_of(
     alloc: Global,
     scene: &Scene<'_>,
-    rows: &[usize],
+    shown: &Shown,
+    depths: &[Depth],
     reaches: &[(u64, u64)],
 ) -> Result<Vec<Placed>, AllocError> {
     let mut placed = Vec::new(alloc);
     for (index, (_, event)) in scene.live.iter().enumerate() {
-        if scene.shows(event) {
+        if shown.is_there(index) {
+            let is_point = !shown.is_marked(index);
+            let Depth { row, points } = depth_at(depths, index);
+            let level = if is_point {
+                Level::Points(points)
+            } else {
+                Level::Events
+            };
             let (low, high) = reaches.get(index).copied().unwrap_or((0, 0));
             placed.push(Placed {
-                row: own_depth(rows, index),
+                band: Band { row, level },
                 low,
                 index,
                 high,
-                is_tall: is_tall(event),
+                // A point has room above for the curves that meet there.
+                is_tall: is_point || is_tall(event),
             })?;
         }
     }
-    placed.sort_unstable();
     Ok(placed)
 }
 
+/// Adds the names, as if they stood behind the events.
+fn add_names(
+    placed: &mut Vec<Placed>,
+    depths: &[Depth],
+    names: &[RaceName],
+) -> Result<(), AllocError> {
+    for (index, name) in names.iter().enumerate() {
+        placed.push(Placed {
+            band: Band {
+                row: depth_at(depths, name.event).row,
+                level: Level::Names,
+            },
+            low: name.low,
+            index: depths.len().saturating_add(index),
+            high: name.high,
+            is_tall: false,
+        })?;
+    }
+    Ok(())
+}
+
 /// Whether the event takes a whole track.
-fn is_tall(event: &Event) -> bool {
+pub(crate) fn is_tall(event: &Event) -> bool {
     match event.kind {
         Kind::Turn | Kind::Test | Kind::Close => false,
         _ => true,

@@ -3,15 +3,18 @@ ghost use Rattle.std.specs.Prelude.{IfOk, MatchOption};
 ghost use Rattle.picture_drawing.specs.Asked.{IsMissing, IsThere};
 
 use crate::bars::draw_bars;
-use crate::columns::{columns_of, set_apart};
+use crate::columns::columns_of;
 use crate::cones::{Asked, Cones, asked_of};
 use crate::depth_rows::rows_of;
 use crate::figure::{Figure, Scene, inks_of};
-use crate::heads::{draw_axis, draw_heads, draw_title, title_width};
+use crate::heads::{draw_axis, draw_heads};
 use crate::links::draw_links;
 use crate::marks::draw_marks;
-use crate::now::{bottom_of, draw_now, now_width};
-use crate::sheet::Sheet;
+use crate::now::{bottom_of, draw_now};
+use crate::race_names::draw_names;
+use crate::sheet::{Part, Sheet};
+use crate::shown::shown_of;
+use crate::title::draw_title;
 use crate::trails::draw_trails;
 use machine::Machine;
 use picture_data::Picture;
@@ -53,63 +56,92 @@ fn drawn(
     trace: &str,
     cones: Option<&Cones>,
 ) -> Result<Vec<u8>, AllocError> {
-    let mut columns = columns_of(alloc, scene.picture)?;
-    set_apart(alloc, &mut columns, scene)?;
-    let rows = rows_of(alloc, scene, &columns)?;
+    let shown = shown_of(alloc, scene, cones)?;
+    let columns = columns_of(alloc, scene, &shown)?;
+    let rows = rows_of(alloc, scene, &shown, &columns)?;
     let inks = match cones {
         Some(cones) => inks_of(alloc, scene.live, cones)?,
         None => Vec::new(alloc),
     };
-    let mut figure = Figure {
+    let figure = Figure {
         scene: *scene,
+        shown: &shown,
         columns: &columns,
         rows: &rows,
         inks: inks.as_slice(),
         bottom: bottom_of(scene, rows.bottom),
-        right: columns.right().saturating_add(160),
     };
-    let needed = title_width(alloc, &figure, trace.as_bytes(), cones)?;
-    let needed = needed.max(now_width(alloc, &figure)?);
-    figure.right = figure.right.max(needed);
+    whole(alloc, &figure, trace.as_bytes(), cones)
+}
+
+/// The drawing of the figure. What lies over all is drawn first, on a sheet of its own, since it says how wide the
+/// drawing has to be.
+fn whole(
+    alloc: Global,
+    figure: &Figure<'_>,
+    trace: &[u8],
+    cones: Option<&Cones>,
+) -> Result<Vec<u8>, AllocError> {
+    let mut over = Sheet::new(alloc);
+    draw_over(alloc, &mut over, figure, trace, cones)?;
+    let needed = over.right().saturating_add(60);
+    let width = figure.columns.right().saturating_add(160).max(needed);
     let mut sheet = Sheet::new(alloc);
-    draw_all(alloc, &mut sheet, &figure, trace.as_bytes(), cones)?;
+    begin(&mut sheet, width, figure.bottom.saturating_add(80), trace)?;
+    draw_events(alloc, &mut sheet, figure)?;
+    sheet.append(&over)?;
+    sheet.add_all(&[Part::Text("</svg>\n")])?;
     Ok(sheet.into_bytes())
 }
 
-/// Draws all parts, what lies under others first.
-fn draw_all(
+/// Draws the events and what joins them, what lies under others first.
+fn draw_events(alloc: Global, sheet: &mut Sheet, figure: &Figure<'_>) -> Result<(), AllocError> {
+    draw_trails(alloc, sheet, figure)?;
+    draw_bars(alloc, sheet, figure)?;
+    draw_links(sheet, figure)?;
+    draw_marks(alloc, sheet, figure)
+}
+
+/// Draws what lies over them and around.
+fn draw_over(
     alloc: Global,
     sheet: &mut Sheet,
     figure: &Figure<'_>,
     trace: &[u8],
     cones: Option<&Cones>,
 ) -> Result<(), AllocError> {
-    begin(sheet, figure, trace)?;
-    draw_trails(alloc, sheet, figure)?;
-    draw_bars(alloc, sheet, figure)?;
-    draw_links(alloc, sheet, figure)?;
-    draw_marks(alloc, sheet, figure)?;
-    draw_now(alloc, sheet, figure)?;
     draw_axis(sheet, figure)?;
+    draw_names(alloc, sheet, figure)?;
+    draw_now(alloc, sheet, figure)?;
     draw_heads(alloc, sheet, figure)?;
-    draw_title(sheet, figure, trace, cones)?;
-    sheet.add("</svg>\n")
+    draw_title(alloc, sheet, figure, trace, cones)
 }
 
-/// Begins the drawing: its size, its title and what lies under all.
-fn begin(sheet: &mut Sheet, figure: &Figure<'_>, trace: &[u8]) -> Result<(), AllocError> {
-    let width = figure.right / 10;
-    let height = figure.bottom.saturating_add(80) / 10;
-    sheet.add("<svg xmlns=\"http://www.w3.org/2000/svg\" width=\"")?;
-    sheet.add_number(width)?;
-    sheet.add("\" height=\"")?;
-    sheet.add_number(height)?;
-    sheet.add("\" viewBox=\"0 0 ")?;
-    sheet.add_number(width)?;
-    sheet.add(" ")?;
-    sheet.add_number(height)?;
-    sheet.add("\" font-family=\"'DejaVu Sans Mono',Menlo,Consolas,monospace\">\n<title>")?;
-    sheet.add_text(trace)?;
-    sheet.add("</title>\n<rect width=\"100%\" height=\"100%\" fill=\"#ffffff\"/>\n")?;
-    sheet.hatching()
+/// Begins the drawing: its size, its title, what lies under all, and the pattern with which the held side of a
+/// handshake is filled.
+fn begin(sheet: &mut Sheet, width: u64, height: u64, trace: &[u8]) -> Result<(), AllocError> {
+    let width = width / 10;
+    let height = height / 10;
+    sheet.add_all(&[
+        Part::Text("<svg xmlns=\"http://www.w3.org/2000/svg\" width=\""),
+        Part::Number(width),
+        Part::Text("\" height=\""),
+        Part::Number(height),
+        Part::Text("\" viewBox=\"0 0 "),
+        Part::Number(width),
+        Part::Text(" "),
+        Part::Number(height),
+        Part::Text("\" font-family=\"'DejaVu Sans Mono',Menlo,Consolas,monospace\">\n<title>"),
+        Part::Words(trace),
+        Part::Text("</title>\n<rect width=\"100%\" height=\"100%\" fill=\"#ffffff\"/>\n"),
+        Part::Text(
+            "<defs><pattern id=\"held\" width=\"5\" height=\"5\" patternUnits=\"userSpaceOnUse\"",
+        ),
+        Part::Text(
+            " patternTransform=\"rotate(45)\"><rect width=\"5\" height=\"5\" fill=\"#ffffff\"/>",
+        ),
+        Part::Text(
+            "<path d=\"M1 0v5\" stroke=\"#2d9a7c\" stroke-width=\"0.8\"/></pattern></defs>\n",
+        ),
+    ])
 }

@@ -4,6 +4,7 @@ use crate::cones::Cones;
 use crate::depth_rows::Rows;
 use crate::ink::Ink;
 use crate::sheet::Point;
+use crate::shown::Shown;
 use dependence::Live;
 use picture_data::{Actions, Picture};
 use runs::{Event, Kind};
@@ -40,11 +41,6 @@ impl Scene<'_> {
             Some(ahead) => ahead.as_slice(),
             None => &[],
         }
-    }
-
-    /// Whether such an event is drawn.
-    pub(crate) fn shows(&self, event: &Event) -> bool {
-        !(self.quiet && is_quiet(event))
     }
 }
 
@@ -91,13 +87,13 @@ pub(crate) fn own_lane(actions: Actions, event: &Event) -> Option<usize> {
 #[derive(Clone, Copy)]
 pub(crate) struct Figure<'a> {
     pub(crate) scene: Scene<'a>,
+    pub(crate) shown: &'a Shown,
     pub(crate) columns: &'a Columns,
     pub(crate) rows: &'a Rows,
     /// how each event stands to the one that is asked for; empty where none is
     pub(crate) inks: &'a [Ink],
-    /// where it ends below and at the right, in tenths of a pixel
+    /// where it ends below, in tenths of a pixel
     pub(crate) bottom: u64,
-    pub(crate) right: u64,
 }
 
 impl Figure<'_> {

@@ -23,7 +23,7 @@ pub(crate) enum Ink {
     Enclosed,
     /// within it, on the action that opened the arm
     Opened,
-    /// within it, on the action that is held: the pattern that `Sheet::hatching` draws
+    /// within it, on the action that is held: the pattern `held`, which the drawing begins with
     Held,
     /// within it, where it has nothing to do with the event that is asked for
     Pale,

@@ -1,7 +1,7 @@
 // What is written beside events, and over the columns.
 use crate::figure::{Scene, own_lane};
 use itoa::Buffer;
-use picture_data::{Actions, LaneKind, prefix_length};
+use picture_data::{Actions, Lane, LaneKind, prefix_length};
 use runs::{Event, Kind};
 use std::alloc::{AllocError, Global};
 use system::QualifiedName;
@@ -94,7 +94,7 @@ fn written_name<'a>(scene: &Scene<'a>, event: &Event) -> Option<&'a QualifiedNam
 }
 
 /// The name of the channel of the event, if it has one.
-pub(crate) fn channel_name<'a>(scene: &Scene<'a>, event: &Event) -> Option<&'a QualifiedName> {
+fn channel_name<'a>(scene: &Scene<'a>, event: &Event) -> Option<&'a QualifiedName> {
     scene.system.channel_name(event.channel?)
 }
 
@@ -115,7 +115,7 @@ fn add_value(event: &Event, out: &mut Vec<u8>) -> Result<(), AllocError> {
 
 /// Adds a name: its own alone where it is declared in the block of the lane or in one around it, and else the whole.
 /// `whole` is written anew.
-pub(crate) fn add_own_name(
+fn add_own_name(
     scene: &Scene<'_>,
     name: Option<&QualifiedName>,
     lane: Option<usize>,
@@ -155,16 +155,38 @@ fn block_of_lane(scene: &Scene<'_>, lane: Option<usize>) -> Option<usize> {
     }
 }
 
-/// Adds what stands over the columns of the block of the lane, or over that of a port.
+/// Makes the text what stands over a column: what its lane is.
+pub(crate) fn tell_lane(
+    lane: Option<&Lane>,
+    is_first: bool,
+    text: &mut Vec<u8>,
+) -> Result<(), AllocError> {
+    text.clear();
+    let Some(lane) = lane else {
+        return Ok(());
+    };
+    match lane.kind {
+        LaneKind::Input(_) => text.extend_from_slice(b"input"),
+        LaneKind::Output(_) => text.extend_from_slice(b"output"),
+        LaneKind::Handshakes(_) => text.extend_from_slice(b"sync"),
+        LaneKind::Body(_) => {
+            text.extend_from_slice(if is_first { b"line " } else { b"|| " })?;
+            add_number(text, lane.line)
+        }
+    }
+}
+
+/// Makes the text what stands over the columns of the block of the lane, or over that of a port.
 pub(crate) fn group_title(
     scene: &Scene<'_>,
     lane: Option<usize>,
-    out: &mut Vec<u8>,
+    text: &mut Vec<u8>,
 ) -> Result<(), AllocError> {
+    text.clear();
     match block_of_lane(scene, lane) {
-        Some(block) => add_block_title(scene, block, out),
+        Some(block) => add_block_title(scene, block, text),
         None => match port_channel(scene, lane) {
-            Some(name) => name.write_to(out),
+            Some(name) => name.write_to(text),
             None => Ok(()),
         },
     }

@@ -10,11 +10,15 @@ mod draw;
 mod figure;
 mod heads;
 mod ink;
+mod joints;
 mod labels;
 mod links;
 mod marks;
 mod now;
+mod race_names;
 mod sheet;
+mod shown;
+mod title;
 mod tracks;
 mod trails;
 

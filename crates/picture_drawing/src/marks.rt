@@ -1,9 +1,10 @@
 // The mark of each event, with its words.
 use crate::columns::digits_width;
+use crate::depth_rows::is_tall;
 use crate::figure::{Ends, Figure, ends_of, is_quiet};
 use crate::ink::{Dash, Ink};
 use crate::labels::{Words, add_cut, add_number};
-use crate::sheet::{Anchor, Area, LETTER, Point, SMALL_LETTER, Sheet, Style};
+use crate::sheet::{Anchor, Area, Point, SMALL_LETTER, Sheet, Style};
 use runs::{Event, Kind};
 use std::alloc::{AllocError, Global};
 
@@ -14,6 +15,52 @@ struct Scratch {
     /// the ticket, and what is written of a label
     number: Vec<u8>,
     text: Vec<u8>,
+}
+
+impl Scratch {
+    /// Makes the number that of the ticket; a handshake has a mark before it.
+    fn tell_ticket(&mut self, ticket: u64, is_pair: bool) -> Result<(), AllocError> {
+        self.number.clear();
+        if is_pair {
+            self.number.push(b'#')?;
+        }
+        add_number(&mut self.number, ticket)
+    }
+
+    /// Writes the label, as far as there is room.
+    fn write_label(
+        &mut self,
+        sheet: &mut Sheet,
+        at: Point,
+        room: u64,
+        style: Style,
+    ) -> Result<(), AllocError> {
+        self.text.clear();
+        add_cut(
+            &mut self.text,
+            self.words.label.as_slice(),
+            room,
+            style.letter(),
+        )?;
+        sheet.words(at, self.text.as_slice(), style)
+    }
+
+    /// Writes the name of the variable that a value is received into.
+    fn write_stored(
+        &mut self,
+        sheet: &mut Sheet,
+        at: Point,
+        style: Style,
+    ) -> Result<(), AllocError> {
+        self.text.clear();
+        add_cut(
+            &mut self.text,
+            self.words.stored.as_slice(),
+            1000,
+            SMALL_LETTER,
+        )?;
+        sheet.words(at, self.text.as_slice(), style)
+    }
 }
 
 /// How an event is drawn.
@@ -30,6 +77,16 @@ struct Look {
     under: Ink,
 }
 
+/// An event that is drawn.
+#[derive(Clone, Copy)]
+struct Mark<'a> {
+    index: usize,
+    event: &'a Event,
+    look: Look,
+    /// how wide its ticket is
+    number: u64,
+}
+
 /// Draws the events.
 pub(crate) fn draw_marks(
     alloc: Global,
@@ -42,41 +99,39 @@ pub(crate) fn draw_marks(
         text: Vec::new(alloc),
     };
     for (index, (ticket, event)) in figure.scene.live.iter().enumerate() {
-        if figure.scene.shows(event) {
-            draw_event(sheet, figure, &mut scratch, index, ticket, event)?;
+        if figure.shown.is_marked(index) {
+            let mark = Mark {
+                index,
+                event,
+                look: look_of(figure, index),
+                number: digits_width(ticket),
+            };
+            draw_event(sheet, figure, &mut scratch, mark, ticket)?;
         }
     }
     Ok(())
 }
 
-/// Draws the event at an index, which has the ticket.
+/// Draws the event, which has the ticket.
 fn draw_event(
     sheet: &mut Sheet,
     figure: &Figure<'_>,
     scratch: &mut Scratch,
-    index: usize,
+    mark: Mark<'_>,
     ticket: u64,
-    event: &Event,
 ) -> Result<(), AllocError> {
-    let actions = figure.scene.actions(index);
-    let Some(ends) = ends_of(figure.columns, actions, event) else {
+    let actions = figure.scene.actions(mark.index);
+    let Some(ends) = ends_of(figure.columns, actions, mark.event) else {
         return Ok(());
     };
-    scratch.words.tell(&figure.scene, event, actions)?;
-    scratch.number.clear();
-    add_number(&mut scratch.number, ticket)?;
-    let look = look_of(figure, index);
-    if look.under == Ink::Chosen {
-        draw_choice(sheet, figure, index)?;
+    scratch.words.tell(&figure.scene, mark.event, actions)?;
+    scratch.tell_ticket(ticket, ends.second.is_some())?;
+    if mark.look.under == Ink::Chosen {
+        draw_choice(sheet, figure, mark)?;
     }
-    let number = digits_width(ticket);
     match ends.second {
-        Some(second) => draw_pair(
-            sheet, figure, scratch, index, event, ends, second, look, number,
-        ),
-        None => draw_single(
-            sheet, figure, scratch, index, event, ends.first, look, number,
-        ),
+        Some(second) => draw_pair(sheet, figure, scratch, mark, ends, second),
+        None => draw_single(sheet, figure, scratch, mark, ends.first),
     }
 }
 
@@ -104,31 +159,29 @@ fn look_of(figure: &Figure<'_>, index: usize) -> Look {
     }
 }
 
-/// Draws what lies behind the event that is asked for.
-fn draw_choice(sheet: &mut Sheet, figure: &Figure<'_>, index: usize) -> Result<(), AllocError> {
-    let (low, high) = figure.rows.reach(index);
+/// Draws what lies behind the event that is asked for, as high as its track has room.
+fn draw_choice(sheet: &mut Sheet, figure: &Figure<'_>, mark: Mark<'_>) -> Result<(), AllocError> {
+    let (low, high) = figure.rows.reach(mark.index);
+    let (above, height) = if is_tall(mark.event) {
+        (140, 200)
+    } else {
+        (75, 150)
+    };
     let area = Area {
         x: low.saturating_sub(20),
-        y: figure.rows.height(index).saturating_sub(140),
+        y: figure.rows.height(mark.index).saturating_sub(above),
         width: high.saturating_sub(low).saturating_add(40),
-        height: 200,
+        height,
     };
     sheet.area(area, Ink::Chosen, Ink::Dark, Dash::Whole)
 }
 
-/// A point beside another, to the right or to the left, and lower or higher.
-fn beside(point: Point, right: bool, by: u64, down: bool, height: u64) -> Point {
-    Point {
-        x: if right {
-            point.x.saturating_add(by)
-        } else {
-            point.x.saturating_sub(by)
-        },
-        y: if down {
-            point.y.saturating_add(height)
-        } else {
-            point.y.saturating_sub(height)
-        },
+/// How far to the right a place is that lies so far beside a point, at its right or its left.
+fn beside(point: Point, right: bool, by: u64) -> u64 {
+    if right {
+        point.x.saturating_add(by)
+    } else {
+        point.x.saturating_sub(by)
     }
 }
 
@@ -137,123 +190,101 @@ fn words_style(ink: Ink, is_small: bool, right: bool, under: Ink) -> Style {
     Style {
         ink,
         is_small,
+        is_bold: false,
         anchor: if right { Anchor::Start } else { Anchor::End },
-        under,
+        under: Some(under),
     }
 }
 
-/// Draws an event with one action, whose ticket is so wide.
+/// Draws an event with one action.
 fn draw_single(
     sheet: &mut Sheet,
     figure: &Figure<'_>,
     scratch: &mut Scratch,
-    index: usize,
-    event: &Event,
+    mark: Mark<'_>,
     column: usize,
-    look: Look,
-    number: u64,
 ) -> Result<(), AllocError> {
-    let at = figure.point(column, index);
-    match event.kind {
+    let at = figure.point(column, mark.index);
+    let look = mark.look;
+    match mark.event.kind {
         Kind::Assign => sheet.square(at, look.fill, look.ink, look.dash)?,
         Kind::Turn => sheet.circle(at, 30, Ink::White, look.ink, look.dash)?,
         _ => sheet.diamond(at, look.ink, look.dash)?,
     }
-    let quiet = is_quiet(event);
-    let letter = if quiet { SMALL_LETTER } else { LETTER };
+    let quiet = is_quiet(mark.event);
+    let ink = if quiet { look.soft } else { look.ink };
     let next = figure.columns.at(column.saturating_add(1));
     let room = next
         .saturating_sub(at.x)
-        .saturating_sub(number)
+        .saturating_sub(mark.number)
         .saturating_sub(240);
-    scratch.text.clear();
-    add_cut(
-        &mut scratch.text,
-        scratch.words.label.as_slice(),
+    let label = Point {
+        x: beside(at, true, 90),
+        y: at.y.saturating_add(40),
+    };
+    scratch.write_label(
+        sheet,
+        label,
         room,
-        letter,
+        words_style(ink, quiet, true, look.under),
     )?;
-    let ink = if quiet { look.soft } else { look.ink };
-    let style = words_style(ink, quiet, true, look.under);
-    sheet.label(
-        beside(at, true, 90, true, 40),
-        scratch.text.as_slice(),
-        style,
-    )?;
+    let ticket = Point {
+        x: beside(at, false, 100),
+        y: at.y.saturating_add(30),
+    };
     let style = words_style(look.soft, true, false, look.under);
-    sheet.label(
-        beside(at, false, 100, true, 30),
-        scratch.number.as_slice(),
-        style,
-    )
+    sheet.words(ticket, scratch.number.as_slice(), style)
 }
 
-/// Draws an event with two actions, whose ticket is so wide.
+/// Draws an event with two actions.
 fn draw_pair(
     sheet: &mut Sheet,
     figure: &Figure<'_>,
     scratch: &mut Scratch,
-    index: usize,
-    event: &Event,
+    mark: Mark<'_>,
     ends: Ends,
     second: usize,
-    look: Look,
-    number: u64,
 ) -> Result<(), AllocError> {
-    let from = figure.point(ends.first, index);
-    let to = figure.point(second, index);
-    let to_right = to.x > from.x;
-    if event.kind == Kind::Close {
-        return sheet.line(from, to, look.ink, 10, look.end);
+    let from = figure.point(ends.first, mark.index);
+    let to = figure.point(second, mark.index);
+    if mark.event.kind == Kind::Close {
+        return sheet.line(from, to, mark.look.ink, 10, mark.look.end);
     }
+    draw_ends(sheet, mark, from, to)?;
+    let own = figure.point(ends.own, mark.index);
+    let right = own.x <= from.x.min(to.x);
+    let y = own.y.saturating_sub(40);
+    let ticket = Point {
+        x: beside(own, right, 120),
+        y,
+    };
+    let style = words_style(mark.look.soft, true, right, mark.look.under);
+    sheet.words(ticket, scratch.number.as_slice(), style)?;
+    let by = mark.number.saturating_add(SMALL_LETTER);
+    let label = Point {
+        x: beside(own, right, by.saturating_add(180)),
+        y,
+    };
+    let room = from.x.abs_diff(to.x).saturating_sub(mark.number);
+    let style = words_style(mark.look.ink, false, right, mark.look.under);
+    scratch.write_label(sheet, label, room.saturating_sub(360), style)?;
+    let to_right = to.x > from.x;
+    let stored = Point {
+        x: beside(to, to_right, 80),
+        y: to.y.saturating_add(30),
+    };
+    let style = words_style(mark.look.soft, true, to_right, mark.look.under);
+    scratch.write_stored(sheet, stored, style)
+}
+
+/// Draws the line between two actions, and its ends.
+fn draw_ends(sheet: &mut Sheet, mark: Mark<'_>, from: Point, to: Point) -> Result<(), AllocError> {
+    let look = mark.look;
     sheet.line(from, to, look.ink, 17, look.dash)?;
     sheet.circle(from, 32, look.fill, look.ink, look.dash)?;
-    if event.value.is_some() {
-        sheet.arrow(to, to_right, look.ink)?;
+    if mark.event.value.is_some() {
+        sheet.arrow(to, to.x > from.x, look.ink)
     } else {
-        sheet.circle(to, 32, look.fill, look.ink, look.dash)?;
+        sheet.circle(to, 32, look.fill, look.ink, look.dash)
     }
-    let own = figure.point(ends.own, index);
-    let right = own.x <= from.x.min(to.x);
-    scratch.text.clear();
-    scratch.text.extend_from_slice(b"#")?;
-    scratch.text.extend_from_slice(scratch.number.as_slice())?;
-    let style = words_style(look.soft, true, right, look.under);
-    sheet.label(
-        beside(own, right, 120, false, 40),
-        scratch.text.as_slice(),
-        style,
-    )?;
-    let room = from
-        .x
-        .abs_diff(to.x)
-        .saturating_sub(number)
-        .saturating_sub(360);
-    scratch.text.clear();
-    add_cut(
-        &mut scratch.text,
-        scratch.words.label.as_slice(),
-        room,
-        LETTER,
-    )?;
-    let by = number.saturating_add(SMALL_LETTER).saturating_add(180);
-    let style = words_style(look.ink, false, right, look.under);
-    sheet.label(
-        beside(own, right, by, false, 40),
-        scratch.text.as_slice(),
-        style,
-    )?;
-    scratch.text.clear();
-    add_cut(
-        &mut scratch.text,
-        scratch.words.stored.as_slice(),
-        1000,
-        SMALL_LETTER,
-    )?;
-    let style = words_style(look.soft, true, to_right, look.under);
-    sheet.label(
-        beside(to, to_right, 80, true, 30),
-        scratch.text.as_slice(),
-        style,
-    )
 }

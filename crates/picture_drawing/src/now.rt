@@ -1,5 +1,4 @@
 // What stands at the end: the events that can be taken, and what waits for whom.
-use crate::columns::text_width;
 use crate::figure::{Ends, Figure, Scene, ends_of};
 use crate::ink::{Dash, Ink};
 use crate::labels::{Words, add_cut};
@@ -12,9 +11,6 @@ use std::alloc::{AllocError, Global};
 const LINE: u64 = 220;
 
 const GAP: u64 = 260;
-
-/// How far from the edge of the drawing words begin and end at least.
-const MARGIN: u64 = 60;
 
 /// Whether the place is shown as one that waits.
 fn is_shown(scene: &Scene<'_>, place: &Place) -> bool {
@@ -60,7 +56,7 @@ pub(crate) fn draw_now(
     if figure.bottom <= start {
         return Ok(());
     }
-    draw_edge(sheet, figure, start)?;
+    draw_edge(sheet, start)?;
     let mut height = start.saturating_add(140);
     let mut words = Words::new(alloc);
     let mut text = Vec::new(alloc);
@@ -72,64 +68,29 @@ pub(crate) fn draw_now(
     draw_places(alloc, sheet, figure, height)
 }
 
-/// How wide the drawing has to be for the words of what stands at the end.
-pub(crate) fn now_width(alloc: Global, figure: &Figure<'_>) -> Result<u64, AllocError> {
-    let mut words = Words::new(alloc);
-    let mut text = Vec::new(alloc);
-    let mut width: u64 = 0;
-    for (index, event) in figure.scene.picture.end.ready.as_slice().iter().enumerate() {
-        tell_ready(figure, &mut words, &mut text, index, event)?;
-        let end = ready_x(figure, index, event).saturating_add(text_width(text.as_slice(), false));
-        width = width.max(end);
-    }
-    let width = width.max(places_width(alloc, figure)?.saturating_add(MARGIN));
-    Ok(width.saturating_add(MARGIN))
-}
-
-/// How wide the widest words of a place are that waits.
-fn places_width(alloc: Global, figure: &Figure<'_>) -> Result<u64, AllocError> {
-    let mut whole = Vec::new(alloc);
-    let mut text = Vec::new(alloc);
-    let mut width: u64 = 0;
-    for place in figure.scene.picture.end.places.as_slice() {
-        if is_shown(&figure.scene, place) {
-            tell_place(figure, place, &mut whole, &mut text)?;
-            width = text_width(text.as_slice(), false).max(width);
-        }
-    }
-    Ok(width)
-}
-
-/// Where words begin that stand to the right of there, or further to the left, where they do not fit.
-fn fitting(figure: &Figure<'_>, x: u64, text: &[u8]) -> u64 {
-    let room = figure.right.saturating_sub(MARGIN);
-    x.min(room.saturating_sub(text_width(text, false)))
-}
-
 /// Draws the line under the rows.
-fn draw_edge(sheet: &mut Sheet, figure: &Figure<'_>, start: u64) -> Result<(), AllocError> {
-    let y = start.saturating_sub(110);
-    let from = Point { x: 0, y };
-    let to = Point {
-        x: figure.right.saturating_sub(MARGIN),
-        y,
-    };
-    sheet.line(from, to, Ink::Faint, 10, Dash::Whole)?;
+fn draw_edge(sheet: &mut Sheet, start: u64) -> Result<(), AllocError> {
+    sheet.edge(start.saturating_sub(110), Ink::Faint)?;
     let at = Point {
         x: 300,
         y: start.saturating_sub(20),
     };
-    sheet.label(at, b"now", small(Ink::Soft, false))
+    sheet.words(at, b"now", Style::on_paper(Ink::Soft, true, Anchor::End))
 }
 
-/// Small words to the right or to the left of their point.
-fn small(ink: Ink, right: bool) -> Style {
-    Style {
-        ink,
-        is_small: true,
-        anchor: if right { Anchor::Start } else { Anchor::End },
-        under: Ink::White,
-    }
+/// Writes words at the right of a mark.
+fn words_beside(
+    sheet: &mut Sheet,
+    x: u64,
+    y: u64,
+    text: &[u8],
+    ink: Ink,
+) -> Result<(), AllocError> {
+    let at = Point {
+        x: x.saturating_add(90),
+        y,
+    };
+    sheet.words(at, text, Style::on_paper(ink, false, Anchor::Start))
 }
 
 /// Makes the text that of the event at an index of those that can be taken.
@@ -166,17 +127,6 @@ fn ready_ends(figure: &Figure<'_>, index: usize, event: &Event) -> Option<Ends> 
     ends_of(figure.columns, *actions, event)
 }
 
-/// Where the words of the event begin at an index of those that can be taken.
-fn ready_x(figure: &Figure<'_>, index: usize, event: &Event) -> u64 {
-    match ready_ends(figure, index, event) {
-        Some(ends) => {
-            let column = ends.first.min(ends.second.unwrap_or(ends.first));
-            figure.columns.at(column).saturating_add(90)
-        }
-        None => 0,
-    }
-}
-
 /// Draws an event that can be taken, at this height.
 fn draw_ready(
     sheet: &mut Sheet,
@@ -193,33 +143,19 @@ fn draw_ready(
         x: figure.columns.at(ends.first),
         y,
     };
-    let to = match ends.second {
-        Some(second) => Point {
-            x: figure.columns.at(second),
-            y,
-        },
-        None => from,
+    let Some(second) = ends.second else {
+        sheet.circle(from, 40, Ink::White, Ink::Ready, Dash::Whole)?;
+        return words_beside(sheet, from.x, y.saturating_add(40), text, Ink::Ready);
     };
-    if ends.second.is_some() {
-        sheet.line(from, to, Ink::Ready, 16, Dash::Short)?;
-        sheet.circle(to, 40, Ink::White, Ink::Ready, Dash::Whole)?;
-    }
+    let to = Point {
+        x: figure.columns.at(second),
+        y,
+    };
+    sheet.line(from, to, Ink::Ready, 16, Dash::Short)?;
+    sheet.circle(to, 40, Ink::White, Ink::Ready, Dash::Whole)?;
     sheet.circle(from, 40, Ink::White, Ink::Ready, Dash::Whole)?;
-    let at = Point {
-        x: from.x.min(to.x).saturating_add(90),
-        y: if ends.second.is_some() {
-            y.saturating_sub(40)
-        } else {
-            y.saturating_add(40)
-        },
-    };
-    let style = Style {
-        ink: Ink::Ready,
-        is_small: false,
-        anchor: Anchor::Start,
-        under: Ink::White,
-    };
-    sheet.label(at, text, style)
+    let left = from.x.min(to.x);
+    words_beside(sheet, left, y.saturating_sub(40), text, Ink::Ready)
 }
 
 /// Draws the places that wait, from this height on.
@@ -229,29 +165,16 @@ fn draw_places(
     figure: &Figure<'_>,
     from: u64,
 ) -> Result<(), AllocError> {
-    let places = figure.scene.picture.end.places.as_slice();
-    let partners = ring_partners(
-        alloc,
-        places.len(),
-        figure.scene.picture.end.ring.as_slice(),
-    )?;
+    let end = &figure.scene.picture.end;
+    let partners = ring_partners(alloc, end.places.len(), end.ring.as_slice())?;
     let mut y = from;
     let mut whole = Vec::new(alloc);
     let mut text = Vec::new(alloc);
-    for (index, place) in places.iter().enumerate() {
+    for (index, place) in end.places.as_slice().iter().enumerate() {
         if is_shown(&figure.scene, place) {
             let partner = partners.get(index).copied().unwrap_or(None);
-            let far = draw_arrows(sheet, figure, place, partner, y)?;
             tell_place(figure, place, &mut whole, &mut text)?;
-            draw_place(
-                sheet,
-                figure,
-                place,
-                partner.is_some(),
-                text.as_slice(),
-                far,
-                y,
-            )?;
+            draw_place(sheet, figure, place, partner, text.as_slice(), y)?;
             y = y.saturating_add(LINE);
         }
     }
@@ -277,97 +200,92 @@ fn ring_partners(
     Ok(partners)
 }
 
-/// The point of the place at this height.
-fn place_point(figure: &Figure<'_>, place: &Place, y: u64) -> Option<Point> {
-    let column = figure.columns.of(place.lane)?;
-    Some(Point {
-        x: figure.columns.at(column),
-        y,
-    })
-}
-
-/// Draws the arrows to those for which the place waits; how far to the right the furthest goes, or to the left.
-fn draw_arrows(
+/// Draws a place that waits: in a ring for that partner, and else for all that it wants.
+fn draw_place(
     sheet: &mut Sheet,
     figure: &Figure<'_>,
     place: &Place,
     partner: Option<usize>,
+    text: &[u8],
     y: u64,
-) -> Result<u64, AllocError> {
-    let Some(at) = place_point(figure, place, y) else {
-        return Ok(0);
+) -> Result<(), AllocError> {
+    let Some(column) = figure.columns.of(place.lane) else {
+        return Ok(());
     };
-    let mut far = at.x;
-    if let Some(partner) = partner {
-        let lane = match figure.scene.picture.end.places.get(partner) {
-            Some(place) => place.lane,
-            None => None,
-        };
-        return draw_arrow(sheet, figure, at, lane, true);
-    }
-    for wanted in place.wanted.as_slice() {
-        far = further(
-            at.x,
-            far,
-            draw_wanted(sheet, figure, at, wanted.lanes.as_slice())?,
-        );
-    }
-    Ok(far)
+    let at = Point {
+        x: figure.columns.at(column),
+        y,
+    };
+    let ink = match partner {
+        Some(partner) => {
+            draw_arrow(sheet, figure, at, lane_of_place(figure, partner), true)?;
+            Ink::Ring
+        }
+        None => {
+            draw_arrows(sheet, figure, at, place)?;
+            Ink::Soft
+        }
+    };
+    sheet.square(at, Ink::White, ink, Dash::Whole)?;
+    words_beside(sheet, at.x, y.saturating_sub(60), text, ink)
 }
 
-/// Draws the arrows to these lanes; how far the furthest goes.
+/// The lane of the place at an index.
+fn lane_of_place(figure: &Figure<'_>, index: usize) -> Option<usize> {
+    figure.scene.picture.end.places.get(index)?.lane
+}
+
+/// Draws the arrows to all for which the place waits, which stands there.
+fn draw_arrows(
+    sheet: &mut Sheet,
+    figure: &Figure<'_>,
+    at: Point,
+    place: &Place,
+) -> Result<(), AllocError> {
+    for wanted in place.wanted.as_slice() {
+        draw_wanted(sheet, figure, at, wanted.lanes.as_slice())?;
+    }
+    Ok(())
+}
+
+/// Draws the arrows to these lanes.
 fn draw_wanted(
     sheet: &mut Sheet,
     figure: &Figure<'_>,
     at: Point,
     lanes: &[usize],
-) -> Result<u64, AllocError> {
-    let mut far = at.x;
+) -> Result<(), AllocError> {
     for lane in lanes {
-        far = further(
-            at.x,
-            far,
-            draw_arrow(sheet, figure, at, Some(*lane), false)?,
-        );
+        draw_arrow(sheet, figure, at, Some(*lane), false)?;
     }
-    Ok(far)
+    Ok(())
 }
 
-/// Which of two is further from there.
-fn further(from: u64, one: u64, other: u64) -> u64 {
-    if other.abs_diff(from) > one.abs_diff(from) {
-        other
-    } else {
-        one
-    }
-}
-
-/// Draws the arrow to a lane; how far it goes.
+/// Draws the arrow to a lane, if that is another.
 fn draw_arrow(
     sheet: &mut Sheet,
     figure: &Figure<'_>,
     at: Point,
     lane: Option<usize>,
     is_ring: bool,
-) -> Result<u64, AllocError> {
+) -> Result<(), AllocError> {
     let Some(column) = figure.columns.of(lane) else {
-        return Ok(at.x);
+        return Ok(());
     };
     let to = Point {
         x: figure.columns.at(column),
         y: at.y,
     };
     if to.x == at.x {
-        return Ok(at.x);
+        return Ok(());
     }
-    if is_ring {
-        sheet.line(at, to, Ink::Ring, 24, Dash::Whole)?;
+    let (ink, width, dash) = if is_ring {
+        (Ink::Ring, 24, Dash::Whole)
     } else {
-        sheet.line(at, to, Ink::Soft, 13, Dash::Long)?;
-    }
-    let ink = if is_ring { Ink::Ring } else { Ink::Soft };
-    sheet.arrow(to, to.x > at.x, ink)?;
-    Ok(to.x)
+        (Ink::Soft, 13, Dash::Long)
+    };
+    sheet.line(at, to, ink, width, dash)?;
+    sheet.arrow(to, to.x > at.x, ink)
 }
 
 /// Makes the text that of the place: the channels on which it waits.
@@ -416,38 +334,4 @@ fn add_channel(
         name.write_to(whole)?;
     }
     add_cut(text, whole.as_slice(), 1600, LETTER)
-}
-
-/// Draws a place that waits, whose furthest arrow goes there.
-fn draw_place(
-    sheet: &mut Sheet,
-    figure: &Figure<'_>,
-    place: &Place,
-    is_ring: bool,
-    text: &[u8],
-    far: u64,
-    y: u64,
-) -> Result<(), AllocError> {
-    let Some(at) = place_point(figure, place, y) else {
-        return Ok(());
-    };
-    let ink = if is_ring { Ink::Ring } else { Ink::Soft };
-    sheet.square(at, Ink::White, ink, Dash::Whole)?;
-    let end = at.x.saturating_sub(90);
-    let right = far >= at.x || end < text_width(text, false).saturating_add(MARGIN);
-    let style = Style {
-        ink,
-        is_small: false,
-        anchor: if right { Anchor::Start } else { Anchor::End },
-        under: Ink::White,
-    };
-    let x = if far >= at.x {
-        fitting(figure, at.x.saturating_add(90), text)
-    } else if right {
-        MARGIN
-    } else {
-        end
-    };
-    let y = y.saturating_sub(60);
-    sheet.label(Point { x, y }, text, style)
 }

@@ -36,11 +36,10 @@ pub(crate) struct Bend {
     pub(crate) to: Point,
 }
 
-/// On which action of its point a text stands.
+/// On which side of its point a text stands.
 #[derive(Clone, Copy, Debug, PartialEq, Eq)]
 pub(crate) enum Anchor {
     Start,
-    Middle,
     End,
 }
 
@@ -49,7 +48,6 @@ impl Anchor {
     fn word(self) -> &'static str {
         match self {
             Anchor::Start => "start",
-            Anchor::Middle => "middle",
             Anchor::End => "end",
         }
     }
@@ -60,22 +58,61 @@ impl Anchor {
 pub(crate) struct Style {
     pub(crate) ink: Ink,
     pub(crate) is_small: bool,
+    pub(crate) is_bold: bool,
     pub(crate) anchor: Anchor,
-    /// what lies under it
-    pub(crate) under: Ink,
+    /// the paper under it, where it stands over what is drawn already
+    pub(crate) under: Option<Ink>,
 }
 
 impl Style {
+    /// Words on white paper.
+    pub(crate) fn on_paper(ink: Ink, is_small: bool, anchor: Anchor) -> Style {
+        Style {
+            ink,
+            is_small,
+            is_bold: false,
+            anchor,
+            under: Some(Ink::White),
+        }
+    }
+
     /// The width of a letter.
-    fn letter(self) -> u64 {
+    pub(crate) fn letter(self) -> u64 {
         if self.is_small { SMALL_LETTER } else { LETTER }
     }
+
+    /// The size of the letters.
+    fn size(self) -> u64 {
+        if self.is_small { 90 } else { 110 }
+    }
+}
+
+/// A part of an element.
+#[derive(Clone, Copy)]
+pub(crate) enum Part<'a> {
+    /// as it stands here
+    Text(&'a str),
+    /// a text that stands for these bytes
+    Words(&'a [u8]),
+    Number(u64),
+    /// an attribute that is a length
+    Measure(&'a str, u64),
+    /// an attribute that is a word
+    Word(&'a str, &'a str),
+    /// an attribute that says how a line is broken, if it is
+    Broken(Dash),
+    /// a point of a path behind the letter that leads to it
+    To(&'a str, u64, u64),
+    /// a line of a path down to there
+    Down(u64),
 }
 
 /// The drawing as it grows.
 #[derive(Drop)]
 pub(crate) struct Sheet {
     bytes: Vec<u8>,
+    /// how far its texts reach to the right
+    right: u64,
 }
 
 impl Sheet {
@@ -83,27 +120,61 @@ impl Sheet {
     pub(crate) fn new(alloc: Global) -> Sheet {
         Sheet {
             bytes: Vec::new(alloc),
+            right: 0,
         }
     }
 
     /// What is drawn.
     pub(crate) fn into_bytes(self) -> Vec<u8> {
-        let Sheet { bytes } = self;
+        let Sheet { bytes, .. } = self;
         bytes
     }
 
+    /// How far its texts reach to the right.
+    pub(crate) fn right(&self) -> u64 {
+        self.right
+    }
+
+    /// Notes that a text reaches so far to the right.
+    pub(crate) fn reach(&mut self, right: u64) {
+        self.right = self.right.max(right);
+    }
+
+    /// Lays another sheet over this one.
+    pub(crate) fn append(&mut self, other: &Sheet) -> Result<(), AllocError> {
+        self.bytes.extend_from_slice(other.bytes.as_slice())
+    }
+
+    /// Adds these parts.
+    pub(crate) fn add_all(&mut self, parts: &[Part<'_>]) -> Result<(), AllocError> {
+        for part in parts {
+            self.add_part(*part)?;
+        }
+        Ok(())
+    }
+
+    /// Adds a part.
+    fn add_part(&mut self, part: Part<'_>) -> Result<(), AllocError> {
+        match part {
+            Part::Text(text) => self.add(text),
+            Part::Words(bytes) => add_text(&mut self.bytes, bytes),
+            Part::Number(number) => self.add_number(number),
+            Part::Measure(name, tenths) => self.add_measure(name, tenths),
+            Part::Word(name, word) => self.add_word(name, word),
+            Part::Broken(Dash::Whole) => Ok(()),
+            Part::Broken(dash) => self.add_word("stroke-dasharray", dash.lengths()),
+            Part::To(letter, x, y) => self.add_point(letter, x, y),
+            Part::Down(y) => self.add_down(y),
+        }
+    }
+
     /// Adds a text of the drawing's own.
-    pub(crate) fn add(&mut self, text: &str) -> Result<(), AllocError> {
+    fn add(&mut self, text: &str) -> Result<(), AllocError> {
         self.bytes.extend_from_slice(text.as_bytes())
     }
 
-    /// Adds a text that stands for these bytes.
-    pub(crate) fn add_text(&mut self, text: &[u8]) -> Result<(), AllocError> {
-        add_text(&mut self.bytes, text)
-    }
-
     /// Adds a number.
-    pub(crate) fn add_number(&mut self, number: u64) -> Result<(), AllocError> {
+    fn add_number(&mut self, number: u64) -> Result<(), AllocError> {
         let mut buffer = Buffer::new();
         let digits = buffer.format(number);
         self.bytes.extend_from_slice(digits.as_bytes())
@@ -112,37 +183,46 @@ impl Sheet {
     /// Adds a length in pixels.
     fn add_length(&mut self, tenths: u64) -> Result<(), AllocError> {
         self.add_number(tenths / 10)?;
-        if tenths % 10 != 0 {
-            self.add(".")?;
-            self.add_number(tenths % 10)?;
+        if tenths % 10 == 0 {
+            return Ok(());
         }
-        Ok(())
+        self.add(".")?;
+        self.add_number(tenths % 10)
+    }
+
+    /// Begins an attribute.
+    fn begin_attribute(&mut self, name: &str) -> Result<(), AllocError> {
+        self.add(" ")?;
+        self.add(name)?;
+        self.add("=\"")
     }
 
     /// Adds an attribute that is a length.
-    pub(crate) fn add_measure(&mut self, name: &str, tenths: u64) -> Result<(), AllocError> {
-        self.add(" ")?;
-        self.add(name)?;
-        self.add("=\"")?;
+    fn add_measure(&mut self, name: &str, tenths: u64) -> Result<(), AllocError> {
+        self.begin_attribute(name)?;
         self.add_length(tenths)?;
         self.add("\"")
     }
 
     /// Adds an attribute that is a word.
     fn add_word(&mut self, name: &str, word: &str) -> Result<(), AllocError> {
-        self.add(" ")?;
-        self.add(name)?;
-        self.add("=\"")?;
+        self.begin_attribute(name)?;
         self.add(word)?;
         self.add("\"")
     }
 
-    /// Adds how a line is broken, if it is.
-    fn add_dash(&mut self, dash: Dash) -> Result<(), AllocError> {
-        if dash == Dash::Whole {
-            return Ok(());
-        }
-        self.add_word("stroke-dasharray", dash.lengths())
+    /// Adds a point of a path.
+    fn add_point(&mut self, letter: &str, x: u64, y: u64) -> Result<(), AllocError> {
+        self.add(letter)?;
+        self.add_length(x)?;
+        self.add(" ")?;
+        self.add_length(y)
+    }
+
+    /// Adds a line of a path down to there.
+    fn add_down(&mut self, y: u64) -> Result<(), AllocError> {
+        self.add("V")?;
+        self.add_length(y)
     }
 
     /// Draws a line.
@@ -154,34 +234,28 @@ impl Sheet {
         width: u64,
         dash: Dash,
     ) -> Result<(), AllocError> {
-        self.add("<line")?;
-        self.add_measure("x1", from.x)?;
-        self.add_measure("y1", from.y)?;
-        self.add_measure("x2", to.x)?;
-        self.add_measure("y2", to.y)?;
-        self.add_word("stroke", ink.code())?;
-        self.add_measure("stroke-width", width)?;
-        self.add_dash(dash)?;
-        self.add("/>\n")
+        self.add_all(&[
+            Part::Text("<line"),
+            Part::Measure("x1", from.x),
+            Part::Measure("y1", from.y),
+            Part::Measure("x2", to.x),
+            Part::Measure("y2", to.y),
+            Part::Word("stroke", ink.code()),
+            Part::Measure("stroke-width", width),
+            Part::Broken(dash),
+            Part::Text("/>\n"),
+        ])
     }
 
-    /// Adds the pattern with which the held side of a handshake is filled.
-    pub(crate) fn hatching(&mut self) -> Result<(), AllocError> {
-        self.add(
-            "<defs><pattern id=\"held\" width=\"5\" height=\"5\" patternUnits=\"userSpaceOnUse\"",
-        )?;
-        self.add(
-            " patternTransform=\"rotate(45)\"><rect width=\"5\" height=\"5\" fill=\"#ffffff\"/>",
-        )?;
-        self.add("<path d=\"M1 0v5\" stroke=\"#2d9a7c\" stroke-width=\"0.8\"/></pattern></defs>\n")
-    }
-
-    /// Adds the ends of an area.
-    fn add_area(&mut self, area: Area) -> Result<(), AllocError> {
-        self.add_measure("x", area.x)?;
-        self.add_measure("y", area.y)?;
-        self.add_measure("width", area.width)?;
-        self.add_measure("height", area.height)
+    /// Draws a line from edge to edge.
+    pub(crate) fn edge(&mut self, y: u64, ink: Ink) -> Result<(), AllocError> {
+        self.add_all(&[
+            Part::Text("<line x1=\"0\" x2=\"100%\""),
+            Part::Measure("y1", y),
+            Part::Measure("y2", y),
+            Part::Word("stroke", ink.code()),
+            Part::Text(" stroke-width=\"1\"/>\n"),
+        ])
     }
 
     /// Draws an area with an edge.
@@ -192,13 +266,7 @@ impl Sheet {
         edge: Ink,
         dash: Dash,
     ) -> Result<(), AllocError> {
-        self.add("<rect")?;
-        self.add_area(area)?;
-        self.add(" rx=\"2.5\"")?;
-        self.add_word("fill", fill.code())?;
-        self.add_word("stroke", edge.code())?;
-        self.add_dash(dash)?;
-        self.add("/>\n")
+        self.rectangle(area, " rx=\"2.5\"", fill, edge, dash)
     }
 
     /// Draws a small square.
@@ -209,17 +277,33 @@ impl Sheet {
         edge: Ink,
         dash: Dash,
     ) -> Result<(), AllocError> {
-        self.add("<rect")?;
-        self.add_area(Area {
+        let area = Area {
             x: centre.x.saturating_sub(40),
             y: centre.y.saturating_sub(40),
             width: 80,
             height: 80,
-        })?;
-        self.add_word("fill", fill.code())?;
-        self.add_word("stroke", edge.code())?;
-        self.add_dash(dash)?;
-        self.add("/>\n")
+        };
+        self.rectangle(area, "", fill, edge, dash)
+    }
+
+    /// Draws a rectangle with such corners.
+    fn rectangle(
+        &mut self,
+        area: Area,
+        corners: &str,
+        fill: Ink,
+        edge: Ink,
+        dash: Dash,
+    ) -> Result<(), AllocError> {
+        let outline = [
+            Part::Text("<rect"),
+            Part::Measure("x", area.x),
+            Part::Measure("y", area.y),
+            Part::Measure("width", area.width),
+            Part::Measure("height", area.height),
+            Part::Text(corners),
+        ];
+        self.shape(&outline, fill, edge, dash)
     }
 
     /// Draws a circle with an edge.
@@ -231,22 +315,13 @@ impl Sheet {
         edge: Ink,
         dash: Dash,
     ) -> Result<(), AllocError> {
-        self.add("<circle")?;
-        self.add_measure("cx", centre.x)?;
-        self.add_measure("cy", centre.y)?;
-        self.add_measure("r", radius)?;
-        self.add_word("fill", fill.code())?;
-        self.add_word("stroke", edge.code())?;
-        self.add_dash(dash)?;
-        self.add("/>\n")
-    }
-
-    /// Adds a point of a path.
-    fn add_point(&mut self, mark: &str, x: u64, y: u64) -> Result<(), AllocError> {
-        self.add(mark)?;
-        self.add_length(x)?;
-        self.add(" ")?;
-        self.add_length(y)
+        let outline = [
+            Part::Text("<circle"),
+            Part::Measure("cx", centre.x),
+            Part::Measure("cy", centre.y),
+            Part::Measure("r", radius),
+        ];
+        self.shape(&outline, fill, edge, dash)
     }
 
     /// Draws a small diamond.
@@ -256,88 +331,114 @@ impl Sheet {
         ink: Ink,
         dash: Dash,
     ) -> Result<(), AllocError> {
-        self.add("<path d=\"")?;
-        self.add_point("M", centre.x, centre.y.saturating_sub(40))?;
-        self.add("l4 4l-4 4l-4 -4z\"")?;
-        self.add_word("fill", Ink::White.code())?;
-        self.add_word("stroke", ink.code())?;
-        self.add_dash(dash)?;
-        self.add("/>\n")
+        let outline = [
+            Part::Text("<path d=\""),
+            Part::To("M", centre.x, centre.y.saturating_sub(40)),
+            Part::Text("l4 4l-4 4l-4 -4z\""),
+        ];
+        self.shape(&outline, Ink::White, ink, dash)
     }
 
     /// Draws the head of an arrow that points to the right, or else to the left.
     pub(crate) fn arrow(&mut self, tip: Point, to_right: bool, ink: Ink) -> Result<(), AllocError> {
-        self.add("<path d=\"")?;
-        self.add_point("M", tip.x, tip.y)?;
-        self.add(if to_right {
+        let sides = if to_right {
             "l-8 -4.5v9z\""
         } else {
             "l8 -4.5v9z\""
-        })?;
-        self.add_word("fill", ink.code())?;
-        self.add("/>\n")
+        };
+        self.add_all(&[
+            Part::Text("<path d=\""),
+            Part::To("M", tip.x, tip.y),
+            Part::Text(sides),
+            Part::Word("fill", ink.code()),
+            Part::Text("/>\n"),
+        ])
+    }
+
+    /// Draws a shape with this outline.
+    fn shape(
+        &mut self,
+        outline: &[Part<'_>],
+        fill: Ink,
+        edge: Ink,
+        dash: Dash,
+    ) -> Result<(), AllocError> {
+        self.add_all(outline)?;
+        self.add_all(&[
+            Part::Word("fill", fill.code()),
+            Part::Word("stroke", edge.code()),
+            Part::Broken(dash),
+            Part::Text("/>\n"),
+        ])
     }
 
     /// Draws a line that bends to another column.
     pub(crate) fn bend(&mut self, bend: Bend, ink: Ink, dash: Dash) -> Result<(), AllocError> {
-        self.add("<path d=\"")?;
-        self.add_point("M", bend.from.x, bend.from.y)?;
-        self.add("V")?;
-        self.add_length(bend.begin)?;
-        self.add_point("C", bend.from.x, bend.first)?;
-        self.add_point(" ", bend.to.x, bend.second)?;
-        self.add_point(" ", bend.to.x, bend.end)?;
-        self.add("V")?;
-        self.add_length(bend.to.y)?;
-        self.add("\" fill=\"none\" stroke-width=\"1.3\"")?;
-        self.add_word("stroke", ink.code())?;
-        self.add_dash(dash)?;
-        self.add("/>\n")
+        self.add_all(&[
+            Part::Text("<path d=\""),
+            Part::To("M", bend.from.x, bend.from.y),
+            Part::Down(bend.begin),
+            Part::To("C", bend.from.x, bend.first),
+            Part::To(" ", bend.to.x, bend.second),
+            Part::To(" ", bend.to.x, bend.end),
+            Part::Down(bend.to.y),
+            Part::Text("\" fill=\"none\" stroke-width=\"1.3\""),
+            Part::Word("stroke", ink.code()),
+            Part::Broken(dash),
+            Part::Text("/>\n"),
+        ])
     }
 
-    /// Writes a text over what is drawn already.
-    pub(crate) fn label(&mut self, at: Point, text: &[u8], style: Style) -> Result<(), AllocError> {
+    /// Writes a text, with the paper under it. It does not leave the drawing at the left.
+    pub(crate) fn words(&mut self, at: Point, text: &[u8], style: Style) -> Result<(), AllocError> {
         if text.is_empty() {
             return Ok(());
         }
         let width = (text.len() as u64).saturating_mul(style.letter());
-        let height = if style.is_small { 90 } else { 110 };
         let before = match style.anchor {
             Anchor::Start => 0,
-            Anchor::Middle => width / 2,
             Anchor::End => width,
         };
-        self.add("<rect opacity=\"1\"")?;
-        self.add_area(Area {
-            x: at.x.saturating_sub(before),
-            y: at.y.saturating_sub(height).saturating_add(20),
-            width,
-            height,
-        })?;
-        self.add_word("fill", style.under.code())?;
-        self.add("/>\n")?;
-        self.words(at, text, style, false)
+        let x = at.x.max(before);
+        let left = x.saturating_sub(before);
+        self.reach(left.saturating_add(width));
+        if let Some(under) = style.under {
+            self.paper(Point { x: left, y: at.y }, width, style.size(), under)?;
+        }
+        self.letters(Point { x, y: at.y }, text, style)
     }
 
-    /// Writes a text.
-    pub(crate) fn words(
-        &mut self,
-        at: Point,
-        text: &[u8],
-        style: Style,
-        is_bold: bool,
-    ) -> Result<(), AllocError> {
-        self.add("<text")?;
-        self.add_measure("x", at.x)?;
-        self.add_measure("y", at.y)?;
-        self.add_measure("font-size", if style.is_small { 90 } else { 110 })?;
-        self.add_word("fill", style.ink.code())?;
-        self.add_word("text-anchor", style.anchor.word())?;
-        if is_bold {
-            self.add_word("font-weight", "bold")?;
-        }
-        self.add(">")?;
-        self.add_text(text)?;
-        self.add("</text>\n")
+    /// Draws the paper under a text of this size that begins there.
+    fn paper(&mut self, at: Point, width: u64, size: u64, ink: Ink) -> Result<(), AllocError> {
+        self.add_all(&[
+            Part::Text("<rect opacity=\"1\""),
+            Part::Measure("x", at.x),
+            Part::Measure("y", at.y.saturating_sub(size).saturating_add(20)),
+            Part::Measure("width", width),
+            Part::Measure("height", size),
+            Part::Word("fill", ink.code()),
+            Part::Text("/>\n"),
+        ])
+    }
+
+    /// Writes the letters of a text.
+    fn letters(&mut self, at: Point, text: &[u8], style: Style) -> Result<(), AllocError> {
+        let weight = if style.is_bold {
+            " font-weight=\"bold\""
+        } else {
+            ""
+        };
+        self.add_all(&[
+            Part::Text("<text"),
+            Part::Measure("x", at.x),
+            Part::Measure("y", at.y),
+            Part::Measure("font-size", style.size()),
+            Part::Word("fill", style.ink.code()),
+            Part::Word("text-anchor", style.anchor.word()),
+            Part::Text(weight),
+            Part::Text(">"),
+            Part::Words(text),
+            Part::Text("</text>\n"),
+        ])
     }
 }

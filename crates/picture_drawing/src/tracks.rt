@@ -1,5 +1,7 @@
 // The tracks of the rows.
 use std::alloc::{AllocError, Global};
+use std::cmp::Reverse;
+use std::collections::BinaryHeap;
 
 /// Where the first row begins, in tenths of a pixel; how high a track is, and one that has only small signs.
 const TOP: u64 = 600;
@@ -8,10 +10,28 @@ const TALL: u64 = 240;
 
 const LOW: u64 = 150;
 
-/// An event in its row. They are in order of rows, and in one from the left.
+/// What stands in a part of a row.
+#[derive(Clone, Copy, Debug, PartialEq, Eq, PartialOrd, Ord)]
+pub(crate) enum Level {
+    /// events that are points, behind so many others
+    Points(usize),
+    /// names beside orders that only a shared variable makes
+    Names,
+    /// events with their marks
+    Events,
+}
+
+/// A part of a row, which has tracks of its own.
+#[derive(Clone, Copy, Debug, PartialEq, Eq, PartialOrd, Ord)]
+pub(crate) struct Band {
+    pub(crate) row: usize,
+    pub(crate) level: Level,
+}
+
+/// What stands in a band. They are in order of bands, and in one from the left.
 #[derive(Clone, Copy, Debug, PartialEq, Eq, PartialOrd, Ord)]
 pub(crate) struct Placed {
-    pub(crate) row: usize,
+    pub(crate) band: Band,
     /// from where to where it reaches
     pub(crate) low: u64,
     /// its index
@@ -20,13 +40,95 @@ pub(crate) struct Placed {
     pub(crate) is_tall: bool,
 }
 
-/// A track of a row.
+/// A track of a band.
 #[derive(Clone, Copy)]
 struct Track {
-    row: usize,
-    /// how far its last event reaches
-    end: u64,
+    band: Band,
     is_tall: bool,
+}
+
+/// A track in which something stands, and where that ends.
+#[derive(Clone, Copy, Debug, PartialEq, Eq, PartialOrd, Ord)]
+struct Taken {
+    end: u64,
+    track: usize,
+}
+
+/// The tracks as they are filled.
+#[derive(Drop)]
+struct Filling {
+    tracks: Vec<Track>,
+    /// the track of each that is placed, in their order
+    of_placed: Vec<usize>,
+    /// the tracks of the last band that are taken, the first that ends first, and those that are free, the highest
+    /// first
+    taken: BinaryHeap<Reverse<Taken>>,
+    free: BinaryHeap<Reverse<usize>>,
+}
+
+impl Filling {
+    /// Puts one into the highest track of its band in which it meets none, or into a new one.
+    fn put(&mut self, one: &Placed) -> Result<(), AllocError> {
+        if self.is_in_other_band(one.band) {
+            self.taken.clear();
+            self.free.clear();
+        }
+        self.set_free(one.low)?;
+        let index = match self.free.pop() {
+            Some(Reverse(index)) => index,
+            None => self.add_track(one.band)?,
+        };
+        if let Some(track) = self.tracks.get_mut(index) {
+            track.is_tall = track.is_tall || one.is_tall;
+        }
+        self.of_placed.push(index)?;
+        self.taken.push(Reverse(Taken {
+            end: one.high.saturating_add(50),
+            track: index,
+        }))?;
+        Ok(())
+    }
+
+    /// Whether the last track is one of another band.
+    fn is_in_other_band(&self, band: Band) -> bool {
+        match self.tracks.as_slice().last() {
+            Some(track) => track.band != band,
+            None => true,
+        }
+    }
+
+    /// Sets the tracks free in which all ends before there.
+    fn set_free(&mut self, low: u64) -> Result<(), AllocError> {
+        for _ in 0..self.taken.len() {
+            let Some(Reverse(first)) = self.taken.pop() else {
+                break;
+            };
+            if first.end >= low {
+                self.taken.push(Reverse(first))?;
+                break;
+            }
+            self.free.push(Reverse(first.track))?;
+        }
+        Ok(())
+    }
+
+    /// Adds a track.
+    fn add_track(&mut self, band: Band) -> Result<usize, AllocError> {
+        let index = self.tracks.len();
+        self.tracks.push(Track {
+            band,
+            is_tall: false,
+        })?;
+        Ok(index)
+    }
+}
+
+/// Puts all into tracks.
+fn fill(filling: &mut Filling, placed: &[Placed]) -> Result<(), AllocError> {
+    for one in placed {
+        filling.put(one)?;
+    }
+    Ok(())
 }
 
 /// The tracks, and where they begin.
@@ -35,26 +137,27 @@ pub(crate) struct Tracks {
     tracks: Vec<Track>,
     /// where each begins
     starts: Vec<u64>,
-    /// the track of each event, in the order in which they are placed
+    /// the track of each that is placed, in their order
     of_placed: Vec<usize>,
     tops: Vec<(usize, u64)>,
     bottom: u64,
 }
 
 impl Tracks {
-    /// The tracks of these events: each is put into the first of its row in which it meets none.
+    /// The tracks of all that is placed.
     pub(crate) fn of(alloc: Global, placed: &[Placed]) -> Result<Tracks, AllocError> {
-        let mut tracks = Vec::new(alloc);
-        let mut of_placed = Vec::with_capacity(alloc, placed.len())?;
-        let mut first = 0;
-        let mut row = 0;
-        for one in placed {
-            if one.row != row {
-                row = one.row;
-                first = tracks.len();
-            }
-            of_placed.push(put(&mut tracks, first, one)?)?;
-        }
+        let mut filling = Filling {
+            tracks: Vec::new(alloc),
+            of_placed: Vec::with_capacity(alloc, placed.len())?,
+            taken: BinaryHeap::new(alloc),
+            free: BinaryHeap::new(alloc),
+        };
+        fill(&mut filling, placed)?;
+        let Filling {
+            tracks,
+            of_placed,
+            ..
+        } = filling;
         let Stack {
             starts,
             tops,
@@ -69,7 +172,7 @@ impl Tracks {
         })
     }
 
-    /// Sets how far down each event stands.
+    /// Sets how far down each stands.
     pub(crate) fn set_heights(&self, placed: &[Placed], heights: &mut [u64]) {
         for (order, one) in placed.iter().enumerate() {
             let height = self.height(order);
@@ -79,7 +182,7 @@ impl Tracks {
         }
     }
 
-    /// How far down the event stands that was placed in this order.
+    /// How far down that stands which was placed in this order.
     fn height(&self, order: usize) -> u64 {
         let track = self.of_placed.get(order).copied().unwrap_or(0);
         let start = self.starts.get(track).copied().unwrap_or(TOP);
@@ -89,7 +192,7 @@ impl Tracks {
         }
     }
 
-    /// Where each row begins, and where the last ends.
+    /// Where each row of events begins, and where the last ends.
     pub(crate) fn into_tops(self) -> (Vec<(usize, u64)>, u64) {
         let Tracks { tops, bottom, .. } = self;
         (tops, bottom)
@@ -111,9 +214,9 @@ fn stacked(alloc: Global, tracks: &[Track]) -> Result<Stack, AllocError> {
     let mut bottom: u64 = TOP;
     let mut row = None;
     for track in tracks {
-        if row != Some(track.row) {
-            row = Some(track.row);
-            tops.push((track.row, bottom))?;
+        if track.band.level == Level::Events && row != Some(track.band.row) {
+            row = Some(track.band.row);
+            tops.push((track.band.row, bottom))?;
         }
         starts.push(bottom)?;
         bottom = bottom.saturating_add(if track.is_tall { TALL } else { LOW });
@@ -123,32 +226,4 @@ fn stacked(alloc: Global, tracks: &[Track]) -> Result<Stack, AllocError> {
         tops,
         bottom,
     })
-}
-
-/// Puts the event into a track from this one on, or into a new one; which it is.
-fn put(tracks: &mut Vec<Track>, first: usize, one: &Placed) -> Result<usize, AllocError> {
-    if let Some(index) = free_track(tracks.as_slice(), first, one.low) {
-        if let Some(track) = tracks.get_mut(index) {
-            track.end = one.high;
-            track.is_tall = track.is_tall || one.is_tall;
-        }
-        return Ok(index);
-    }
-    let index = tracks.len();
-    tracks.push(Track {
-        row: one.row,
-        end: one.high,
-        is_tall: one.is_tall,
-    })?;
-    Ok(index)
-}
-
-/// The first track from this one on that is free from there on.
-fn free_track(tracks: &[Track], first: usize, low: u64) -> Option<usize> {
-    for index in first..tracks.len() {
-        if tracks[index].end.saturating_add(50) < low {
-            return Some(index);
-        }
-    }
-    None
 }

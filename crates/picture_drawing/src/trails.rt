@@ -83,7 +83,7 @@ fn follow(
     }
     let trail = trails[column];
     let is_joined = trail.is_joined && goes_on(figure, trail, index, place_of(event, is_second));
-    let is_shown = figure.scene.shows(event);
+    let is_shown = figure.shown.is_there(index);
     trails[column] = Trail {
         last: Some((index, is_second)),
         drawn: if is_shown { Some(index) } else { trail.drawn },

@@ -159,6 +159,8 @@ function layout() {
   some0 = some;
   // columns as wide as their labels ask
   const need = cols.map(c => text ? (c.box >= 0 ? 70 : 38) : 0);
+  // and what stands left of the first
+  let margin = 26;
   if (text) {
     for (const e of E)
       if (!hid[e.i]) {
@@ -167,8 +169,10 @@ function layout() {
         if (e.b < 0) need[c] = Math.max(need[c], Math.min(170, 20 + (e.quiet ? (s.length) * SW : (s.length + v
           .length) * CW) + String(e.t).length * SW));
         else if (stored(e)) {
-          const at = colOf[e.b] > colOf[e.a] ? c : c - 1;
-          if (at >= 0) need[at] = Math.max(need[at], Math.min(120, 22 + stored(e).length * SW))
+          const at = colOf[e.b] > colOf[e.a] ? c : c - 1,
+            wide = Math.min(120, 22 + stored(e).length * SW);
+          if (at >= 0) need[at] = Math.max(need[at], wide);
+          else margin = Math.max(margin, wide)
         }
       }
     cols.forEach((c, i) => {
@@ -209,7 +213,7 @@ function layout() {
     const f = Math.min(2.2, avail / total);
     need.forEach((_, i) => need[i] *= f)
   }
-  let x = 46 + (text ? 26 : 8);
+  let x = 46 + (text ? margin : 8);
   X = cols.map((c, i) => {
     const at = x;
     x += need[i];
@@ -602,16 +606,15 @@ function picture(sx, sy, w, h) {
   }
   o.push('</g>');
   // the ruler of depths at the left, the heads on top
-  o.push(`<rect x="0" y="0" width="34" height="${h}" fill="var(--bg)" opacity=".88"/>`);
+  o.push(`<rect x="0" y="0" width="34" height="${h}" fill="var(--bg)"/>`);
   for (let r = r0; r < rowEv.length && rowTop[r] < y1; r++)
     if (r % step === 0) o.push(
-      `<text class="s9 tk" x="30" y="${(rowTop[r]-sy+(text?12:4)).toFixed(1)}" text-anchor="end">${r}</text>`);
+      `<text class="s9 tk ruler" x="30" y="${(rowTop[r]-sy+(text?12:4)).toFixed(1)}" text-anchor="end">${r}</text>`);
   if (now.length) o.push(
-    `<text class="s9 tk" x="30" y="${nowTop-sy+8}" text-anchor="end" style="font-weight:700">now</text>`);
+    `<text class="s9 tk ruler" x="30" y="${nowTop-sy+8}" text-anchor="end" style="font-weight:700">now</text>`);
   o.push(
     `<rect x="0" y="0" width="${w}" height="${headH}" fill="var(--panel)"/>` +
       `<line x1="0" x2="${w}" y1="${headH}" y2="${headH}" stroke="var(--faint)"/>` +
-      `<text class="s9 tk" x="6" y="${headH-6}">${some0?'row':'depth'}</text>` +
       `<g class="hd" transform="translate(${-sx},0)">`
     );
   for (const b of head) {
@@ -655,6 +658,9 @@ function picture(sx, sy, w, h) {
     }
   });
   o.push('</g>');
+  // the corner over both
+  o.push(`<rect x="0" y="0" width="34" height="${headH-1}" fill="var(--panel)"/>` +
+    `<text class="s9 tk ruler" x="6" y="${headH-6}">${some0?'row':'depth'}</text>`);
   return o.join('')
 }
 const at = (i, k) => E[i].a === k ? E[i].A : E[i].B;
@@ -721,7 +727,7 @@ function drawEvent(e, text) {
           (sh===full?esc(n)+(v!==''?`<tspan class="v">${v}</tspan>`:''):esc(sh)) + `</text>`;
       const q = stored(e);
       if (q) {
-        const room2 = xb > xa ? (X[colOf[e.b] + 1] || W) - xb - 18 : xb - (X[colOf[e.b] - 1] || 0) - 18;
+        const room2 = xb > xa ? (X[colOf[e.b] + 1] || W) - xb - 18 : xb - (X[colOf[e.b] - 1] || 36) - 18;
         s +=
           `<text class="s9 tk lab" x="${xb+sg*8}" y="${y+3}" text-anchor="${sg>0?'start':'end'}">${cut(q,Math.floor(room2/SW))}</text>`
       }
