@@ -17,8 +17,7 @@ use Rattle.trace_file.specs.TraceText.{IsTrace}
 use Rattle.shell_desk.specs.AtBench.{AtBench}
 use Rattle.shell_desk.specs.Does.{AsksIfAny, Does, NamesSession, TurnsTo, numbered_as}
 use Rattle.shell_desk.specs.Tidied.{tidied}
-use Rattle.shell_desk.specs.Words.{spelling, AsksDeed}
-use Rattle.shell_desk.specs.internal.Spelled.{AsksNoDeed, SpellsNothing}
+use Rattle.shell_desk.specs.Words.{spelling, AsksDeed, AsksNoDeed, SpellsNothing}
 use Rattle.shell_desk.specs.declared.deed.Deed.{Deed}
 use Rattle.shell_desk.specs.declared.deed.Done.{Done}
 use Rattle.shell_desk.specs.declared.word.Word.{Word}

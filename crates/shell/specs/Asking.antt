@@ -6,8 +6,7 @@ use Rattle.line_text.specs.Fields.{CutAtSpace}
 use Rattle.debug_session.specs.Lines.{Says, AsksNothing}
 use Rattle.debug_session.specs.declared.line.Line.{Line}
 use Rattle.shell_desk.specs.Tidied.{tidied}
-use Rattle.shell_desk.specs.Words.{spelling, AsksDeed}
-use Rattle.shell_desk.specs.internal.Spelled.{SpellsNothing, AsksNoDeed}
+use Rattle.shell_desk.specs.Words.{spelling, AsksDeed, AsksNoDeed, SpellsNothing}
 use Rattle.shell_desk.specs.declared.deed.Deed.{Deed}
 use Rattle.shell_desk.specs.declared.word.Word.{Word}
 use Rattle.shell_desk.specs.declared.word.Word.TheVariants.{Load, Quit, Save, SaveOver, Script, ScriptOver}

@@ -58,6 +58,7 @@ impl Session {
         ensures outcome { result.outcome ≡ outcomes.Loaded }
         ensures turned { TurnsTo self.old.bench (line_count setting.now.texts.source.now) machine self.new.bench }
     {
+        let before = self.bench.desk().machine().live_events().len() as u64;
         self.notes.begin_line(Shows::None);
         self.notes.begin_again(&machine);
         let last_line = count_lines(setting.texts.source);
@@ -67,7 +68,7 @@ impl Session {
         spoken(
             setting.alloc,
             Outcome::Loaded,
-            loaded_text(setting.alloc, live),
+            loaded_text(setting.alloc, live, before),
         )
     }
 }

@@ -3,14 +3,14 @@ ghost use Rattle.std.specs.Prelude.{◌≡◌, IfSome};
 
 use debug_session::write_answer;
 use line_text::add_entry;
-use locked_execution::{Choice, Command, Desk, Machine, Reply};
-use plain_words::Text;
+use locked_execution::{Choice, Command, Desk, Event, Machine, Reply};
+use plain_words::{Elements, Tense, Text, add_deed};
 use shell_desk::Watch;
 use std::alloc::Global;
 use std::mem;
 use system::System;
 
-/// Of a run of more steps than so many the first and the last are shown.
+/// Of a run of more steps than so many the first and the last are shown, and of a way back the first.
 const MOST_SHOWN: u64 = 60;
 
 /// So many of them each.
@@ -21,9 +21,20 @@ const SHOWN_AT_ENDS: u64 = 20;
 pub(crate) enum Shows {
     None,
     All,
-    /// those of a run: none of branches that have no step, and of a breakpoint that is passed; of many steps the first and
-    /// the last
+    /// those of a run, with what each step did in words: none of branches that have no step, and of a breakpoint that is
+    /// passed; of many steps the first and the last
     Steps,
+    /// those of a way back, with words; of many steps the first
+    Way,
+}
+
+/// A command of a session that was answered at a desk.
+#[derive(Clone, Copy)]
+pub(crate) struct Seen<'a> {
+    pub(crate) desk: &'a Desk,
+    pub(crate) session: u32,
+    pub(crate) command: &'a Command,
+    pub(crate) reply: &'a Reply,
 }
 
 /// The record of a session.
@@ -37,9 +48,9 @@ pub struct Notes {
     session: u32,
     shows: Shows,
     shown: Text,
-    /// How long the answers to the first steps of a run are.
+    /// How long the answers to the first steps are.
     head: usize,
-    /// Whether answers to steps of a run were left out.
+    /// Whether answers to steps were left out.
     is_cut: bool,
     /// How many steps the commands of this line took or took back.
     steps: u64,
@@ -166,24 +177,39 @@ impl Notes {
         }
     }
 
-    /// Ends the answers of a run, where the last steps of many are not shown yet.
-    pub(crate) fn end_run(&mut self, machine: &Machine) {
-        if self.shows != Shows::Steps || self.steps <= MOST_SHOWN || self.is_cut {
+    /// Ends the answers of a line, where not all steps of many are to be shown.
+    pub(crate) fn end_line(&mut self, machine: &Machine, elements: &Elements<'_>) {
+        if self.steps <= MOST_SHOWN || self.is_cut {
             return;
         }
-        let left_out = self.steps.saturating_sub(2 * SHOWN_AT_ENDS);
+        match self.shows {
+            Shows::None | Shows::All => {}
+            Shows::Way => self.cut(SHOWN_AT_ENDS, b" more steps\n"),
+            Shows::Steps => {
+                self.cut(2 * SHOWN_AT_ENDS, b" more steps, which `live` lists\n");
+                self.show_last(machine, elements);
+            }
+        }
+    }
+
+    /// Leaves out all but the answers to the first steps, and tells how many that are where so many are shown.
+    fn cut(&mut self, shown: u64, words: &[u8]) {
         self.is_cut = true;
         self.shown.cut(self.head);
         self.shown
-            .add_counted(b"  .. ", left_out, b" more steps, which `live` lists\n");
+            .add_counted(b"  .. ", self.steps.saturating_sub(shown), words);
+    }
+
+    /// Keeps the answers to the last steps of a run.
+    fn show_last(&mut self, machine: &Machine, elements: &Elements<'_>) {
         let end = machine.live_events().len() as u64;
         for index in end.saturating_sub(SHOWN_AT_ENDS)..end {
-            self.show_live(machine, index);
+            self.show_live(machine, elements, index);
         }
     }
 
     /// Keeps the answer to the step at this index of the live ones.
-    fn show_live(&mut self, machine: &Machine, index: u64) {
+    fn show_live(&mut self, machine: &Machine, elements: &Elements<'_>, index: u64) {
         let Some((ticket, event)) = machine.live_at(index) else {
             return;
         };
@@ -196,34 +222,94 @@ impl Notes {
             event,
         );
         self.shown.add_if(made, line.as_slice());
+        self.add_words(machine, elements, b"  ", event);
+    }
+
+    /// Keeps in mind a command that was answered, and the answer where it is to be shown.
+    pub(crate) fn note_seen(&mut self, seen: Seen<'_>, elements: &Elements<'_>) {
+        if self.keep_command(seen) {
+            self.show(seen, elements);
+        }
+    }
+
+    /// Keeps in mind a command that was answered, and tells whether there is something to show: in a run not of a branch
+    /// that had no step.
+    fn keep_command(&mut self, seen: Seen<'_>) -> bool {
+        if self.shows == Shows::Steps && is_idle(seen.reply) {
+            return false;
+        }
+        if is_step(seen.reply) {
+            self.steps = self.steps.saturating_add(1);
+        }
+        self.add_command(
+            seen.desk.machine().checked().system(),
+            seen.session,
+            seen.command,
+        );
+        true
     }
 
     /// Keeps the answer to a command, where it is to be shown.
-    fn show(&mut self, desk: &Desk, command: &Command, reply: &Reply) {
+    fn show(&mut self, seen: Seen<'_>, elements: &Elements<'_>) {
         match self.shows {
             Shows::None => {}
-            Shows::All => self.add_answer(desk, command, reply),
-            Shows::Steps => self.show_of_run(desk, command, reply),
+            Shows::All => self.add_answer(seen),
+            Shows::Steps | Shows::Way => self.show_of_many(seen, elements),
         }
     }
 
-    /// The same of a run.
-    fn show_of_run(&mut self, desk: &Desk, command: &Command, reply: &Reply) {
-        if is_done(reply) || (is_step(reply) && self.steps > MOST_SHOWN) {
+    /// The same of a run, and of a way back.
+    fn show_of_many(&mut self, seen: Seen<'_>, elements: &Elements<'_>) {
+        if is_done(seen.reply) || (is_step(seen.reply) && self.steps > MOST_SHOWN) {
             return;
         }
-        if !is_step(reply) {
-            self.end_run(desk.machine());
+        if !is_step(seen.reply) {
+            self.end_line(seen.desk.machine(), elements);
         }
-        self.add_answer(desk, command, reply);
+        self.add_answer(seen);
+        self.add_step_words(seen, elements);
         if self.steps == SHOWN_AT_ENDS {
             self.head = self.shown.len();
         }
     }
 
+    /// Adds what the step did that was taken or taken back, if one was.
+    fn add_step_words(&mut self, seen: Seen<'_>, elements: &Elements<'_>) {
+        match seen.reply {
+            Reply::Stepped(_, event) => {
+                self.add_words(seen.desk.machine(), elements, b"  ", event);
+            }
+            Reply::Undone(_, event) => {
+                self.add_words(seen.desk.machine(), elements, b"  taken back: ", event);
+            }
+            _ => {}
+        }
+    }
+
+    /// Adds a line with what the event did.
+    fn add_words(
+        &mut self,
+        machine: &Machine,
+        elements: &Elements<'_>,
+        before: &[u8],
+        event: &Event,
+    ) {
+        self.shown.add(before);
+        add_deed(
+            &mut self.shown,
+            self.alloc,
+            machine,
+            elements,
+            event,
+            Tense::Done,
+        );
+        self.shown.add(b"\n");
+    }
+
     /// Keeps the answer to a command.
-    fn add_answer(&mut self, desk: &Desk, command: &Command, reply: &Reply) {
-        match write_answer(self.alloc, desk.machine().checked(), command, reply) {
+    fn add_answer(&mut self, seen: Seen<'_>) {
+        let checked = seen.desk.machine().checked();
+        match write_answer(self.alloc, checked, seen.command, seen.reply) {
             Ok(bytes) => self.shown.add(bytes.as_slice()),
             Err(error) => self.shown.add_if(Err(error), b""),
         }
@@ -231,15 +317,14 @@ impl Notes {
 }
 
 impl Watch for Notes {
+    /// Keeps in mind the command of a line that shows its answer itself.
     fn see(&mut self, desk: &Desk, session: u32, command: &Command, reply: &Reply) {
-        if self.shows == Shows::Steps && is_idle(reply) {
-            return;
-        }
-        if is_step(reply) {
-            self.steps = self.steps.saturating_add(1);
-        }
-        self.add_command(desk.machine().checked().system(), session, command);
-        self.show(desk, command, reply);
+        let _is_told = self.keep_command(Seen {
+            desk,
+            session,
+            command,
+            reply,
+        });
     }
 }
 

@@ -1,7 +1,8 @@
 // How far a long line is.
 use crate::Host;
-use crate::notes::Notes;
+use crate::notes::{Notes, Seen};
 use locked_execution::{Command, Desk, Reply};
+use plain_words::Elements;
 use shell_desk::Watch;
 use std::time::Duration;
 
@@ -15,6 +16,7 @@ const PATIENCE: u64 = 1;
 #[derive(Drop)]
 pub(crate) struct Progress<'a, H> {
     notes: &'a mut Notes,
+    elements: &'a Elements<'a>,
     host: &'a H,
     commands: u64,
     /// When the line was begun, or it was told last how far it is.
@@ -24,9 +26,14 @@ pub(crate) struct Progress<'a, H> {
 
 impl<'a, H: Host> Progress<'a, H> {
     /// A line begins.
-    pub(crate) fn new(notes: &'a mut Notes, host: &'a H) -> Progress<'a, H> {
+    pub(crate) fn new(
+        notes: &'a mut Notes,
+        elements: &'a Elements<'a>,
+        host: &'a H,
+    ) -> Progress<'a, H> {
         Progress {
             notes,
+            elements,
             host,
             commands: 0,
             last: host.clock(),
@@ -56,7 +63,13 @@ impl<'a, H: Host> Progress<'a, H> {
 
 impl<H: Host> Watch for Progress<'_, H> {
     fn see(&mut self, desk: &Desk, session: u32, command: &Command, reply: &Reply) {
-        self.notes.see(desk, session, command, reply);
+        let seen = Seen {
+            desk,
+            session,
+            command,
+            reply,
+        };
+        self.notes.note_seen(seen, self.elements);
         self.commands = self.commands.saturating_add(1);
         if self.commands % COMMANDS_PER_LOOK == 0 {
             self.look();

@@ -201,10 +201,11 @@ impl Session {
         ensures done { (done : DoneAt) × Does self.old.bench deed.now done self.new.bench }
     {
         self.notes.begin_line(shows_of(deed));
-        let mut progress = Progress::new(&mut self.notes, host);
+        let mut progress = Progress::new(&mut self.notes, &setting.elements, host);
         let done = self.bench.perform(deed, &mut progress);
         progress.end();
-        self.notes.end_run(self.bench.desk().machine());
+        self.notes
+            .end_line(self.bench.desk().machine(), &setting.elements);
         let own = self.notes.take_shown();
         let words = self.done_text(setting, deed, &done);
         Answer {
@@ -250,6 +251,7 @@ fn is_want(fault: Fault) -> bool
 fn shows_of(deed: &Deed) -> Shows {
     match deed {
         Deed::Run(_) => Shows::Steps,
+        Deed::Back(_) => Shows::Way,
         _ => Shows::All,
     }
 }

@@ -59,13 +59,15 @@ fn add_still(text: &mut Text, scene: &Scene<'_>, taken: u64) {
     }
 }
 
-/// Adds why nothing can go on, where that is plain: a ring of those that wait, or that more in the stimulus is all that
-/// is missing.
+/// Adds why nothing can go on, where that is plain: a ring of those that wait, that more in the stimulus is all that is
+/// missing, or that nothing waits, so that a `halt` is left.
 fn add_why_still(text: &mut Text, scene: &Scene<'_>, waiting: &Waiting) {
     if !waiting.ring.is_empty() {
         text.add(b": a deadlock\n  each waits for the next, in a ring\n");
     } else if waiting.lacks_input(scene.machine()) {
         text.add(b": the stimulus is used up\n");
+    } else if waiting.actions.is_empty() {
+        text.add(b": only a `halt` is left\n");
     } else {
         text.add(b"\n");
     }

@@ -13,14 +13,33 @@ pub fn written_text(alloc: Global, name: &str, count: u64) -> Text {
     let mut text = Text::new(alloc);
     add_given(&mut text, name.as_bytes());
     text.add_counted(b", ", count, b" bytes\n");
+    add_odd_name(&mut text, name.as_bytes());
     text
 }
 
-/// How many steps were loaded.
-pub fn loaded_text(alloc: Global, count: u64) -> Text {
+/// Adds what is to be known of a name that is hardly meant so: one in quotes, or with the mark of a word that writes over a
+/// file.
+fn add_odd_name(text: &mut Text, name: &[u8]) {
+    if is_within(name, b"\"") || is_within(name, b"'") {
+        text.add(b"  the quotes are part of the name, which needs none\n");
+    } else if name.starts_with(b"!") || name.ends_with(b"!") {
+        text.add(b"  the `!` is part of the name; `save! NAME` writes over a file\n");
+    }
+}
+
+/// Whether the name stands between two of these.
+fn is_within(name: &[u8], quote: &[u8]) -> bool {
+    name.starts_with(quote) && name.ends_with(quote)
+}
+
+/// How many steps were loaded, and in place of how many.
+pub fn loaded_text(alloc: Global, count: u64, before: u64) -> Text {
     let mut text = Text::new(alloc);
     text.add_number(count);
     text.add(steps_word(count));
+    if before > 0 {
+        text.add_counted(b", in place of ", before, b"");
+    }
     text.add(b"\n");
     text
 }
@@ -40,6 +59,7 @@ pub fn file_fault_text(alloc: Global, name: &str, fault: FileFault, word: Word) 
         FileFault::Exists => add_exists(&mut text, name, word),
         _ => text.add(fault_words(fault)),
     }
+    add_odd_name(&mut text, name.as_bytes());
     text
 }
 

@@ -23,7 +23,7 @@ pub fn greeting(scene: &Scene<'_>) -> Text {
         Err(_) => text.add(b"\n"),
     }
     add_live(&mut text, scene);
-    text.add(b"`help` lists what you can type.\n");
+    text.add(b"`ready` lists what can be stepped, `run` takes steps, `help` lists all words.\n");
     text
 }
 
@@ -108,6 +108,6 @@ fn add_live(text: &mut Text, scene: &Scene<'_>) {
         text.add(steps_word(live));
         text.add(b" of the trace ");
         text.add(if live == 1 { b"is" } else { b"are" });
-        text.add(b" taken. ");
+        text.add(b" taken.\n");
     }
 }

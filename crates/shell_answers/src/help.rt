@@ -3,6 +3,7 @@ use crate::Scene;
 use crate::mistakes::add_unknown_word;
 use crate::terms::term_of;
 use crate::usage::{Usage, usage_of};
+use line_text::cut_at_space;
 use plain_words::Text;
 
 /// All words.
@@ -28,19 +29,21 @@ const SCREEN: &[u8] = b"  ready, r       number the steps that can be taken; a b
   script NAME    the lines so far to a new file; save! and script! write over
   help WORD      more of one word, with an example
   help notions   names the notions of the answers, as held: help held tells it
-  quit           end; what was saved stays
+  quit           end, as Ctrl-D and Ctrl-C do; what was saved stays
 ";
 
-/// Adds help on all words, or on the one that `rest` names.
+/// Adds help on all words, or on the one that `rest` names or begins with.
 pub(crate) fn add_help(text: &mut Text, scene: &Scene<'_>, rest: &[u8]) {
     let word = rest.strip_prefix(b" ").unwrap_or(b"");
     if word.is_empty() {
         return text.add(SCREEN);
     }
-    match (usage_of(word), term_of(word)) {
-        (Some(usage), _) => add_word(text, &usage),
-        (None, Some(term)) => term.add_to(text),
-        (None, None) => add_unknown_word(text, scene.alloc, word, b""),
+    let (first, _) = cut_at_space(word);
+    match (usage_of(word), term_of(word), usage_of(first)) {
+        (Some(usage), _, _) => add_word(text, &usage),
+        (None, Some(term), _) => term.add_to(text),
+        (None, None, Some(usage)) => add_word(text, &usage),
+        (None, None, None) => add_unknown_word(text, scene.alloc, word, b""),
     }
 }
 

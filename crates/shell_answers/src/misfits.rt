@@ -1,5 +1,6 @@
 // What stands behind a word and does not fit there.
 use crate::names::add_given;
+use line_text::cut_at_space;
 use plain_words::Text;
 
 /// How a number is written in the form of a word.
@@ -15,10 +16,33 @@ pub(crate) fn add_unfit(text: &mut Text, word: &str, operand: &str, rest: &[u8])
             add_not_behind(text, word);
             add_no_number(text, word, field);
         }
-        _ => {
-            text.add(b"that");
-            add_not_behind(text, word);
-        }
+        _ => match last_of_two(rest) {
+            Some(field) if is_number_due(operand) => add_too_much(text, word, field),
+            _ => {
+                text.add(b"that");
+                add_not_behind(text, word);
+            }
+        },
+    }
+}
+
+/// Adds that only one number stands behind the word.
+fn add_too_much(text: &mut Text, word: &str, field: &[u8]) {
+    text.add(b"`");
+    add_given(text, field);
+    text.add(b"` is too much: one number stands behind `");
+    text.add(word.as_bytes());
+    text.add(b"`");
+}
+
+/// The second of two fields, of which the first is a number.
+fn last_of_two(rest: &[u8]) -> Option<&[u8]> {
+    let fields = rest.strip_prefix(b" ")?;
+    let (first, second) = cut_at_space(fields);
+    if is_number(first) {
+        one_field(second)
+    } else {
+        None
     }
 }
 
@@ -29,8 +53,8 @@ fn add_not_behind(text: &mut Text, word: &str) {
     text.add(b"`");
 }
 
-/// Adds why the field is no number that the word takes.
-fn add_no_number(text: &mut Text, word: &str, field: &[u8]) {
+/// Adds why the field is no number that the word takes; as a bare one where that is empty.
+pub(crate) fn add_no_number(text: &mut Text, word: &str, field: &[u8]) {
     if is_number(field.strip_prefix(b"-").unwrap_or(b"")) {
         text.add(b": it is less than 0");
     } else if !is_number(field) {

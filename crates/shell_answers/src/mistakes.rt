@@ -1,6 +1,6 @@
 // Lines that say nothing here.
 use crate::Scene;
-use crate::misfits::{is_number, one_field};
+use crate::misfits::{add_no_number, is_number, one_field};
 use crate::names::{add_given, add_unknown_name};
 use crate::program_words::{add_program_word, program_word};
 use crate::steps::add_newest_of;
@@ -17,6 +17,8 @@ pub fn mistake_text(scene: &Scene<'_>, line: &[u8]) -> Text {
     let (word, rest) = cut_at_space(line);
     if is_number(word) && !rest.is_empty() {
         add_number_alone(&mut text, word);
+    } else if begins_as_number(word) {
+        add_no_step_number(&mut text, word);
     } else if usage_of(word).is_none() {
         add_unknown_word(&mut text, scene.alloc, word, rest);
     } else if word == b"step".as_slice() && read_ticket(rest).is_some() {
@@ -47,6 +49,24 @@ fn add_number_alone(text: &mut Text, number: &[u8]) {
     text.add(b"  the number of a step in `ready` is typed alone, as `");
     add_given(text, number);
     text.add(b"`\n");
+}
+
+/// Whether the word begins as a number does.
+fn begins_as_number(word: &[u8]) -> bool {
+    match word {
+        [b'-', digit, ..] => digit.is_ascii_digit(),
+        [digit, ..] => digit.is_ascii_digit(),
+        [] => false,
+    }
+}
+
+/// Adds why the word is no number of a step.
+fn add_no_step_number(text: &mut Text, word: &[u8]) {
+    text.add(b"  `");
+    add_given(text, word);
+    text.add(b"` is no step's number");
+    add_no_number(text, "", word);
+    text.add(b"\n  a number alone takes the step that `ready` lists with it, as `1`\n");
 }
 
 /// Adds that a place is wanted, and that a number is typed alone.
@@ -94,7 +114,7 @@ struct Usual {
 }
 
 /// What people type who know other debuggers.
-const USUALS: [Usual; 15] = [
+const USUALS: [Usual; 24] = [
     Usual {
         given: "exit",
         word: "quit",
@@ -154,6 +174,42 @@ const USUALS: [Usual; 15] = [
     Usual {
         given: "redo",
         word: "ready",
+    },
+    Usual {
+        given: "s",
+        word: "n",
+    },
+    Usual {
+        given: "stop",
+        word: "break",
+    },
+    Usual {
+        given: "delete",
+        word: "clear",
+    },
+    Usual {
+        given: "restart",
+        word: "back 65536",
+    },
+    Usual {
+        given: "reset",
+        word: "back 65536",
+    },
+    Usual {
+        given: "where",
+        word: "list",
+    },
+    Usual {
+        given: "bt",
+        word: "why",
+    },
+    Usual {
+        given: "backtrace",
+        word: "why",
+    },
+    Usual {
+        given: "info",
+        word: "vars",
     },
 ];
 

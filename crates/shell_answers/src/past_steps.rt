@@ -6,6 +6,12 @@ use plain_words::{Text, add_value};
 use runs::Event;
 use std::alloc::AllocError;
 
+/// Of a past of more steps than so many the first and the last are told.
+const MOST_TOLD: usize = 60;
+
+/// So many of them each.
+const TOLD_AT_ENDS: usize = 20;
+
 /// What a variable had at some moment of the run, and the ticket of the step that wrote it. Before the first it has 0.
 #[derive(Clone, Copy)]
 struct Written {
@@ -22,16 +28,46 @@ pub(crate) fn add_past(text: &mut Text, scene: &Scene<'_>, past: &Past, subject:
     let mut next: usize = 0;
     for (ticket, event) in scene.machine().live_events().iter() {
         if let Some(one) = told_at(told, next, ticket) {
-            text.add(b"  ");
-            add_step(text, scene, ticket);
-            add_reads(text, scene, b", from ", event, written.as_slice());
-            add_causes(text, scene, one, event, written.as_slice());
-            text.add(b"\n");
+            if is_shown(next, told.len()) {
+                add_past_step(text, scene, one, event, written.as_slice());
+            } else if next == TOLD_AT_ENDS {
+                add_passed(text, told.len());
+            }
             next = next.saturating_add(1);
         }
         note(written.as_mut_slice(), ticket, event);
     }
     add_left_out(text, past.left_out as u64, subject);
+}
+
+/// Whether the step of this index is told, of so many.
+fn is_shown(index: usize, count: usize) -> bool {
+    count <= MOST_TOLD || index < TOLD_AT_ENDS || index >= count.saturating_sub(TOLD_AT_ENDS)
+}
+
+/// Adds how many of so many steps are passed over.
+fn add_passed(text: &mut Text, count: usize) {
+    let passed = count.saturating_sub(2 * TOLD_AT_ENDS) as u64;
+    text.add_counted(
+        b"  .. ",
+        passed,
+        b" more steps; `save T`, then ask `balsadbg why FILE STIMULUS T X`\n",
+    );
+}
+
+/// Adds a line with the step, what it read, and its nearest causes.
+fn add_past_step(
+    text: &mut Text,
+    scene: &Scene<'_>,
+    one: &PastEvent,
+    event: &Event,
+    written: &[Written],
+) {
+    text.add(b"  ");
+    add_step(text, scene, one.ticket);
+    add_reads(text, scene, b", from ", event, written);
+    add_causes(text, scene, one, event, written);
+    text.add(b"\n");
 }
 
 /// Adds a line with what the live step of this ticket read, if it read anything.

@@ -2,7 +2,9 @@
 use crate::Scene;
 use crate::names::add_plain;
 use crate::steps::add_numbers;
+use machine::Machine;
 use plain_words::Text;
+use runs::Event;
 use source_view::view;
 use waiting::{Waiting, who_waits};
 
@@ -29,7 +31,47 @@ pub(crate) fn add_lines(text: &mut Text, scene: &Scene<'_>, line: Option<u64>) {
         None if count <= SHORT => add_rows(text, shown.as_slice(), 1, count),
         None => add_around(text, shown.as_slice(), newest_line(scene)),
     }
+    add_sending_lines(text, scene);
     add_waiting_lines(text, scene);
+}
+
+/// Adds on which lines something can be sent that the environment takes: no mark is on them for it.
+fn add_sending_lines(text: &mut Text, scene: &Scene<'_>) {
+    let lines = sending_lines(scene);
+    if !lines.is_empty() {
+        text.add(if lines.len() == 1 {
+            b"  line "
+        } else {
+            b"  lines "
+        });
+        add_numbers(text, lines.as_slice());
+        text.add(b" can send to an output port now\n");
+    }
+}
+
+/// The lines of what can meet the environment and is stepped there, each once; fewer without memory.
+fn sending_lines(scene: &Scene<'_>) -> Vec<u64> {
+    let mut lines = Vec::new(scene.alloc);
+    let Ok(events) = scene.machine().ready() else {
+        return lines;
+    };
+    for event in events.as_slice() {
+        if let Some(line) = sending_line(scene, event) {
+            if !lines.contains(&line) {
+                let _ = lines.push(line);
+            }
+        }
+    }
+    lines
+}
+
+/// The line of what meets the environment in the event, where it is stepped there.
+fn sending_line(scene: &Scene<'_>, event: &Event) -> Option<u64> {
+    let machine = scene.machine();
+    match machine.line(event.acting_place()) {
+        Some(_) => None,
+        None => machine.line(&event.first),
+    }
 }
 
 /// Adds on which lines something waits, where nothing can go on.
@@ -85,7 +127,7 @@ fn newest_line(scene: &Scene<'_>) -> u64 {
     let machine = scene.machine();
     let last = (machine.live_events().len() as u64).saturating_sub(1);
     let line = match machine.live_at(last) {
-        Some((_, event)) => machine.line(event.acting_place()),
+        Some((_, event)) => line_of(machine, event),
         None => None,
     };
     match line {
@@ -98,11 +140,18 @@ fn newest_line(scene: &Scene<'_>) -> u64 {
 fn ready_line(scene: &Scene<'_>) -> Option<u64> {
     let events = scene.machine().ready().ok()?;
     for event in events.as_slice() {
-        if let Some(line) = scene.machine().line(event.acting_place()) {
+        if let Some(line) = line_of(scene.machine(), event) {
             return Some(line);
         }
     }
     None
+}
+
+/// The line on which the event is stepped, and of what the environment takes that of the sender.
+fn line_of(machine: &Machine, event: &Event) -> Option<u64> {
+    machine
+        .line(event.acting_place())
+        .or(machine.line(&event.first))
 }
 
 /// Adds the lines around this one.

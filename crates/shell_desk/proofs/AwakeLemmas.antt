@@ -45,22 +45,22 @@ first-round : (count : ℕ) (last : Option ℕ) → round count (first_of count 
 first-round count None = zero-round count
 first-round count (Some k) = next-round count k
 
-is-round : (b : AtBench) (count first : ℕ) → first ≡ first_of count b.branch → round count first ≡ first
-is-round b count first q = ap (round count) q ∙ (first-round count b.branch ∙ sym q)
+is-round : (b : AtBench) (count first : ℕ) → first ≡ first_of count b.turn → round count first ≡ first
+is-round b count first q = ap (round count) q ∙ (first-round count b.turn ∙ sym q)
 
 module _ (ends : Ends) where
   -- each branch that is awake once, from the one behind that which was stepped last
-  abbrev pub AwakeTurn : AtBench → List Bool → Reply → AtBench → List Bool → Type 0
+  abbrev pub AwakeTurn : AtBench → List ℕ → Reply → AtBench → List ℕ → Type 0
   AwakeTurn b asleep reply b' asleep' =
       let count = branch_count b.desk.machine.checked in
-      AwakeInTurn ends count b asleep count (first_of count b.branch) reply b' asleep'
+      AwakeInTurn ends count b asleep count (first_of count b.turn) reply b' asleep'
 
   -- a turn with so many left from this branch
-  abbrev Left : ℕ → AtBench → List Bool → ℕ → ℕ → Reply → AtBench → List Bool → Type 0
+  abbrev Left : ℕ → AtBench → List ℕ → ℕ → ℕ → Reply → AtBench → List ℕ → Type 0
   Left count b asleep left n reply b' asleep' = AwakeInTurn ends count b asleep left (round count n) reply b' asleep'
 
   -- those that sleep are passed over
-  pass-all : (count : ℕ) (b : AtBench) (asleep : List Bool) (from d rest : ℕ) (reply : Reply) (b' : AtBench) (asleep' : List Bool)
+  pass-all : (count : ℕ) (b : AtBench) (asleep : List ℕ) (from d rest : ℕ) (reply : Reply) (b' : AtBench) (asleep' : List ℕ)
       → from + d ≤ count → ((i : ℕ) → from ≤ i → i < from + d → IsAsleep asleep i)
       → Left count b asleep rest (from + d) reply b' asleep' → Left count b asleep (rest + d) from reply b' asleep'
   pass-all count b asleep from zero rest reply b' asleep' inside sleep h =
@@ -85,7 +85,7 @@ module _ (ends : Ends) where
       )))
 
   -- the same up to a branch
-  pass-to : (count : ℕ) (b : AtBench) (asleep : List Bool) (from next to rest : ℕ) (reply : Reply) (b' : AtBench) (asleep' : List Bool)
+  pass-to : (count : ℕ) (b : AtBench) (asleep : List ℕ) (from next to rest : ℕ) (reply : Reply) (b' : AtBench) (asleep' : List ℕ)
       → from ≤ next → next ≤ to → to ≤ count → AllSleep asleep from next
       → Left count b asleep (rest + (to - next)) next reply b' asleep'
       → Left count b asleep (rest + (to - from)) from reply b' asleep'
@@ -99,7 +99,7 @@ module _ (ends : Ends) where
       (subst (λ (n : ℕ). Left count b asleep (rest + (to - next)) n reply b' asleep') (sym there) h))
 
   -- none of those between is awake
-  pub between-none : (from to : ℕ) (b : AtBench) (asleep : List Bool) → from ≤ to → AllSleep asleep from to
+  pub between-none : (from to : ℕ) (b : AtBench) (asleep : List ℕ) → from ≤ to → AllSleep asleep from to
       → AsksBetween ends from to b asleep None b asleep
   between-none from to b asleep low sleep count rest reply b' asleep' inside h =
       let same : to ≤ to = omega arith in
@@ -108,7 +108,7 @@ module _ (ends : Ends) where
       (subst (λ (n : ℕ). Left count b asleep n to reply b' asleep') left h)
 
   -- one is awake, and has a step or is refused
-  pub between-ends : (from next to : ℕ) (b m : AtBench) (asleep s : List Bool) (r : Reply) → from ≤ next → next < to
+  pub between-ends : (from next to : ℕ) (b m : AtBench) (asleep s : List ℕ) (r : Reply) → from ≤ next → next < to
       → AllSleep asleep from next → Asked b (Command.Branch next) r m → SleepsBehind ends m.desk.machine next r asleep s
       → is_busy r ≡ true → AsksBetween ends from to b asleep (Some r) m s
   between-ends from next to b m asleep s r low less sleep asked behind busy count rest inside =
@@ -121,7 +121,7 @@ module _ (ends : Ends) where
       (inr (r, m, s, asked, behind, by-true _ (is_busy r) busy (refl, refl, refl)))))
 
   -- one is awake and idle
-  one-more : (count from next to rest : ℕ) (b m b' : AtBench) (asleep s asleep' : List Bool) (r reply : Reply) → from ≤ next → next < to
+  one-more : (count from next to rest : ℕ) (b m b' : AtBench) (asleep s asleep' : List ℕ) (r reply : Reply) → from ≤ next → next < to
       → to ≤ count → AllSleep asleep from next → Asked b (Command.Branch next) r m
       → SleepsBehind ends m.desk.machine next r asleep s → is_busy r ≡ false
       → Left count m s (rest + (to - (next + 1))) (next + 1) reply b' asleep'
@@ -136,7 +136,7 @@ module _ (ends : Ends) where
       (sym (round-in count next more)) (inr (r, m, s, asked, behind, by-false _ (is_busy r) idle h))))
 
   -- one is awake and idle, and then those behind it
-  pub between-goes-on : (from next to : ℕ) (b m b'' : AtBench) (asleep s s'' : List Bool) (r : Reply) (told : Option Reply)
+  pub between-goes-on : (from next to : ℕ) (b m b'' : AtBench) (asleep s s'' : List ℕ) (r : Reply) (told : Option Reply)
       → from ≤ next → next < to → AllSleep asleep from next → Asked b (Command.Branch next) r m
       → SleepsBehind ends m.desk.machine next r asleep s → is_busy r ≡ false → AsksBetween ends (next + 1) to m s told b'' s''
       → AsksBetween ends from to b asleep told b'' s''
@@ -149,17 +149,17 @@ module _ (ends : Ends) where
       one-more count from next to rest b m b'' asleep s s'' r told low less inside sleep asked behind idle (h count rest inside)
 
   -- two stretches of branches are all of them, from the one whose turn it is
-  turn-of : (b : AtBench) (asleep : List Bool) (count first : ℕ) (reply : Reply) (b' : AtBench) (asleep' : List Bool)
-      → count ≡ branch_count b.desk.machine.checked → first ≡ first_of count b.branch → round count first ≡ first → first ≤ count
+  turn-of : (b : AtBench) (asleep : List ℕ) (count first : ℕ) (reply : Reply) (b' : AtBench) (asleep' : List ℕ)
+      → count ≡ branch_count b.desk.machine.checked → first ≡ first_of count b.turn → round count first ≡ first → first ≤ count
       → Left count b asleep (first + (count - first)) first reply b' asleep' → AwakeTurn b asleep reply b' asleep'
   turn-of b asleep count first reply b' asleep' p q at inside h =
       let all : first + (count - first) ≡ count = omega arith in
-      subst (λ (n : ℕ). AwakeInTurn ends n b asleep n (first_of n b.branch) reply b' asleep') p
+      subst (λ (n : ℕ). AwakeInTurn ends n b asleep n (first_of n b.turn) reply b' asleep') p
       (subst (λ (k : ℕ). AwakeInTurn ends count b asleep count k reply b' asleep') (at ∙ q)
       (subst (λ (m : ℕ). AwakeInTurn ends count b asleep m (round count first) reply b' asleep') all h))
 
   -- the second stretch stands behind the last branch
-  behind-last : (count first : ℕ) (b : AtBench) (asleep : List Bool) (reply : Reply) (b' : AtBench) (asleep' : List Bool) → first ≤ count
+  behind-last : (count first : ℕ) (b : AtBench) (asleep : List ℕ) (reply : Reply) (b' : AtBench) (asleep' : List ℕ) → first ≤ count
       → Left count b asleep (0 + (first - 0)) 0 reply b' asleep' → Left count b asleep first count reply b' asleep'
   behind-last count first b asleep reply b' asleep' inside h =
       let left : 0 + (first - 0) ≡ first = omega arith in
@@ -169,15 +169,15 @@ module _ (ends : Ends) where
       (subst (λ (n : ℕ). Left count b asleep n 0 reply b' asleep') left h)
 
   -- the turn ends in the first stretch
-  pub turn-first : (b m : AtBench) (asleep s : List Bool) (count first : ℕ) (r : Reply) → count ≡ branch_count b.desk.machine.checked
-      → first ≡ first_of count b.branch → first ≤ count → AsksBetween ends first count b asleep (Some r) m s → AwakeTurn b asleep r m s
+  pub turn-first : (b m : AtBench) (asleep s : List ℕ) (count first : ℕ) (r : Reply) → count ≡ branch_count b.desk.machine.checked
+      → first ≡ first_of count b.turn → first ≤ count → AsksBetween ends first count b asleep (Some r) m s → AwakeTurn b asleep r m s
   turn-first b m asleep s count first r p q inside h =
       let whole : count ≤ count = omega arith in
       turn-of b asleep count first r m s p q (is-round b count first q) inside (h count first whole)
 
   -- or in the second
-  pub turn-second : (b m n : AtBench) (asleep s u : List Bool) (count first : ℕ) (r : Reply) → count ≡ branch_count b.desk.machine.checked
-      → first ≡ first_of count b.branch → first ≤ count → AsksBetween ends first count b asleep None m s
+  pub turn-second : (b m n : AtBench) (asleep s u : List ℕ) (count first : ℕ) (r : Reply) → count ≡ branch_count b.desk.machine.checked
+      → first ≡ first_of count b.turn → first ≤ count → AsksBetween ends first count b asleep None m s
       → AsksBetween ends 0 first m s (Some r) n u → AwakeTurn b asleep r n u
   turn-second b m n asleep s u count first r p q inside one two =
       let whole : count ≤ count = omega arith in
@@ -185,8 +185,8 @@ module _ (ends : Ends) where
       (one count first r n u whole (behind-last count first m s r n u inside (two count 0 inside)))
 
   -- or nobody has a step
-  pub turn-none : (b m n : AtBench) (asleep s u : List Bool) (count first : ℕ) → count ≡ branch_count b.desk.machine.checked
-      → first ≡ first_of count b.branch → first ≤ count → AsksBetween ends first count b asleep None m s
+  pub turn-none : (b m n : AtBench) (asleep s u : List ℕ) (count first : ℕ) → count ≡ branch_count b.desk.machine.checked
+      → first ≡ first_of count b.turn → first ≤ count → AsksBetween ends first count b asleep None m s
       → AsksBetween ends 0 first m s None n u → AwakeTurn b asleep Reply.Idle n u
   turn-none b m n asleep s u count first p q inside one two =
       let whole : count ≤ count = omega arith in

@@ -54,11 +54,11 @@ by-cases P Q true h f g = f h
 by-cases P Q false h f g = g h
 
 -- all branches are left at first
-pub turn-begins : (b : AtBench) (count first : ℕ) → count ≡ branch_count b.desk.machine.checked → first ≡ first_of count b.branch
+pub turn-begins : (b : AtBench) (count first : ℕ) → count ≡ branch_count b.desk.machine.checked → first ≡ first_of count b.turn
     → (reply : Reply) (b' : AtBench) → InTurn count b (count - 0) first reply b' → OneTurn b reply b'
 turn-begins b count first p q reply b' h =
     let all : count - 0 ≡ count = omega arith in
-    subst (λ (n : ℕ). InTurn n b n (first_of n b.branch) reply b') p
+    subst (λ (n : ℕ). InTurn n b n (first_of n b.turn) reply b') p
     (subst (λ (k : ℕ). InTurn count b count k reply b') q
     (subst (λ (m : ℕ). InTurn count b m first reply b') all h))
 
@@ -224,7 +224,7 @@ runs-leave : (session left : ℕ) (b b' : AtBench) (end : End) → b.session ≡
 runs-leave session zero b b' end same h = still session b b' h.1
 runs-leave session (suc left) b b' end same h =
     turn-leaves session (branch_count b.desk.machine.checked) (branch_count b.desk.machine.checked)
-    (first_of (branch_count b.desk.machine.checked) b.branch) b h.1 b' h.0 same h.2
+    (first_of (branch_count b.desk.machine.checked) b.turn) b h.1 b' h.0 same h.2
     (λ same'. by-cases ((end ≡ end_of h.0) × (b' ≡ h.1)) (Runs h.1 left end b') (ends_run h.0) h.3
     (λ done. still session h.1 b' done.1)
     (λ more. runs-leave session left h.1 b' end same' more))
@@ -236,7 +236,7 @@ runs-past-leave session line zero b b' end same h = still session b b' h.1
 runs-past-leave session line (suc left) b b' end same (r, c, d, m, (r1, cleared), turn, (r2, set), rest) =
     asked-then session b c b' (Command.Clear line) r1 same cleared
     (turn-leaves session (branch_count c.desk.machine.checked) (branch_count c.desk.machine.checked)
-    (first_of (branch_count c.desk.machine.checked) c.branch) c d b' r (cleared.1 ∙ same) turn
+    (first_of (branch_count c.desk.machine.checked) c.turn) c d b' r (cleared.1 ∙ same) turn
     (λ same'. asked-then session d m b' (Command.Break line) r2 same' set
     (by-cases ((end ≡ end_of r) × (b' ≡ m)) (Runs m left end b') (ends_run r) rest
     (λ done. still session m b' done.1)

@@ -14,7 +14,7 @@ use Rattle.locked_execution.specs.Performs.{Answers, MayWantMemory, OnExecution,
 use Rattle.locked_execution.specs.declared.command.Command.{Command}
 use Rattle.locked_execution.specs.declared.command.Reply.{Reply}
 use Rattle.shell_desk.specs.AtBench.{AtBench}
-use Rattle.shell_desk.specs.Does.{Asked, branch_behind, numbers_behind, stopped_behind}
+use Rattle.shell_desk.specs.Does.{Asked, branch_behind, numbers_behind, stopped_behind, turn_behind}
 use Rattle.shell_desk.specs.internal.Numbering.{IsTold, given_or, is_list, numbers_of}
 
 -- ---- a list is refused in its place
@@ -130,11 +130,12 @@ made-behind (Reply.Refused why) before = refl
 pub asked-noted : (b b' : AtBench) (d : AtDesk) (c : Command) (r : Reply) (numbers : Option (List Command))
     → Answers b.desk b.session c r d → d.machine.checked ≡ b.desk.machine.checked → numbers ≡ numbers_of r → b'.desk ≡ d
     → b'.session ≡ b.session → b'.numbered ≡ given_or numbers b.numbered
-    → b'.branch ≡ branch_behind d.machine.checked r b.branch → b'.stopped ≡ stopped_behind r b.stopped → Asked b c r b'
-asked-noted b b' d c r numbers answers system are desk session numbered branch stopped = (
+    → b'.turn ≡ turn_behind d.machine.checked r b.turn → b'.branch ≡ branch_behind d.machine.checked r b.branch → b'.stopped ≡ stopped_behind r b.stopped → Asked b c r b'
+asked-noted b b' d c r numbers answers system are desk session numbered turn branch stopped = (
   subst (λ (x : AtDesk). Answers b.desk b.session c r x) (sym desk) answers,
   session,
   numbered ∙ ap (λ (o : Option (List Command)). given_or o b.numbered) are ∙ made-behind r b.numbered,
+  turn ∙ ap (λ (s : Checked). turn_behind s r b.turn) system,
   branch ∙ ap (λ (s : Checked). branch_behind s r b.branch) system,
   stopped,
 )

@@ -81,7 +81,7 @@ asked-idle b k good rests =
     let none : in_branch b.desk.machine k ready.0 ≡ [] =
     filter-none (acts_in b.desk.machine k) ready.0
     (λ x i on. rests T reaches x ((ready.1.exactly x).0 i) (branch-is k (branch_at b.desk.machine.checked (acting x)) on)) in
-    (inl (BranchReply.Idle, refl, (T, ready.0, reaches, ready.1, (none, refl)), refl, refl), refl, refl, refl, refl)
+    (inl (BranchReply.Idle, refl, (T, ready.0, reaches, ready.1, (none, refl)), refl, refl), refl, refl, refl, refl, refl)
 
 -- where the machine is the same, a branch still has none
 rests-same : (b m : AtBench) (k : ℕ) → m.desk.machine ≡ b.desk.machine → Rests b k → Rests m k
@@ -115,7 +115,7 @@ rests-stepped law ends b h' e k good are system more passes rests T reaches =
 -- ---- one command
 module _ (law : StaysIdle) (ends : Ends) where
   -- where nothing changed
-  unmoved : (b m : AtBench) (asleep s : List Bool) → m.desk.machine ≡ b.desk.machine
+  unmoved : (b m : AtBench) (asleep s : List ℕ) → m.desk.machine ≡ b.desk.machine
       → ((i : ℕ) → IsAsleep s i → IsAsleep asleep i) → Resting ends b asleep → Resting ends m s
   unmoved b m asleep s same only (are, rests) = (
     subst (λ (h : AtMachine). AreEnds h.checked ends) (sym same) are,
@@ -123,7 +123,7 @@ module _ (law : StaysIdle) (ends : Ends) where
   )
 
   -- a reply to a step of a branch, and who sleeps behind it
-  rests-behind : (b m : AtBench) (k : ℕ) (answer : BranchReply) (asleep s : List Bool) → Good b
+  rests-behind : (b m : AtBench) (k : ℕ) (answer : BranchReply) (asleep s : List ℕ) → Good b
       → StepsBranch b.desk.machine k (breaks_of b.desk b.session) answer m.desk.machine → m.desk.machine.checked ≡ b.desk.machine.checked
       → SleepsBehind ends m.desk.machine k (branch_reply answer) asleep s → Resting ends b asleep → Resting ends m s
   rests-behind b m k (BranchReply.Stepped t e) asleep s good (T, es, reaches, ready, (free, steps)) system behind (are, rests) = (
@@ -145,19 +145,19 @@ module _ (law : StaysIdle) (ends : Ends) where
       unmoved b m asleep s same behind resting
 
   -- the same of what is asked
-  pub rests-on : (b m : AtBench) (k : ℕ) (r : Reply) (asleep s : List Bool) → Good b → Asked b (Command.Branch k) r m
+  pub rests-on : (b m : AtBench) (k : ℕ) (r : Reply) (asleep s : List ℕ) → Good b → Asked b (Command.Branch k) r m
       → SleepsBehind ends m.desk.machine k r asleep s → Resting ends b asleep → Resting ends m s
-  rests-on b m k r asleep s good (inl (answer, is, steps, system, breaks), _, _, _, _) behind resting =
+  rests-on b m k r asleep s good (inl (answer, is, steps, system, breaks), _, _, _, _, _) behind resting =
       rests-behind b m k answer asleep s good steps system
       (subst (λ (q : Reply). SleepsBehind ends m.desk.machine k q asleep s) is behind) resting
-  rests-on b m k r asleep s good (inr (wanted, is, same), _, _, _, _) behind resting =
+  rests-on b m k r asleep s good (inr (wanted, is, same), _, _, _, _, _) behind resting =
       unmoved b m asleep s (ap (λ (d : AtDesk). d.machine) same)
       (subst (λ (q : Reply). SleepsBehind ends m.desk.machine k q asleep s) is behind) resting
 
   -- who is idle leaves the machine
   idle-same : (b m : AtBench) (k : ℕ) (r : Reply) → is_busy r ≡ false → Asked b (Command.Branch k) r m → m.desk.machine ≡ b.desk.machine
-  idle-same b m k r idle (inr (wanted, is, same), _, _, _, _) = ap (λ (d : AtDesk). d.machine) same
-  idle-same b m k r idle (inl (answer, is, steps, system, breaks), _, _, _, _) =
+  idle-same b m k r idle (inr (wanted, is, same), _, _, _, _, _) = ap (λ (d : AtDesk). d.machine) same
+  idle-same b m k r idle (inl (answer, is, steps, system, breaks), _, _, _, _, _) =
       by-answer answer steps (sym (ap is_busy is) ∙ idle)
     where
       by-answer : (answer : BranchReply) → StepsBranch b.desk.machine k (breaks_of b.desk b.session) answer m.desk.machine
@@ -172,11 +172,11 @@ module _ (law : StaysIdle) (ends : Ends) where
       subst (λ (h : AtMachine). Sound (object h) × SharesWell h.checked) (sym same) good
 
   -- a turn of those that are awake is one of all
-  in-turn : (count left k : ℕ) (b b' : AtBench) (asleep asleep' : List Bool) (reply : Reply) → Good b → Resting ends b asleep
+  in-turn : (count left k : ℕ) (b b' : AtBench) (asleep asleep' : List ℕ) (reply : Reply) → Good b → Resting ends b asleep
       → AwakeInTurn ends count b asleep left k reply b' asleep' → InTurn count b left k reply b' × Resting ends b' asleep'
   in-turn count zero k b b' asleep asleep' reply good resting (is, same, alike) = (
     (is, same),
-    subst (λ (c : AtBench). Resting ends c asleep') (sym same) (subst (λ (s : List Bool). Resting ends b s) (sym alike) resting),
+    subst (λ (c : AtBench). Resting ends c asleep') (sym same) (subst (λ (s : List ℕ). Resting ends b s) (sym alike) resting),
   )
   in-turn count (suc left) k b b' asleep asleep' reply good resting (inl (sleeps, more)) =
       let rest = in-turn count left (next_of count k) b b' asleep asleep' reply good resting more in
@@ -196,7 +196,7 @@ module _ (law : StaysIdle) (ends : Ends) where
           × MatchBool (is_busy q) ((reply ≡ q) × (b' ≡ n)) (InTurn count n left (next_of count k) reply b')) × Resting ends b' asleep'
       by-busy true is (told, same, alike) go-on = (
         (r, m, asked, subst (λ (t : Bool). MatchBool t ((reply ≡ r) × (b' ≡ m)) (InTurn count m left (next_of count k) reply b')) (sym is) (told, same)),
-        subst (λ (c : AtBench). Resting ends c asleep') (sym same) (subst (λ (u : List Bool). Resting ends m u) (sym alike) now),
+        subst (λ (c : AtBench). Resting ends c asleep') (sym same) (subst (λ (u : List ℕ). Resting ends m u) (sym alike) now),
       )
       by-busy false is more go-on =
           let rest = go-on is more in (
@@ -204,10 +204,10 @@ module _ (law : StaysIdle) (ends : Ends) where
             rest.1,
           )
 
-  pub one-turn : (b b' : AtBench) (asleep asleep' : List Bool) (reply : Reply) → Good b → Resting ends b asleep
+  pub one-turn : (b b' : AtBench) (asleep asleep' : List ℕ) (reply : Reply) → Good b → Resting ends b asleep
       → AwakeInTurn ends (branch_count b.desk.machine.checked) b asleep (branch_count b.desk.machine.checked)
-      (first_of (branch_count b.desk.machine.checked) b.branch) reply b' asleep'
+      (first_of (branch_count b.desk.machine.checked) b.turn) reply b' asleep'
       → OneTurn b reply b' × Resting ends b' asleep'
   one-turn b b' asleep asleep' reply good resting h =
       in-turn (branch_count b.desk.machine.checked) (branch_count b.desk.machine.checked)
-      (first_of (branch_count b.desk.machine.checked) b.branch) b b' asleep asleep' reply good resting h
+      (first_of (branch_count b.desk.machine.checked) b.turn) b b' asleep asleep' reply good resting h

@@ -1,9 +1,9 @@
 -- Who sleeps, where some are woken or one falls asleep.
-use Rattle.std.proofs.Common.{◌≡◌, ◌≢◌, ◌⊎◌, inl, inr, ℕ, zero, suc, ◌+◌, ◌<◌, ◌≤◌, List, [], ◌∷◌, Bool, true, false, length, drop, get_or, Option, Some, None, refl, sym, ap, ◌∙◌, subst, arith}
-use Rattle.std.specs.Prelude.{replicate, slice_get, slice_set}
-use Rattle.std.proofs.lemmas.Bool.{cases_lt}
+use Rattle.std.proofs.Common.{◌≡◌, ◌≢◌, ◌⊎◌, inl, inr, ℕ, zero, suc, ◌+◌, ◌-◌, ◌<◌, ◌≤◌, List, [], ◌∷◌, length, drop, get_or, Option, Some, None, refl, sym, ap, ◌∙◌, subst, arith}
+use Rattle.std.specs.Prelude.{replicate, slice_set}
 use Rattle.std.proofs.lemmas.List.{drop_more, drop_all}
-use Rattle.address.specs.Places.{Before}
+use Rattle.memchr.specs.Find as find
+use Rattle.memchr.specs.Find.{is_byte}
 use Rattle.syntax.specs.Lists.{In}
 use Rattle.system.specs.declared.system.System.{System}
 use Rattle.system_places.specs.SystemBranches.{branch_at}
@@ -20,7 +20,7 @@ use Rattle.runs.proofs.public.Orders.{run-formed}
 use Rattle.runs.proofs.public.StateLaws.{reaches-one}
 use Rattle.local_actions.specs.Actions.{Offered}
 use Rattle.local_actions.specs.declared.action.LocalAction.{LocalAction}
-use Rattle.idle_branches.specs.Idle.{AreEnds, Faces, GivesWhatIsKnown, HasBehind, Passes, TouchesNoShared, given_on}
+use Rattle.idle_branches.specs.Idle.{AreEnds, Faces, GivesWhatIsKnown, HasBehind, TouchesNoShared, given_on}
 use Rattle.idle_branches.specs.declared.ends.Ends.{Ends}
 use Rattle.idle_branches.specs.internal.Known.{list_at}
 use Rattle.machine.specs.AtMachine.{AtMachine, object}
@@ -34,13 +34,14 @@ none-some x h = cc
 some-same : {X : Type 0} (x y : X) → Some x ≡ Some y → x ≡ y
 some-same x y h = cc
 
-false-true : Some false ≡ Some true → ⊥
-false-true h = cc
+-- the mark of one that is awake is that of none that is asleep
+not-marked : (mark : ℕ) → Some 0 ≡ Some (suc mark) → ⊥
+not-marked mark h = cc
 
 -- who is woken does not sleep
-pub woken : (asleep : List Bool) (k : ℕ) → SleepBut k asleep (slice_set asleep k false)
-woken [] k i h = absurd (none-some true h)
-woken (x ∷ xs) zero zero h = absurd (false-true h)
+pub woken : (asleep : List ℕ) (k : ℕ) → SleepBut k asleep (slice_set asleep k 0)
+woken [] k i (mark, h) = absurd (none-some (suc mark) h)
+woken (x ∷ xs) zero zero (mark, h) = absurd (not-marked mark h)
 woken (x ∷ xs) zero (suc i) h = (h, λ e. omega arith)
 woken (x ∷ xs) (suc k) zero h = (h, λ e. omega arith)
 woken (x ∷ xs) (suc k) (suc i) h =
@@ -48,8 +49,8 @@ woken (x ∷ xs) (suc k) (suc i) h =
     (rest.0, λ e. rest.1 (omega arith))
 
 -- nobody behind the last sleeps
-pub none-behind : (asleep : List Bool) (k : ℕ) → length asleep ≤ k → SleepBut k asleep asleep
-none-behind [] k past i h = absurd (none-some true h)
+pub none-behind : (asleep : List ℕ) (k : ℕ) → length asleep ≤ k → SleepBut k asleep asleep
+none-behind [] k past i (mark, h) = absurd (none-some (suc mark) h)
 none-behind (x ∷ xs) zero past i h = absurd (omega arith)
 none-behind (x ∷ xs) (suc k) past zero h = (h, λ e. omega arith)
 none-behind (x ∷ xs) (suc k) past (suc i) h =
@@ -57,7 +58,7 @@ none-behind (x ∷ xs) (suc k) past (suc i) h =
     (rest.0, λ e. rest.1 (omega arith))
 
 -- who falls asleep
-pub lulled : (asleep : List Bool) (k i : ℕ) → IsAsleep (slice_set asleep k true) i → IsAsleep asleep i ⊎ (i ≡ k)
+pub lulled : (asleep : List ℕ) (k i : ℕ) → IsAsleep (slice_set asleep k 1) i → IsAsleep asleep i ⊎ (i ≡ k)
 lulled [] k i h = inl h
 lulled (x ∷ xs) zero zero h = inr refl
 lulled (x ∷ xs) zero (suc i) h = inl h
@@ -65,22 +66,22 @@ lulled (x ∷ xs) (suc k) zero h = inl h
 lulled (x ∷ xs) (suc k) (suc i) h = elim (lulled xs k i h) [ inl old ↦ inl old | inr e ↦ inr (ap suc e) ]
 
 -- all are awake
-pub all-awake : (n : ℕ) → NoneSleeps (replicate n false)
-all-awake zero k h = none-some true h
-all-awake (suc n) zero h = false-true h
+pub all-awake : (n : ℕ) → NoneSleeps (replicate n 0)
+all-awake zero k (mark, h) = none-some (suc mark) h
+all-awake (suc n) zero (mark, h) = not-marked mark h
 all-awake (suc n) (suc k) h = all-awake n k h
 
-pub awake-of : (xs : List Bool) (n : ℕ) → xs ≡ replicate n false → NoneSleeps xs
-awake-of xs n e = subst (λ (ys : List Bool). NoneSleeps ys) (sym e) (all-awake n)
+pub awake-of : (xs : List ℕ) (n : ℕ) → xs ≡ replicate n 0 → NoneSleeps xs
+awake-of xs n e = subst (λ (ys : List ℕ). NoneSleeps ys) (sym e) (all-awake n)
 
 -- ---- one after another is woken
-abbrev Kept : (List ℕ) → (List ℕ) → List Bool → List Bool → Type 0
+abbrev Kept : (List ℕ) → (List ℕ) → List ℕ → List ℕ → Type 0
 Kept all rest before after = (i : ℕ) → IsAsleep after i → IsAsleep before i × (In i all → In i rest)
 
-pub each-begins : (all : List ℕ) (asleep : List Bool) → Kept all (drop 0 all) asleep asleep
+pub each-begins : (all : List ℕ) (asleep : List ℕ) → Kept all (drop 0 all) asleep asleep
 each-begins all asleep i h = (h, λ among. among)
 
-pub each-more : (all : List ℕ) (n x : ℕ) (before between after : List Bool) → n < length all → x ≡ get_or all n 0
+pub each-more : (all : List ℕ) (n x : ℕ) (before between after : List ℕ) → n < length all → x ≡ get_or all n 0
     → Kept all (drop n all) before between → SleepBut x between after → Kept all (drop (n + 1) all) before after
 each-more all n x before between after less is kept but i h =
     let one : IsAsleep between i × (i ≢ x) = but i h in
@@ -92,21 +93,21 @@ each-more all n x before between after less is kept but i h =
       ],
     )
 
-pub each-ends : (all : List ℕ) (n : ℕ) (before after : List Bool) → length all ≤ n → Kept all (drop n all) before after
+pub each-ends : (all : List ℕ) (n : ℕ) (before after : List ℕ) → length all ≤ n → Kept all (drop n all) before after
     → SleepButThese all before after
 each-ends all n before after past kept i h =
     let old = kept i h in
     (old.0, λ among. subst (λ (rest : List ℕ). In i rest) (drop_all n all past) (old.1 among))
 
 -- ---- by one action after another
-abbrev pub KeptFaced : Ends → List LocalAction → List LocalAction → List Bool → List Bool → Type 0
+abbrev pub KeptFaced : Ends → List LocalAction → List LocalAction → List ℕ → List ℕ → Type 0
 KeptFaced ends all rest before after =
     (i : ℕ) → IsAsleep after i → IsAsleep before i × (FacedBy ends all i → FacedBy ends rest i)
 
-pub faced-begins : (ends : Ends) (all : List LocalAction) (asleep : List Bool) → KeptFaced ends all (drop 0 all) asleep asleep
+pub faced-begins : (ends : Ends) (all : List LocalAction) (asleep : List ℕ) → KeptFaced ends all (drop 0 all) asleep asleep
 faced-begins ends all asleep i h = (h, λ faced. faced)
 
-pub faced-more : (ends : Ends) (all : List LocalAction) (n : ℕ) (x : LocalAction) (before between after : List Bool) → n < length all
+pub faced-more : (ends : Ends) (all : List LocalAction) (n : ℕ) (x : LocalAction) (before between after : List ℕ) → n < length all
     → x ≡ get_or all n x → KeptFaced ends all (drop n all) before between → SleepButThese (faced_by ends x) between after
     → KeptFaced ends all (drop (n + 1) all) before after
 faced-more ends all n x before between after less is kept but i h =
@@ -122,7 +123,7 @@ faced-more ends all n x before between after less is kept but i h =
       | inr more ↦ (y, more, on)
     ]
 
-pub faced-ends : (ends : Ends) (all : List LocalAction) (n : ℕ) (before after : List Bool) → length all ≤ n
+pub faced-ends : (ends : Ends) (all : List LocalAction) (n : ℕ) (before after : List ℕ) → length all ≤ n
     → KeptFaced ends all (drop n all) before after → SleepButFaced ends all before after
 faced-ends ends all n before after past kept i h =
     let old = kept i h in (
@@ -135,17 +136,17 @@ faced-ends ends all n before after past kept i h =
 
 -- ---- at a place
 -- the branch in which it lies
-pub there-woken : (system : System) (a : Place) (j : ℕ) (before after : List Bool) → branch_at system a ≡ Some j
+pub there-woken : (system : System) (a : Place) (j : ℕ) (before after : List ℕ) → branch_at system a ≡ Some j
     → SleepBut j before after → SleepButAt system a before after
 there-woken system a j before after is but i h =
     let one = but i h in
     (one.0, λ at. one.1 (sym (some-same j i (sym is ∙ at))))
 
-pub none-there : (system : System) (a : Place) (asleep : List Bool) → branch_at system a ≡ None → SleepButAt system a asleep asleep
+pub none-there : (system : System) (a : Place) (asleep : List ℕ) → branch_at system a ≡ None → SleepButAt system a asleep asleep
 none-there system a asleep is i h = (h, λ at. none-some i (sym is ∙ at))
 
 -- those that are faced by what is offered behind it
-pub faced-woken : (ends : Ends) (h : AtMachine) (a : Place) (S : State) (offers : List LocalAction) (before after : List Bool)
+pub faced-woken : (ends : Ends) (h : AtMachine) (a : Place) (S : State) (offers : List LocalAction) (before after : List ℕ)
     → Sound (object h) → Reaches (object h) S → HasBehind S a offers → SleepButFaced ends offers before after
     → SleepButFacedAt ends h a before after
 faced-woken ends h a S offers before after sound here has woken i sleeps =
@@ -158,14 +159,14 @@ faced-woken ends h a S offers before after sound here has woken i sleeps =
         none (x, has x (subst (λ (U : State). Offered U x) same offered) behind, on)
 
 -- ---- by one channel after another
-abbrev pub KeptActing : Ends → List ℕ → List ℕ → List Bool → List Bool → Type 0
+abbrev pub KeptActing : Ends → List ℕ → List ℕ → List ℕ → List ℕ → Type 0
 KeptActing ends all rest before after =
     (i : ℕ) → IsAsleep after i → IsAsleep before i × (ActsOnOne ends all i → ActsOnOne ends rest i)
 
-pub acting-begins : (ends : Ends) (all : List ℕ) (asleep : List Bool) → KeptActing ends all (drop 0 all) asleep asleep
+pub acting-begins : (ends : Ends) (all : List ℕ) (asleep : List ℕ) → KeptActing ends all (drop 0 all) asleep asleep
 acting-begins ends all asleep i h = (h, λ acts. acts)
 
-pub acting-more : (ends : Ends) (all : List ℕ) (n x : ℕ) (before between after : List Bool) → n < length all → x ≡ get_or all n 0
+pub acting-more : (ends : Ends) (all : List ℕ) (n x : ℕ) (before between after : List ℕ) → n < length all → x ≡ get_or all n 0
     → KeptActing ends all (drop n all) before between → SleepButThese (list_at ends.used.acting.items x) between after
     → KeptActing ends all (drop (n + 1) all) before after
 acting-more ends all n x before between after less is kept but i h =
@@ -179,7 +180,7 @@ acting-more ends all n x before between after less is kept but i h =
       | inr more ↦ (c, more, on)
     ]
 
-pub acting-ends : (ends : Ends) (all : List ℕ) (n : ℕ) (before after : List Bool) → length all ≤ n
+pub acting-ends : (ends : Ends) (all : List ℕ) (n : ℕ) (before after : List ℕ) → length all ≤ n
     → KeptActing ends all (drop n all) before after → SleepButActing ends all before after
 acting-ends ends all n before after past kept i h =
     let old = kept i h in
@@ -189,7 +190,7 @@ acting-ends ends all n before after past kept i h =
     none (c, among, on) = absurd among
 
 -- what is offered behind a place is on one of the channels on which its branch gives
-pub acting-woken : GivesWhatIsKnown → (ends : Ends) (h : AtMachine) (a : Place) (channels : List ℕ) (before after : List Bool)
+pub acting-woken : GivesWhatIsKnown → (ends : Ends) (h : AtMachine) (a : Place) (channels : List ℕ) (before after : List ℕ)
     → AreGiven h.checked ends a channels → SleepButActing ends channels before after → SleepButFacedAt ends h a before after
 acting-woken law ends h a channels before after (k, is, same) woken i sleeps =
     let one = woken i sleeps in
@@ -210,12 +211,12 @@ pub state-formed : (h : AtMachine) (S : State) → Sound (object h) → Reaches 
 state-formed h S sound reaches =
     run-formed (object h).opening S (events h.live) (sound-formed (object h) sound) reaches
 
-pub faced-all-woken : (ends : Ends) (h : AtMachine) (a : Place) (before after : List Bool) → NoneSleeps after
+pub faced-all-woken : (ends : Ends) (h : AtMachine) (a : Place) (before after : List ℕ) → NoneSleeps after
     → SleepButFacedAt ends h a before after
 faced-all-woken ends h a before after none i sleeps = absurd (none i sleeps)
 
 -- both
-pub wakes-at : (ends : Ends) (h : AtMachine) (a : Place) (before between after : List Bool)
+pub wakes-at : (ends : Ends) (h : AtMachine) (a : Place) (before between after : List ℕ)
     → SleepButAt h.checked a before between → SleepButFacedAt ends h a between after
     → SleepBehindPlaces ends h (a ∷ []) before after
 wakes-at ends h a before between after one faced i sleeps =
@@ -229,15 +230,15 @@ wakes-at ends h a before between after one faced i sleeps =
       ],
     )
 
-pub event-all-woken : (ends : Ends) (h : AtMachine) (e : Event) (before after : List Bool) → NoneSleeps after
+pub event-all-woken : (ends : Ends) (h : AtMachine) (e : Event) (before after : List ℕ) → NoneSleeps after
     → SleepBehindEvent ends h e before after
 event-all-woken ends h e before after none i sleeps = absurd (none i sleeps)
 
-pub no-place : (ends : Ends) (h : AtMachine) (asleep : List Bool) → SleepBehindPlaces ends h [] asleep asleep
+pub no-place : (ends : Ends) (h : AtMachine) (asleep : List ℕ) → SleepBehindPlaces ends h [] asleep asleep
 no-place ends h asleep i sleeps = (sleeps, λ a among. absurd among)
 
 -- both sides of a step
-pub wakes-event : (ends : Ends) (h : AtMachine) (e : Event) (before between after : List Bool)
+pub wakes-event : (ends : Ends) (h : AtMachine) (e : Event) (before between after : List ℕ)
     → SleepBehindPlaces ends h (e.first ∷ []) before between → SleepBehindPlaces ends h (places_of e.second) between after
     → TouchesNoShared h.checked e → SleepBehindEvent ends h e before after
 wakes-event ends h e before between after one other unshared i sleeps =
@@ -260,19 +261,40 @@ wakes-event ends h e before between after one other unshared i sleeps =
             (at a among).faced_by_none are
             (T, x, reaches, offered, behind, subst (λ (o : Option ℕ). In i (acting_on ends o)) (sym given) acts)
 
--- one more sleeps
-pub sleeps-more : (asleep : List Bool) (from n : ℕ) → AllSleep asleep from n → IsAsleep asleep n → AllSleep asleep from (n + 1)
-sleeps-more asleep from n all here i low high = elim (cases_lt i n) [
-  | inl less ↦ all i low less
-  | inr past ↦
-      let same : n ≡ i = omega arith in subst (λ (k : ℕ). IsAsleep asleep k) same here
-]
+-- a mark that is not that of one that is awake
+marked : (xs : List ℕ) (k : ℕ) → k < length xs → (find.Passes (is_byte 0) xs k → ⊥) → IsAsleep xs k
+marked [] k less other = absurd (omega arith)
+marked (zero ∷ xs) zero less other = absurd (other refl)
+marked (suc mark ∷ xs) zero less other = (mark, refl)
+marked (x ∷ xs) (suc k) less other = marked xs k (omega arith) other
 
-pub sleeps-none : (asleep : List Bool) (from : ℕ) → AllSleep asleep from from
-sleeps-none asleep from i low high = absurd (omega arith)
+-- who is asleep among those that are left behind some
+left-asleep : (xs : List ℕ) (from k : ℕ) → IsAsleep (drop from xs) k → IsAsleep xs (from + k)
+left-asleep xs zero k h = let same : k ≡ 0 + k = omega arith in subst (λ (j : ℕ). IsAsleep xs j) same h
+left-asleep [] (suc from) k (mark, h) = absurd (none-some (suc mark) h)
+left-asleep (x ∷ xs) (suc from) k h =
+    let same : suc (from + k) ≡ suc from + k = omega arith in
+    subst (λ (j : ℕ). IsAsleep (x ∷ xs) j) same (left-asleep xs from k h)
+
+-- among those that are left, none of the first so many is awake
+pub asleep-up-to : (xs hay : List ℕ) (from n end : ℕ) → hay ≡ drop from xs → n ≤ length hay → n ≤ end
+    → find.Nowhere (find.Passes (is_byte 0) hay) 0 end → AllSleep xs from (from + n)
+asleep-up-to xs hay from n end left within less none i low high =
+    let k : ℕ = i - from in
+    let here : from + k ≡ i = omega arith in
+    let one : IsAsleep hay k = marked hay k (omega arith) (none k (omega arith) (omega arith)) in
+    subst (λ (j : ℕ). IsAsleep xs j) here (left-asleep xs from k (subst (λ (ys : List ℕ). IsAsleep ys k) left one))
+
+-- none of no branches is awake
+pub none-between : (xs : List ℕ) (from to : ℕ) → to ≤ from → AllSleep xs from to
+none-between xs from to past i low high = absurd (omega arith)
+
+-- nor is one of fewer
+pub fewer-sleep : (xs : List ℕ) (from to end : ℕ) → AllSleep xs from end → to ≤ end → AllSleep xs from to
+fewer-sleep xs from to end all less i low high = all i low (omega arith)
 
 -- behind another reply than that of a step the same sleep
-pub kept-behind : (ends : Ends) (h : AtMachine) (k : ℕ) (reply : Reply) (asleep : List Bool)
+pub kept-behind : (ends : Ends) (h : AtMachine) (k : ℕ) (reply : Reply) (asleep : List ℕ)
     → ((t : ℕ) (e : Event) → reply ≡ Reply.Stepped t e → ⊥) → SleepsBehind ends h k reply asleep asleep
 kept-behind ends h k (Reply.Stepped t e) asleep none = absurd (none t e refl)
 kept-behind ends h k (Reply.Undone t e) asleep none = λ i sleeps. sleeps

@@ -5,8 +5,8 @@ use Rattle.std.specs.Str.{bytes_eq}
 use Rattle.std.specs.Cmp.Lexicographic.{same_text}
 use Rattle.shell_desk.specs.declared.word.Word.{Word}
 use Rattle.shell_desk.specs.declared.word.Word.TheVariants.{R, N, Run, Next, Undo, Back, Why, Waiting, Outline, Vars, List as ListWord, Show, Save, SaveOver, Load, Script, ScriptOver, Help, Quit}
-use Rattle.shell_desk.specs.Words.{spelling}
-use Rattle.shell_desk.specs.internal.Spelled.{first_spelled, SpellsNothing}
+use Rattle.shell_desk.specs.Words.{spelling, SpellsNothing}
+use Rattle.shell_desk.specs.internal.Spelled.{first_spelled}
 
 -- all words
 abbrev pub all_words : List Word

@@ -1,6 +1,8 @@
 -- What each deed asks of the desk, and what it leaves.
 use Rattle.std.specs.Prelude.{◌≡◌, ◌≢◌, ◌⊎◌, ℕ, zero, suc, ◌+◌, ◌-◌, ◌<◌, List, [], length, map, Option, Some, None}
 use Rattle.std.specs.Prelude.{◌≤◌, nat_lt, if◌then◌else◌, slice_get, option_map, Bool, true, false, Contains, MatchBool}
+use Rattle.std.specs.Prelude.{◌∷◌, ◌==◌, not}
+use Rattle.address.specs.declared.Entry.TheVariants.{Ordered, Branch}
 use Rattle.syntax.specs.Lists.{Every}
 use Rattle.system.specs.Expression.{is_in}
 use Rattle.system.specs.declared.system.System.{System}
@@ -8,6 +10,7 @@ use Rattle.system_places.specs.SystemBranches.{branch_at, branch_count}
 use Rattle.runs.specs.Choices.{choice_of}
 use Rattle.runs.specs.Events.{acting}
 use Rattle.runs.specs.Live.{Live}
+use Rattle.runs.specs.Moves.{Place}
 use Rattle.runs.specs.declared.event.Event.{Event}
 use Rattle.machine.specs.AtMachine.{AtMachine}
 use Rattle.locked_execution.specs.AtDesk.{AtDesk, new_desk, breaks_of, sessions}
@@ -20,14 +23,29 @@ use Rattle.shell_desk.specs.declared.deed.Deed.{Deed}
 use Rattle.shell_desk.specs.declared.deed.Done.{Done}
 use Rattle.shell_desk.specs.declared.deed.End.{End}
 
--- the branch that was stepped last behind a reply: that of the acting place of the event that was taken, where it lies
--- in one
+-- whether the place lies in the environment
+abbrev pub is_outside : Place → Bool
+is_outside [] = false
+is_outside (Ordered n ∷ rest) = false
+is_outside (Branch n ∷ rest) = not (n == 0)
+
+-- the place of an event at which it is said to be stepped: the acting one, and of what the environment takes the sender's
+abbrev pub stepped_at : Event → Place
+stepped_at e = if is_outside (acting e) then e.first else acting e
+
 abbrev pub branch_or : Option ℕ → Option ℕ → Option ℕ
 branch_or None before = before
 branch_or (Some k) before = Some k
 
+-- the branch that acted last behind a reply: that in which the event acts that was taken, where it lies in one
+abbrev pub turn_behind : System → Reply → Option ℕ → Option ℕ
+turn_behind system (Reply.Stepped t e) before = branch_or (branch_at system (acting e)) before
+turn_behind system _ before = before
+
+-- the branch that was stepped last behind a reply: that in which the event that was taken is said to be stepped, where it
+-- lies in one
 abbrev pub branch_behind : System → Reply → Option ℕ → Option ℕ
-branch_behind system (Reply.Stepped t e) before = branch_or (branch_at system (acting e)) before
+branch_behind system (Reply.Stepped t e) before = branch_or (branch_at system (stepped_at e)) before
 branch_behind system _ before = before
 
 -- the breakpoint at which a run ended is passed behind a reply that tells of steps
@@ -51,6 +69,7 @@ abbrev pub Asked : AtBench → Command → Reply → AtBench → Type 0
 Asked b c reply b' =
     Answers b.desk b.session c reply b'.desk × (b'.session ≡ b.session)
     × (b'.numbered ≡ numbers_behind reply b.numbered)
+    × (b'.turn ≡ turn_behind b.desk.machine.checked reply b.turn)
     × (b'.branch ≡ branch_behind b.desk.machine.checked reply b.branch)
     × (b'.stopped ≡ stopped_behind reply b.stopped)
 
@@ -63,7 +82,7 @@ numbered_as xs (suc i) = slice_get xs i
 abbrev pub next_of : ℕ → ℕ → ℕ
 next_of count k = if nat_lt (k + 1) count then k + 1 else 0
 
--- the branch whose turn it is where `last` was stepped last
+-- the branch whose turn it is where `last` acted last
 abbrev pub first_of : ℕ → Option ℕ → ℕ
 first_of count None = 0
 first_of count (Some last) = next_of count last
@@ -91,10 +110,10 @@ InTurn count b (suc left) k reply b' =
     (r : Reply) × (m : AtBench) × Asked b (Command.Branch k) r m
     × MatchBool (is_busy r) ((reply ≡ r) × (b' ≡ m)) (InTurn count m left (next_of count k) reply b')
 
--- each branch once, from the one behind that which was stepped last
+-- each branch once, from the one behind that which acted last
 abbrev pub OneTurn : AtBench → Reply → AtBench → Type 0
 OneTurn b reply b' =
-    let count = branch_count b.desk.machine.checked in InTurn count b count (first_of count b.branch) reply b'
+    let count = branch_count b.desk.machine.checked in InTurn count b count (first_of count b.turn) reply b'
 
 -- why a run ends at a reply that tells of no step
 abbrev pub end_of : Reply → End
@@ -136,7 +155,14 @@ RunsFrom (Some line) b limit end b' = RunsPast line b limit end b'
 -- b, where a run ended so
 abbrev pub ended_at : End → AtBench → AtBench
 ended_at (End.AtBreak line) b =
-    record { desk = b.desk; session = b.session; numbered = b.numbered; branch = b.branch; stopped = Some line }
+    record {
+      desk = b.desk;
+      session = b.session;
+      numbered = b.numbered;
+      turn = b.turn;
+      branch = b.branch;
+      stopped = Some line;
+    }
 ended_at _ b = b
 
 -- t is the greatest ticket of a live event
@@ -157,12 +183,23 @@ abbrev pub AsksIfAny : AtBench → Option Command → Done → AtBench → Type 
 AsksIfAny b None done b' = (done ≡ Done.Unknown) × (b' ≡ b)
 AsksIfAny b (Some c) done b' = (reply : Reply) × Asked b c reply b' × (done ≡ Done.Told reply)
 
--- the lines are those of this session: where it is at hand nothing changes, and of another no run has ended
+-- b, where the lines are those of this session, of which it is not kept in mind at which breakpoint a run ended
+abbrev pub of_session : ℕ → AtBench → AtBench
+of_session session b =
+    record {
+      desk = b.desk;
+      session = session;
+      numbered = b.numbered;
+      turn = b.turn;
+      branch = b.branch;
+      stopped = None;
+    }
+
+-- the lines are those of this session: where it is at hand nothing changes
 abbrev pub TurnsSession : ℕ → AtBench → AtBench → Type 0
 TurnsSession session b b' =
     ((b.session ≡ session) × (b' ≡ b))
-    ⊎ ((b.session ≢ session)
-    × (b' ≡ record { desk = b.desk; session = session; numbered = b.numbered; branch = b.branch; stopped = None }))
+    ⊎ ((b.session ≢ session) × (b' ≡ of_session session b))
 
 -- the deed is done so, and leaves b'
 abbrev pub Does : AtBench → Deed → Done → AtBench → Type 0
@@ -203,4 +240,4 @@ SetsBreaksOf before last d d' =
 abbrev pub TurnsTo : AtBench → ℕ → AtMachine → AtBench → Type 0
 TurnsTo b last machine b' =
     SetsBreaksOf b.desk last (new_desk machine) b'.desk
-    × (b'.session ≡ b.session) × (b'.numbered ≡ []) × (b'.branch ≡ None) × (b'.stopped ≡ None)
+    × (b'.session ≡ b.session) × (b'.numbered ≡ []) × (b'.turn ≡ None) × (b'.branch ≡ None) × (b'.stopped ≡ None)

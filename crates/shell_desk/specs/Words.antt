@@ -44,3 +44,11 @@ AsksDeed Undo rest deed = (rest ≡ []) × (deed ≡ Deed.Back 1)
 AsksDeed Back rest deed = ((rest ≡ []) × (deed ≡ Deed.Back 1)) ⊎ ((n : ℕ) × IsNumber n rest × (deed ≡ Deed.Back n))
 -- the other words ask nothing of the desk
 AsksDeed _ rest deed = ⊥
+
+-- the word and the rest ask nothing of the desk
+abbrev pub AsksNoDeed : Word → List ℕ → Type 0
+AsksNoDeed word rest = (deed : Deed) → AsksDeed word rest deed → ⊥
+
+-- the text spells no word
+abbrev pub SpellsNothing : List ℕ → Type 0
+SpellsNothing text = (word : Word) → spelling word ≡ text → ⊥

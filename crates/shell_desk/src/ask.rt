@@ -1,10 +1,12 @@
 // One command, and what it changes beside the desk.
 ghost use Rattle.std.specs.Prelude.{◌≡◌, ◌<◌, IfOk, MatchOption, OnErr, Some, None, true, map, slice_get};
 ghost use Rattle.locked_execution.specs.Performs.{Answers};
-ghost use Rattle.shell_desk.specs.Does.{Asked, AsksIfAny, branch_behind, numbered_as, step_of, stopped_behind};
+ghost use Rattle.shell_desk.specs.Does.{Asked, AsksIfAny, branch_behind, is_outside, numbered_as, step_of, stepped_at};
+ghost use Rattle.shell_desk.specs.Does.{stopped_behind, turn_behind};
 ghost use Rattle.shell_desk.specs.internal.Numbering.{IsTold, given_or, is_list, made_of, numbers_of};
 
 use crate::{Bench, Done, Watch};
+use address::{Address, Entry};
 use locked_execution::{Choice, Command, Desk, Event, Refusal, Reply};
 use std::alloc::{AllocError, Global};
 use system::System;
@@ -28,10 +30,12 @@ impl Bench {
         ensures desk { self.new.desk ≡ self.old.desk }
         ensures session { self.new.session ≡ self.old.session }
         ensures numbered { self.new.numbered ≡ given_or (made_of numbers) self.old.numbered }
+        ensures turn { self.new.turn ≡ turn_behind self.old.desk.machine.checked reply.now self.old.turn }
         ensures branch { self.new.branch ≡ branch_behind self.old.desk.machine.checked reply.now self.old.branch }
         ensures stopped { self.new.stopped ≡ stopped_behind reply.now self.old.stopped }
     {
         renumber(&mut self.numbered, numbers);
+        self.turn = turn_behind(self.desk.machine().checked().system(), reply, self.turn);
         self.branch = branch_behind(self.desk.machine().checked().system(), reply, self.branch);
         self.stopped = stopped_behind(reply, self.stopped);
     }
@@ -121,21 +125,24 @@ fn answered<W: Watch>(
     ensures numbers { made_of result.1 ≡ numbers_of result.0 }
     ensures system { desk.new.machine.checked ≡ desk.old.machine.checked }
 {
-    let reply = desk.perform(session, command);
-    let (told, numbers) = with_numbers(alloc, reply);
-    watch.see(desk, session, command, &told);
-    (told, numbers)
+    let mut reply = desk.perform(session, command);
+    let numbers = numbers_told(alloc, &mut reply);
+    watch.see(desk, session, command, &reply);
+    (reply, numbers)
 }
 
-/// The reply, and the commands of the events that it lists as ready, if it is such a list. Where there is no memory for
-/// these, that is told in place of the reply.
-fn with_numbers(alloc: Global, reply: Reply) -> (Reply, Option<Vec<Command>>)
-    ensures told { IsTold reply result.0 }
-    ensures numbers { made_of result.1 ≡ numbers_of result.0 }
+/// The commands of the events that the reply lists as ready, if it is such a list. Where there is no memory for these,
+/// that becomes the reply.
+fn numbers_told(alloc: Global, reply: &mut Reply) -> Option<Vec<Command>>
+    ensures told { IsTold reply.old reply.new }
+    ensures numbers { made_of result ≡ numbers_of reply.new }
 {
-    match numbers_in(alloc, &reply) {
-        Ok(numbers) => (reply, numbers),
-        Err(_) => (Reply::Refused(Refusal::Memory), None),
+    match numbers_in(alloc, reply) {
+        Ok(numbers) => numbers,
+        Err(_) => {
+            *reply = Reply::Refused(Refusal::Memory);
+            None
+        }
     }
 }
 
@@ -178,9 +185,9 @@ fn renumber(numbered: &mut Vec<Command>, numbers: Option<Vec<Command>>)
     }
 }
 
-/// The branch that was stepped last behind a reply.
-fn branch_behind(system: &System, reply: &Reply, before: Option<u32>) -> Option<u32>
-    ensures { result ≡ branch_behind system.now reply.now before }
+/// The branch that acted last behind a reply.
+fn turn_behind(system: &System, reply: &Reply, before: Option<u32>) -> Option<u32>
+    ensures { result ≡ turn_behind system.now reply.now before }
 {
     match reply {
         Reply::Stepped(_, event) => match branch_at(system, event.acting_place()) {
@@ -188,6 +195,41 @@ fn branch_behind(system: &System, reply: &Reply, before: Option<u32>) -> Option<
             None => before,
         },
         _ => before,
+    }
+}
+
+/// The branch that was stepped last behind a reply.
+fn branch_behind(system: &System, reply: &Reply, before: Option<u32>) -> Option<u32>
+    ensures { result ≡ branch_behind system.now reply.now before }
+{
+    match reply {
+        Reply::Stepped(_, event) => match branch_at(system, stepped_at(event)) {
+            Some(branch) => Some(branch),
+            None => before,
+        },
+        _ => before,
+    }
+}
+
+/// The place at which the event is said to be stepped: the acting one, and of what the environment takes the sender's.
+fn stepped_at(event: &Event) -> &Address
+    ensures { result.now ≡ stepped_at event.now }
+{
+    let acting = event.acting_place();
+    if is_outside(acting) {
+        &event.first
+    } else {
+        acting
+    }
+}
+
+/// Whether the place lies in the environment.
+fn is_outside(place: &Address) -> bool
+    ensures { result ≡ is_outside place.now }
+{
+    match place.entries() {
+        [Entry::Branch(number), ..] => *number != 0,
+        _ => false,
     }
 }
 

@@ -9,13 +9,15 @@ use locked_execution::{Command, Desk, Machine};
 use std::alloc::Global;
 use std::marker::Model;
 
-/// A desk, the session whose lines come, the steps that were numbered last, the branch that was stepped last, and the
-/// line of the breakpoint at which a run ended, as long as no step is taken or taken back.
+/// A desk, the session whose lines come, the steps that were numbered last, the branch that acted last, behind which a run
+/// goes on, the branch that was stepped last, and the line of the breakpoint at which a run of the session ended, as long
+/// as no step is taken or taken back and no lines of another session come.
 #[derive(Drop)]
 pub struct Bench {
     pub(crate) desk: Desk,
     pub(crate) session: u32,
     pub(crate) numbered: Vec<Command>,
+    pub(crate) turn: Option<u32>,
     pub(crate) branch: Option<u32>,
     pub(crate) stopped: Option<u64>,
 }
@@ -34,6 +36,7 @@ impl Model for Bench {
       desk = bench.desk;
       session = bench.session;
       numbered = bench.numbered.items;
+      turn = bench.turn;
       branch = bench.branch;
       stopped = bench.stopped;
     } };
@@ -50,6 +53,7 @@ impl Bench {
             desk: Desk::new(machine),
             session: 0,
             numbered: Vec::new(alloc),
+            turn: None,
             branch: None,
             stopped: None,
         }
@@ -70,7 +74,7 @@ impl Bench {
         self.session
     }
 
-    /// The branch that was stepped last.
+    /// The branch that was stepped last: the one that acted, and of what the environment takes the sender's.
     pub fn branch(&self) -> Option<u32>
         ensures { result ≡ self.now.branch }
     {

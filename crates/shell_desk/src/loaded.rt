@@ -16,6 +16,7 @@ impl Bench {
     {
         self.desk = desk_like(&self.desk, machine, last_line, watch);
         self.numbered.clear();
+        self.turn = None;
         self.branch = None;
         self.stopped = None;
     }

@@ -216,10 +216,10 @@ impl Bench {
 
     /// The branch whose turn it is, of so many.
     fn first(&self, count: u32) -> u32
-        ensures first { result ≡ first_of count self.now.branch }
+        ensures first { result ≡ first_of count self.now.turn }
         ensures range { result ≤ count }
     {
-        first_of(count, self.branch)
+        first_of(count, self.turn)
     }
 }
 
@@ -233,7 +233,7 @@ fn held_at(stopped: Option<u64>, breaks: &Breaks) -> Option<u64>
     }
 }
 
-/// The branch whose turn it is where this was stepped last.
+/// The branch whose turn it is where this one acted last.
 fn first_of(count: u32, last: Option<u32>) -> u32
     ensures first { result ≡ first_of count last }
     ensures range { result ≤ count }

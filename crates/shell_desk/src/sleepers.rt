@@ -1,5 +1,5 @@
 // The branches that a run passes over: they had no step, and no step since could bring them one.
-ghost use Rattle.std.specs.Prelude.{◌≡◌, ◌∷◌, [], ◌⊎◌, ◌<◌, ◌≤◌, ℕ, IfOk, IfSome, MatchBool, MatchOption};
+ghost use Rattle.std.specs.Prelude.{◌≡◌, ◌∷◌, [], ◌⊎◌, ◌+◌, ◌<◌, ◌≤◌, ℕ, IfOk, IfSome, MatchOption};
 ghost use Rattle.runs.specs.Events.{places_of};
 ghost use Rattle.idle_branches.specs.Idle.{AreEnds};
 ghost use Rattle.idle_branches.specs.internal.Known.{list_at};
@@ -9,6 +9,7 @@ use address::Address;
 use idle_branches::{Ends, given_on, gives_what_is_known, offers_behind, touches_shared};
 use local_actions::LocalAction;
 use locked_execution::{Event, Machine, Reply};
+use memchr::memchr;
 use std::alloc::{AllocError, Global};
 use system::System;
 use system_places::branch_at;
@@ -17,10 +18,16 @@ use system_places::branch_at;
 /// is not looked at.
 const FEW_CHANNELS: usize = 16;
 
-/// For each branch whether it is asleep. Those that are left out are awake.
+/// The mark of a branch that is awake, and of one that is asleep. They are bytes, so that the next that is awake is found
+/// at once among thousands.
+const AWAKE: u8 = 0;
+
+const ASLEEP: u8 = 1;
+
+/// For each branch the mark that says whether it is asleep. Those that are left out are awake.
 #[derive(Drop)]
 pub(crate) struct Sleepers {
-    pub(crate) asleep: Vec<bool>,
+    pub(crate) asleep: Vec<u8>,
 }
 
 impl Sleepers {
@@ -36,27 +43,32 @@ impl Sleepers {
         }
     }
 
-    /// Whether the branch is asleep.
-    fn has(&self, branch: u32) -> bool
-        ensures { MatchBool result (IsAsleep self.now.asleep.items branch) (Unit {0}) }
-    {
-        match self.asleep.get(branch as usize) {
-            Some(is_asleep) => *is_asleep,
-            None => false,
-        }
-    }
-
     /// The first branch from one up to another that is awake.
     pub(crate) fn first_awake(&self, from: u32, to: u32) -> Option<u32>
         ensures { MatchOption result (AllSleep self.now.asleep.items from to)
             (λ next. (from ≤ next) × (next < to) × AllSleep self.now.asleep.items from next) }
     {
-        for branch in from..to {
-            if !self.has(branch) {
-                return Some(branch);
-            }
+        let next = (from as usize).saturating_add(self.asleep_from(from));
+        if next < to as usize {
+            Some(next as u32)
+        } else {
+            None
         }
-        None
+    }
+
+    /// How many branches are asleep from this one on, one behind the other.
+    fn asleep_from(&self, branch: u32) -> usize
+        ensures { AllSleep self.now.asleep.items branch (branch + result) }
+    {
+        let marks = self.asleep.as_slice();
+        if marks.len() <= branch as usize {
+            return 0;
+        }
+        let (_, marks) = marks.split_at(branch as usize);
+        match memchr(AWAKE, marks) {
+            Some(count) => count,
+            None => marks.len(),
+        }
     }
 
     /// Keeps in mind who sleeps behind this reply to a branch, which the machine gave last: the branch, where it has no
@@ -175,7 +187,7 @@ impl Sleepers {
     fn wake_all(&mut self)
         ensures { NoneSleeps self.new.asleep.items }
     {
-        self.asleep.as_mut_slice().fill(false);
+        self.asleep.as_mut_slice().fill(AWAKE);
     }
 
     /// Wakes a branch.
@@ -186,7 +198,7 @@ impl Sleepers {
         if self.asleep.len() <= index {
             return;
         }
-        self.asleep[index] = false;
+        self.asleep[index] = AWAKE;
     }
 
     /// Lets a branch fall asleep.
@@ -197,7 +209,7 @@ impl Sleepers {
         if self.asleep.len() <= index {
             return;
         }
-        self.asleep[index] = true;
+        self.asleep[index] = ASLEEP;
     }
 }
 
@@ -233,8 +245,8 @@ fn faced_by<'a>(ends: &'a Ends, offer: &LocalAction) -> &'a [u32]
 }
 
 /// So many branches that are awake.
-fn all_awake(alloc: Global, count: u32) -> Result<Vec<bool>, AllocError>
+fn all_awake(alloc: Global, count: u32) -> Result<Vec<u8>, AllocError>
     ensures { IfOk result (λ asleep. NoneSleeps asleep.items) }
 {
-    Ok(vec![in alloc; false; count as usize]?)
+    Ok(vec![in alloc; AWAKE; count as usize]?)
 }

@@ -1,5 +1,5 @@
 ghost use Rattle.std.specs.Prelude.{◌≡◌, ◌≢◌, MatchOption, [], ◌⊎◌};
-ghost use Rattle.shell_desk.specs.Words.{spelling, AsksDeed, most_steps};
+ghost use Rattle.shell_desk.specs.Words.{spelling, AsksDeed, AsksNoDeed, SpellsNothing, most_steps};
 ghost use Rattle.shell_desk.specs.internal.Spelled as spec;
 
 use crate::Deed;
@@ -64,7 +64,7 @@ const MOST_STEPS: u64 = 65_537;
 impl Word {
     /// The word with this spelling, if there is one.
     pub fn read(text: &[u8]) -> Option<Word>
-        ensures { MatchOption result (spec.SpellsNothing text.now) (λ word. spelling word ≡ text.now) }
+        ensures { MatchOption result (SpellsNothing text.now) (λ word. spelling word ≡ text.now) }
     {
         first_spelled(&ALL, text)
     }
@@ -113,7 +113,7 @@ fn first_spelled(words: &[Word], text: &[u8]) -> Option<Word>
 
 /// What the word asks of the desk with `rest` behind it, which is empty or begins with a space.
 pub fn read_deed(word: Word, rest: &[u8]) -> Option<Deed>
-    ensures { MatchOption result (spec.AsksNoDeed word rest.now) (λ deed. AsksDeed word rest.now deed) }
+    ensures { MatchOption result (AsksNoDeed word rest.now) (λ deed. AsksDeed word rest.now deed) }
 {
     match word {
         Word::R => bare(rest, Deed::Ask(Command::Ready)),

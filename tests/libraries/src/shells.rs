@@ -16,7 +16,7 @@ const TRACE: &[u8] = b"balsadbg trace 2\nstep /0.0 0\n";
 
 /// The first lines.
 const FIRST: &[u8] =
-    b"one: input i; output o; branches 0 (line 1), 1 i, 2 o.\n`help` lists what you can type.\n";
+    b"one: input i; output o; branches 0 (line 1), 1 i, 2 o.\n`ready` lists what can be stepped, `run` takes steps, `help` lists all words.\n";
 
 /// Each line with its end, what a script is answered to it, and the words behind it.
 const LINES: [(&[u8], &[u8], &[u8]); 29] = [
@@ -43,7 +43,7 @@ const LINES: [(&[u8], &[u8], &[u8]); 29] = [
     (
         b"run 1\n",
         b"step 2 meet o 5 /0.1.0 /2.0\n",
-        b"  took 1 step, as many as were asked for\n",
+        b"  sent 5 to o, line 1\n  took 1 step, as many as were asked for\n",
     ),
     (b"run\n", b"", b"  took 0 steps; all done after 2 steps\n"),
     (
@@ -107,12 +107,12 @@ const LINES: [(&[u8], &[u8], &[u8]); 29] = [
     (
         b"undo\n",
         b"undone 2 meet o 5 /0.1.0 /2.0\n",
-        b"  took back 1 step; 1 step is live\n",
+        b"  taken back: sent 5 to o, line 1\n  took back 1 step; 1 step is live\n",
     ),
     (
         b"back 7\n",
         b"undone 1 meet i 5 /1.0.0 /0.0\n",
-        b"  took back 1 step; 0 steps are live\n",
+        b"  taken back: received 5 from i into x, line 1\n  took back 1 step; 0 steps are live\n",
     ),
     (
         b"back\n",
@@ -293,7 +293,7 @@ fn behind<'a>(told: &'a [u8], own: &[u8], words: &[u8]) -> Option<&'a [u8]> {
 fn a_session_begins_behind_a_trace(rt: HostRuntime) -> Result<(), Fail> {
     let told = answers(rt.alloc(), b"live", Some(TRACE), true)?;
     let expected = b"one: input i; output o; branches 0 (line 1), 1 i, 2 o.\n\
-1 step of the trace is taken. `help` lists what you can type.\n\
+1 step of the trace is taken.\n`ready` lists what can be stepped, `run` takes steps, `help` lists all words.\n\
 > live 1\n  1 meet i 5 /1.0.0 /0.0\n  step 1 (received 5 from i into x, line 1)\n";
     assert!(rt; told.as_slice() == expected.as_slice());
     Ok(())

@@ -31,7 +31,7 @@ MIXES = [
 FILES = ["one", "two", "three"]
 # A run without a bound is typed where it ends after so many steps at most.
 MOST_STEPS = 80
-# Of a run of more steps than so many the first and the last are told, so many each.
+# Of a run of more steps than so many the first and the last are told, so many each, and of a way back the first.
 MOST_TOLD, TOLD_AT_ENDS = 60, 20
 
 
@@ -132,9 +132,12 @@ def done_at(bench: Bench, line: bytes) -> list[str]:
 
 
 def told(deed: Deed) -> list[str]:
-    """The answers that are written: of many steps those of the first and the last."""
+    """The answers that are written: of many steps those of the first and the last, of many that are taken back those of the first."""
     answers = [answer for asked in deed.asked for answer in asked.answer]
     steps = sum(asked.has_stepped for asked in deed.asked)
+    back = sum(asked.has_undone for asked in deed.asked)
+    if back > MOST_TOLD:
+        return [*answers[:TOLD_AT_ENDS], f"  .. {back - TOLD_AT_ENDS} more steps", *answers[back:]]
     if steps <= MOST_TOLD:
         return answers
     left_out = f"  .. {steps - 2 * TOLD_AT_ENDS} more steps, which `live` lists"

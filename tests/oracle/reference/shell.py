@@ -2,8 +2,8 @@
 
 The rules are those of the guide (docs/guide/shell.md): blanks around and between fields and capitals in the first word are
 forgiven; each line of a script means what it means there; `ready` numbers the steps that it lists, and a bare number takes one of
-them; `next` steps the branch that was stepped last, `run` the branches in turn, and where the last one ended at a breakpoint it
-goes on past that; `undo` and `back` take back the newest steps;
+them; `next` steps the branch that was stepped last, which of what the environment takes is that of the sender, `run` the branches
+in turn, behind the one that acted last, and where the last one of the session ended at a breakpoint it goes on past that; `undo` and `back` take back the newest steps;
 `save` writes the trace to a file that is not there yet, and `load` begins again behind one. What is said in words is not made here.
 """
 
@@ -14,8 +14,7 @@ from dataclasses import dataclass, field
 from .elaboration import System
 from .events import Event
 from .faults import Refused
-from .machine import Live
-from .places import text_of
+from .places import Address, text_of
 from .script import LINES, BadLine, answer
 from .sessions import Desk
 from .tokens import plain_number
@@ -27,7 +26,7 @@ MOST_STEPS = 65_537
 # The words of which the desk knows nothing.
 ASKS_NOTHING = (b"why", b"waiting", b"outline", b"vars", b"list", b"show", b"help")
 # The answers behind which a run no longer goes on from its breakpoint.
-MOVES = ("step", "undone", "rolled", "session")
+MOVES = ("step", "undone", "rolled")
 SAVES = (b"save", b"save!", b"script", b"script!")
 
 
@@ -88,15 +87,17 @@ def number_of(text: bytes, limit: int) -> int:
 
 
 class Bench:
-    """A desk, the steps that were numbered last, the branch that was stepped last, the line of the breakpoint at which a run ended
-    and behind which nothing was stepped or taken back, and the files that were saved. The content of one that has the lines of the
-    session so far is None: what it is worth is seen where it is run."""
+    """A desk, the steps that were numbered last, the branch that acted last and the one that was stepped last, the line of the
+    breakpoint at which a run ended and behind which nothing was stepped or taken back and no other session was at hand, and the
+    files that were saved. The content of one that has the lines of the session so far is None: what it is worth is seen where it is
+    run."""
 
     def __init__(self, system: System, source: bytes) -> None:
         self.system = system
         self.source = source
         self.desk = Desk(system, source)
         self.numbered: list[Event] = []
+        self.turn: int | None = None
         self.branch: int | None = None
         self.stopped: int | None = None
         self.files: dict[bytes, bytes | None] = {}
@@ -143,7 +144,7 @@ class Bench:
 
     def ask(self, line: bytes) -> Asked:
         """The answer to a line of a script."""
-        before = self.desk.machine.live[-1:]
+        before, session = self.desk.machine.live[-1:], self.desk.session
         try:
             asked = Asked(line.decode("latin-1"), answer(self.desk, line))
         except BadLine:
@@ -152,15 +153,19 @@ class Bench:
             self.numbered = self.desk.machine.ready()
         live = self.desk.machine.live
         if asked.has_stepped and live[-1:] != before:
-            self.branch = self.branch_of(live[-1], self.branch)
-        if asked.answer[0].split(" ")[0] in MOVES:
+            self.turn = self.branch_at(live[-1].event.acting, self.turn)
+            self.branch = self.branch_at(self.stepped_at(live[-1].event), self.branch)
+        if asked.answer[0].split(" ")[0] in MOVES or self.desk.session != session:
             self.stopped = None
         return asked
 
-    def branch_of(self, entry: Live, otherwise: int | None) -> int | None:
-        """The branch in which the event acts."""
-        acting = entry.event.acting
-        inside = [at for at, place in enumerate(self.desk.branches) if acting[: len(place)] == place]
+    def stepped_at(self, event: Event) -> Address:
+        """Where the event is said to be stepped: where it acts, and of what the environment takes at the sender's place."""
+        return event.moves[0].place if event.command is None else event.acting
+
+    def branch_at(self, place: Address, otherwise: int | None) -> int | None:
+        """The branch in which the place lies."""
+        inside = [at for at, root in enumerate(self.desk.branches) if place[: len(root)] == root]
         return inside[0] if inside else otherwise
 
     def step(self, branch: int) -> Asked:
@@ -175,7 +180,7 @@ class Bench:
     def in_turn(self) -> Asked | None:
         """The first step that the branches have in turn, or what stops the branch whose turn it is; None where none has one."""
         count = len(self.desk.branches)
-        first = 0 if self.branch is None else (self.branch + 1) % count
+        first = 0 if self.turn is None else (self.turn + 1) % count
         for at in range(count):
             asked = self.step((first + at) % count)
             if not asked.is_idle:
@@ -238,5 +243,5 @@ class Bench:
         except Refused:
             return Deed(end="not loaded")
         self.desk.machine = machine
-        self.numbered, self.branch, self.stopped = [], None, None
+        self.numbered, self.turn, self.branch, self.stopped = [], None, None, None
         return Deed(end="loaded")

@@ -4,8 +4,7 @@ use Rattle.std.specs.Prelude.{ℕ, ◌≡◌, ◌≢◌, ◌⊎◌, List, [], �
 use Rattle.machine.specs.AtMachine.{AtMachine}
 use Rattle.line_text.specs.Fields.{CutAtSpace}
 use Rattle.debug_session.specs.declared.fault.Fault.{Fault}
-use Rattle.shell_desk.specs.Words.{AsksDeed}
-use Rattle.shell_desk.specs.internal.Spelled.{AsksNoDeed}
+use Rattle.shell_desk.specs.Words.{AsksDeed, AsksNoDeed}
 use Rattle.shell_desk.specs.declared.deed.Deed.{Deed}
 use Rattle.shell_desk.specs.declared.deed.Done.{Done}
 use Rattle.shell_desk.specs.declared.word.Word.{Word}

@@ -1,4 +1,4 @@
-use Rattle.std.proofs.Common.{◌-◌, ◌≤◌, List, Bool, Option}
+use Rattle.std.proofs.Common.{ℕ, ◌-◌, ◌≤◌, List, Option}
 use Rattle.locked_execution.specs.declared.command.Reply.{Reply}
 use Rattle.shell_desk.specs.AtBench.{AtBench}
 use Rattle.shell_desk.specs.internal.Sleeping.{AsksBetween}
@@ -8,7 +8,7 @@ use Rattle.shell_desk.proofs.bench.Bench.ask_awake.Given as goal
 abbrev pub invariant-loop-next : goal.invariant-loop-next
 invariant-loop-next g l =
     (l.branch ≤ l.to)
-    × ((told : Option Reply) (b' : AtBench) (asleep' : List Bool)
+    × ((told : Option Reply) (b' : AtBench) (asleep' : List ℕ)
     → AsksBetween l.ends l.branch l.to l.self l.sleepers.asleep.items told b' asleep'
     → AsksBetween l.ends l.from l.to l.initial.self l.initial.sleepers.asleep.items told b' asleep')
 

@@ -15,6 +15,7 @@ returns g c =
       desk = c.self.inside.desk;
       session = c.self.inside.session;
       numbered = c.self.inside.numbered.items;
+      turn = c.self.inside.turn;
       branch = c.self.inside.branch;
       stopped = c.self.inside.stopped;
     } in
@@ -22,5 +23,5 @@ returns g c =
     (subst (λ (b : AtBench). Asked b c.in-Some.command.now c.answered-reply.result.0 c.note.new.self) c.self.view_is
     (asked-noted before c.note.new.self c.answered-reply.new.desk c.in-Some.command.now c.answered-reply.result.0
     (made_of c.answered-reply.result.1) c.answered-reply.ensures.answers c.answered-reply.ensures.system
-    c.answered-reply.ensures.numbers c.note.ensures.desk c.note.ensures.session c.note.ensures.numbered c.note.ensures.branch
-    c.note.ensures.stopped))
+    c.answered-reply.ensures.numbers c.note.ensures.desk c.note.ensures.session c.note.ensures.numbered c.note.ensures.turn
+    c.note.ensures.branch c.note.ensures.stopped))
