@@ -20,8 +20,9 @@ def chromium() -> str | None:
 def installed() -> str | None:
     """A Chromium, which is installed where there is none and that can be done."""
     if chromium() is None and os.geteuid() == 0:
-        line = "apt-get update -q && apt-get install -y -q --no-install-recommends chromium"
-        subprocess.run(["sh", "-c", line], stdout=subprocess.DEVNULL, stderr=subprocess.DEVNULL, check=False)
+        # Another test may be installing it.
+        line = "command -v chromium || (apt-get update -q && apt-get install -y -q --no-install-recommends chromium)"
+        subprocess.run(["flock", "/tmp/balsadbg-chromium.lock", "sh", "-c", line], stdout=subprocess.DEVNULL, stderr=subprocess.DEVNULL, check=False)
     return chromium()
 
 

@@ -102,13 +102,13 @@ def waiting(lanes: int, turns: int) -> Case:
     return Case(f"waiting_{lanes}_beside_{turns}", source.encode(), b"", HEADER + lines.encode())
 
 
-def long_names(letters: int) -> Case:
-    """A port, a channel and a variable with names of so many letters."""
+def long_names(letters: int, value: int = 1) -> Case:
+    """A port, a channel and a variable with names of so many letters, and a value that goes through all three."""
     port, channel, variable = ("p" * letters, "c" * letters, "v" * letters)
-    source = (f"type byte is 8 bits\nprocedure names (output {port} : byte) is\n  channel {channel} : byte\n  variable {variable} : byte\n"
-              f"begin\n  [ {channel} <- 1 || {channel} -> {variable} ] ;\n  {port} <- {variable}\nend\n")
-    trace = HEADER + b"step /0.0/1 0\nstep /1.0 0\n"
-    return Case(f"names_{letters}", source.encode(), b"", trace)
+    source = (f"type word is 64 bits\nprocedure names (output {port} : word) is\n  channel {channel} : word\n  variable {variable} : word\n"
+              f"begin\n  [ {channel} <- {value} || {channel} -> {variable} ] ;\n  {variable} := {variable} ;\n  {port} <- {variable}\nend\n")
+    trace = HEADER + b"step /0.0/1 0\nstep /0.1 0\nstep /1.0 0\n"
+    return Case(f"names_{letters}_{value}", source.encode(), b"", trace)
 
 
 def end_case(name: str, source: str, stimulus: str = "", steps: tuple[str, ...] = ()) -> Case:
@@ -184,6 +184,15 @@ def received_left(letters: int) -> Case:
     return end_case(f"received_left_{letters}", source, "", ("/0.0/0 0", "/1.0 0"))
 
 
+def receiving(turns: int, letters: int) -> Case:
+    """A loop that receives so often into a variable whose name has so many letters."""
+    name = "r" * letters
+    source = (f"procedure receiving is\n  channel c : 1 bits\n  variable {name} : 1 bits\nbegin\n"
+              f"  loop [ c <- 1 || c -> {name} ] end\nend\n")
+    steps = tuple(step for turn in range(turns) for step in (f"/0.{2 * turn} 0", f"/0.{2 * turn + 1}/1 0"))
+    return replace(end_case(f"receiving_{turns}_{letters}", source, "", steps), is_large=turns > WIDE)
+
+
 def late_lines(lines: int) -> Case:
     """Branches side by side behind so many lines of comment."""
     source = "-- c\n" * lines + "procedure late (sync s, t, u) is\nbegin\n  sync s ||\n  sync t ||\n  sync u\nend\n"
@@ -207,6 +216,15 @@ def loops(lanes: int) -> Case:
     return replace(end_case(f"loops_{lanes}", source, "", tuple(steps)), is_large=lanes > WIDE)
 
 
+def counting(lanes: int, turns: int) -> Case:
+    """So many branches side by side, each of which counts and goes on behind so many turns."""
+    names = [f"x{number}" for number in range(lanes)]
+    source = ("procedure counting is\n  variable " + ", ".join(names) + " : 8 bits\nbegin\n  "
+              + " || ".join(f"loop {name} := ({name} + 1 as 8 bits) end" for name in names) + "\nend\n")
+    steps = [f"/0/{lane}.{part} 0" for part in range(2 * turns) for lane in range(lanes)]
+    return replace(end_case(f"counting_{lanes}_{turns}", source, "", tuple(steps)), is_large=lanes > WIDE)
+
+
 def rounds(lanes: int, turns: int) -> Case:
     """A loop around so many branches side by side, so often."""
     names = [f"x{number}" for number in range(lanes)]
@@ -220,3 +238,123 @@ def wide_letters() -> Case:
     """A trace in whose name are letters that take more than one byte."""
     case = next(one for one in examples(()) if one.name == "one")
     return Case("wide_letters", case.source, case.stimulus, case.trace, "\u00e9" * 80 + "\u4e2d" * 20 + ".trace")
+
+
+def crowded() -> list[Case]:
+    """Runs whose texts have little room: long names side by side, large values, orders by variables across links, and rings."""
+    stations = ("/0/0.0", "/0/1.0", "/0/2.0", "/0/3.0", "/0/3.1.0", "/0/4.0", "/0/4.1/0", "/0/4.1/1", "/0/4.1/2", "/1.0", "/0/3.2", "/0/3.3.0",
+                "/1.1", "/0/3.4")
+    return [random_case("crowded_ports", CROWDED_PORTS, "an_input_port_with_a_long_name = 18446744073709551615 12345678901234567890 3\n"
+                        "a_sync_port_of_some_length_too * 3\n", 40),
+            random_case("crowded_router", CROWDED_ROUTER, "incoming_words = 18446744073709551615 3 7 18446744073709551614 4\n", 110),
+            end_case("crowded_stations", CROWDED_STATIONS, "s = 200 9\n", tuple(f"{step} 0" for step in stations)),
+            *(cells(places) for places in (2, 3, 6, 8, 12, 30, 70))]
+
+
+def cells(places: int) -> Case:
+    """So many cells in a ring, each of which waits for the one before it."""
+    calls = " || ".join(f"cell (c{place}, c{(place + 1) % places})" for place in range(places))
+    channels = ", ".join(f"c{place}" for place in range(places))
+    source = ("procedure cell (input i : 8 bits; output o : 8 bits) is\n  variable x : 8 bits\nbegin\n  loop i -> x ; o <- x end\nend\n"
+              f"procedure cells is\n  channel {channels} : 8 bits\nbegin\n  {calls}\nend\n")
+    return end_case(f"cells_{places}", source, "", tuple(f"/0/{place}.0 0" for place in range(places)))
+
+
+CROWDED_PORTS = """type w is 64 bits
+procedure the_receiving_procedure (input a_channel_with_a_name_that_is_far_too_long : w; output the_output_port_with_a_long_name : w) is
+  variable the_variable_with_a_name_that_is_also_rather_long : w
+begin
+  loop
+    a_channel_with_a_name_that_is_far_too_long -> the_variable_with_a_name_that_is_also_rather_long ;
+    the_variable_with_a_name_that_is_also_rather_long := (the_variable_with_a_name_that_is_also_rather_long - 1 as w) ;
+    the_output_port_with_a_long_name <- the_variable_with_a_name_that_is_also_rather_long
+  end
+end
+procedure ports (input an_input_port_with_a_long_name : w; output the_output_port_with_a_long_name_1, the_output_port_with_a_long_name_2 : w;
+                 sync a_sync_port_of_some_length_too) is
+  channel a_channel_with_a_name_that_is_far_too_long_1, a_channel_with_a_name_that_is_far_too_long_2 : w
+  shared variable the_variable_that_both_branches_write_1, the_variable_that_both_branches_write_2 : w
+  variable h : w
+begin
+  [ loop
+    an_input_port_with_a_long_name -> h ; the_variable_that_both_branches_write_1 := h ;
+    the_variable_that_both_branches_write_2 := the_variable_that_both_branches_write_1 ;
+    a_channel_with_a_name_that_is_far_too_long_1 <- h ;
+    a_channel_with_a_name_that_is_far_too_long_2 <- the_variable_that_both_branches_write_2
+  end ]
+  || the_receiving_procedure (a_channel_with_a_name_that_is_far_too_long_1, the_output_port_with_a_long_name_1)
+  || the_receiving_procedure (a_channel_with_a_name_that_is_far_too_long_2, the_output_port_with_a_long_name_2)
+  || [ loop
+    sync a_sync_port_of_some_length_too ;
+    the_variable_that_both_branches_write_1 := (the_variable_that_both_branches_write_2 - 6 as w)
+  end ]
+end
+"""
+CROWDED_ROUTER = """type word is 64 bits
+type nib is 4 bits
+procedure log (sync tick; output total : nib) is
+  variable n : nib
+begin
+  loop sync tick ; n := (n + 1 as nib) ; total <- n end
+end
+procedure worker (input job : word; output result : word; sync tick) is
+  variable accumulated_value_of_worker : word
+begin
+  loop
+    job -> accumulated_value_of_worker ;
+    [ sync tick || accumulated_value_of_worker := (accumulated_value_of_worker - 1 as word) ] ;
+    result <- accumulated_value_of_worker
+  end
+end
+procedure joiner (input from_first, from_second : word; output o : word) is
+begin
+  loop
+    arbitrate from_first then o <- from_first
+    | from_second then o <- (from_second - 1 as word)
+    end
+  end
+end
+procedure pair (input the_first_job_channel, the_second_job_channel : word; output o : word; sync t1, t2) is
+  channel a_rather_long_result_name_one, a_rather_long_result_name_two : word
+begin
+  worker (the_first_job_channel, a_rather_long_result_name_one, t1)
+  || worker (the_second_job_channel, a_rather_long_result_name_two, t2)
+  || joiner (a_rather_long_result_name_one, a_rather_long_result_name_two, o)
+end
+procedure top (input incoming_words : word; output outgoing_words : word; output total_one, total_two : nib) is
+  variable v : word
+  channel j1, j2 : word
+  sync t1, t2
+begin
+  [ loop incoming_words -> v ; if v < 100 then j1 <- v else j2 <- v end end ]
+  || pair (j1, j2, outgoing_words, t1, t2)
+  || log (t1, total_one)
+  || log (t2, total_two)
+end
+"""
+CROWDED_STATIONS = """type byte is 8 bits
+procedure a_station_with_a_long_name (input from_the_left_neighbour : byte; output to_the_right_neighbour : byte) is
+  variable x : byte
+begin
+  loop from_the_left_neighbour -> x ; to_the_right_neighbour <- x end
+end
+procedure ticker (output beat : byte) is
+  variable n : byte
+begin
+  loop n := (n + 1 as byte) ; beat <- n end
+end
+procedure spill (input s : byte) is
+  shared variable q : byte
+begin
+  s -> q ; [ q := (q + 1 as byte) || q := (q + 2 as byte) || q := (q + 4 as byte) ] ; halt
+end
+procedure stations (output beat : byte; input s : byte) is
+  channel between_first_and_second_station, between_second_and_third_station, between_third_and_first_station : byte
+begin
+  a_station_with_a_long_name (between_third_and_first_station, between_first_and_second_station)
+  || a_station_with_a_long_name (between_first_and_second_station, between_second_and_third_station)
+  || a_station_with_a_long_name (between_second_and_third_station, between_third_and_first_station)
+  || ticker (beat)
+  || spill (s)
+end
+"""

@@ -14,12 +14,14 @@ from xml.etree import ElementTree
 
 from cases import Case
 from facts import Facts, ToldFacts
+from lines import lane_line_faults
 from marks import events_of, inks_of, marked_faults, plain_faults, quiet_faults, race_faults, taken_apart
 from placed import Ground, bar_faults, column_faults, hatching_faults, placed_faults, point_faults
 from reference.debugger import accept
 from reference.traces import load
 from standing import standing_faults
 from texts import text_faults
+from waves import changed_wave
 
 TOOLS = {"vcd2fst": "the waves by GTKWave's reader", "fst2vcd": "the last values of waves", "xmllint": "whether drawings are well formed"}
 
@@ -93,6 +95,8 @@ def wave_faults(case: Case, drawer: Drawer) -> list[str]:
     waves = drawer.draw("--vcd")
     if drawer.draw("--vcd") != waves:
         return ["two calls differ"]
+    if not case.is_large and (fault := changed_wave(drawer.facts, waves.decode("latin-1"))):
+        return [fault]
     if shutil.which("vcd2fst") is None:
         return []
     vcd, fst = drawer.room / "run.vcd", drawer.room / "run.fst"
@@ -113,7 +117,7 @@ def wave_faults(case: Case, drawer: Drawer) -> list[str]:
 # --- drawings
 
 # Behind the name of the trace, which `name_faults` reads.
-HEAD = re.compile(rb">[^<>]*: (\d+ events?, [^<;]*)[<;]")
+HEAD = re.compile(rb">[^<>]*: (\d+ steps?, [^<;]*)[<;]")
 STATE = re.compile(rb">(\d+ causes?)</tspan> and <tspan [^>]*>(\d+ consequences?)</tspan> \(dashed\)")
 # a drawing of more bytes is not taken apart
 MOST_READ = 8_000_000
@@ -126,8 +130,9 @@ def counted(count: int, word: str) -> str:
 def head_faults(facts: Facts, drawing: bytes) -> list[str]:
     """Whether the line at the top counts the events, and says how the run stands."""
     ready = len(facts.all["ready"])
-    stands = "deadlock" if facts.all["has_ring"] else f"{ready} ready" if ready else facts.all["progress"]
-    told, wanted = HEAD.search(drawing), f"{counted(len(facts.events), 'event')}, {stands}"
+    taken = f"{ready} ready" if ready else ""
+    stands = ", ".join(["deadlock"] * facts.all["has_ring"] + [taken] * bool(ready)) or facts.all["progress"]
+    told, wanted = HEAD.search(drawing), f"{counted(len(facts.events), 'step')}, {stands}"
     return [] if told and told[1].decode() == wanted else [f"the line at the top is {told and told[1]}, wanted {wanted}"]
 
 
@@ -179,6 +184,8 @@ def single_faults(facts: Facts, data: dict, drawing: bytes, quiet: bool) -> list
     drawn, shown = taken_apart(facts, drawing, quiet), events_of(facts, quiet)
     ground = Ground(facts, drawn)
     found = head_faults(facts, drawing) + plain_faults(drawn) + hatching_faults(drawing) + race_faults(facts, drawn, shown)
+    if not quiet and not facts.case.is_large:
+        found += lane_line_faults(facts, drawn, shown)
     return found + (placed_faults(ground, shown, not quiet) or bar_faults(ground, shown) + standing_faults(ground, data))
 
 

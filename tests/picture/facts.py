@@ -103,6 +103,10 @@ class End:
             self.shown(moves, True, [[move.channel.number, [], 1] for move in moves if move.channel is not None]) for moves in met.values()
         ]
 
+    def addresses(self) -> list[Address]:
+        """Where these places are."""
+        return [*self.waiting, *dict.fromkeys(move.place for event in self.ready for move in event.moves)]
+
     def shown(self, moves: list[Move], is_ready: bool, wanted: list[list]) -> list:
         """A place where these moves are offered: its lane, its text, its line, what stands there, and on which channels, for whom."""
         first = moves[0]
@@ -164,6 +168,8 @@ def facts(case: Case) -> dict:
         if len(lanes) == 2:
             row["since"] = [stands_since(events, depth, at, place) for place in event.places]
         rows.append(row)
+    # the second places of handshakes without data that can be taken
+    seconds = {event.places[1] for event in machine.ready() if event.text.startswith("sync ")}
     return {
         "variables": [[one.name, one.width, int(one.shared)] for one in system.variables],
         "channels": [[one.name, one.width or 0] for one in system.channels],
@@ -179,6 +185,8 @@ def facts(case: Case) -> dict:
         "events taken": events,
         "ready": [[event.text, [lane_of(place) for place in event.places], lines_of(event), step_line(event)] for event in machine.ready()],
         "places": end.places(),
+        "stood": [[row[3], [one[0] for one in row[4]], stands_since(events, depth, len(events), place), place in seconds]
+                  for row, place in zip(end.places(), end.addresses(), strict=True)],
         "progress": end.progress(),
         "links": end.links(),
         "has_ring": end.has_ring(),

@@ -8,7 +8,7 @@ in that order, and one too many, one too few or one with another number is a fau
 from __future__ import annotations
 
 import re
-from dataclasses import dataclass, field
+from dataclasses import dataclass, field, replace
 from decimal import Decimal
 from xml.etree import ElementTree
 
@@ -70,8 +70,11 @@ MARKS = {"assign": (("square",),), "turn": (("circle 3",),), "test": (("diamond"
          "meet": PAIR, "open": PAIR, "sync": PAIR[:1]}
 # a turn or a test that is left out, and at which orders meet
 POINT = "circle 2"
+# what stands of a label behind the name
+VALUE = re.compile(r" (:= )?\d+")
 # what is drawn before the events
-BEFORE = {"line 2", "line 2 broken", "area", "curve", POINT, "text"}
+LANE = "line 2", "line 2 broken"
+BEFORE = {*LANE, "area", "curve", POINT, "text"}
 
 
 @dataclass
@@ -116,6 +119,13 @@ def ends_of(words: dict[str, str]) -> list[tuple[Decimal, Decimal]]:
     return [(Decimal(words["x" + end]), Decimal(words["y" + end])) for end in "12"]
 
 
+def cut_at(piece: Piece, heights: dict[Decimal, set[Decimal]]) -> list[Piece]:
+    """The line down, in parts that end at these heights of its column."""
+    (x, first), (_, last) = ends_of(piece.words)
+    stops = [first, *sorted(y for y in heights.get(x, ()) if first < y < last), last]
+    return [replace(piece, words={**piece.words, "y1": str(one), "y2": str(other)}) for one, other in zip(stops, stops[1:])]
+
+
 def pieces_of(drawing: bytes) -> list[Piece]:
     """What is drawn, in order. The paper under a text is taken together with it."""
     found, under = [], None
@@ -141,9 +151,11 @@ class Drawn:
         self.title, self.at = self.pieces[-1], 0
         while self.at < len(self.pieces) - 1 and self.kind() in BEFORE and not self.pieces[self.at].is_bare() and not self.is_frame():
             self.at += 1
-        self.under = self.pieces[:self.at]
+        first = self.at
         self.marks = [self.mark(number, kind) for number, kind in enumerate(kinds)]
         self.behind = self.pieces[self.at:-1]
+        self.under = self.in_parts(self.pieces[:first])
+        self.pieces = self.under + self.pieces[first:]
         if any(piece.kind() in ("circle 3", "circle 3.2", "line 1.7", "line 1 broken", "diamond") for piece in self.behind):
             raise ValueError("there are marks of more events")
 
@@ -174,6 +186,18 @@ class Drawn:
         return mark
 
     # --- what is drawn beside the marks
+
+    def in_parts(self, under: list[Piece]) -> list[Piece]:
+        """The lines of the lanes from one place of an event to the next, in order, and behind them all else. They are drawn as one as far
+        as they look alike."""
+        places = [point for mark in self.marks for point in mark.points()]
+        places += [(Decimal(piece.words["cx"]), Decimal(piece.words["cy"])) for piece in under if piece.kind() == POINT]
+        heights: dict[Decimal, set[Decimal]] = {}
+        for x, y in places:
+            heights.setdefault(x, set()).add(y)
+        lanes = [part for piece in under if piece.kind() in LANE for part in cut_at(piece, heights)]
+        lanes.sort(key=lambda piece: ends_of(piece.words))
+        return lanes + [piece for piece in under if piece.kind() not in LANE]
 
     def bars(self) -> int:
         return sum(piece.kind() == "area" for piece in self.under)
@@ -219,8 +243,15 @@ def numbers(drawn: Drawn) -> list[int | None]:
 
 
 def fits(text: str, whole: str) -> bool:
-    """Whether the text is the whole, or a beginning of it with three dots."""
-    return text == whole or text.endswith("...") and whole.startswith(text[:-3])
+    """Whether the text is the whole, or a beginning of it with three dots, behind which the value of the whole stands."""
+    name, value = named(whole)
+    return text == whole or text.endswith("..." + value) and name.startswith(text.removesuffix("..." + value))
+
+
+def named(label: str) -> tuple[str, str]:
+    """A label, cut into the name and the value with what stands before it."""
+    name, blank, value = label.partition(" ")
+    return (name, blank + value) if VALUE.fullmatch(blank + value) else (label, "")
 
 
 # --- what has to be so

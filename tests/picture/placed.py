@@ -25,8 +25,8 @@ OPENED, HELD = ("#bfe5d8", None), ("url(#held)", "3 3")
 
 
 def is_cut_well(text: str, whole: str) -> bool:
-    """Whether it is the whole, or of a long one the beginning with three dots."""
-    return text == whole or len(whole) > SHORT and len(text) > 3 and fits(text, whole)
+    """Whether it is the whole, or of a long one the beginning of the name with three dots, and the value."""
+    return text == whole or len(whole) > SHORT and not text.startswith("...") and fits(text, whole)
 
 
 class Ground:
@@ -197,10 +197,14 @@ def is_near(mark: Mark, piece: Piece) -> bool:
 
 # --- orders
 
+
+CURVE = re.compile(r"M([\d.]+) ([\d.]+)(?:V[\d.]+)?C[\d.]+ [\d.]+ [\d.]+ [\d.]+ ([\d.]+) ([\d.]+)(?:V([\d.]+))?")
+
+
 def ends_of_curve(piece: Piece) -> tuple[tuple[Decimal, Decimal], tuple[Decimal, Decimal]]:
-    """Where it begins and ends."""
-    numbers = [Decimal(number) for number in re.findall(r"[\d.]+", piece.words["d"])]
-    return (numbers[0], numbers[1]), (numbers[-3], numbers[-1])
+    """Where it begins and ends. Behind its beginning, and before its end, a line down may stand."""
+    x, y, across, end, down = CURVE.fullmatch(piece.words["d"]).groups()
+    return (Decimal(x), Decimal(y)), (Decimal(across), Decimal(down or end))
 
 
 class Orders:

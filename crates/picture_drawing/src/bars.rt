@@ -130,6 +130,14 @@ fn close_bar(
     }
 }
 
+/// The colour of a bar to the end that an event of this colour opened: what a cause opened goes on behind all causes.
+fn ink_to_end(open: Ink) -> Ink {
+    match open {
+        Ink::Cause => Ink::Faint,
+        own => own,
+    }
+}
+
 /// Draws the bar in one of its columns.
 fn draw_action(
     sheet: &mut Sheet,
@@ -145,7 +153,7 @@ fn draw_action(
             figure.rows.height(close),
             figure.ink_between(bar.open, close),
         ),
-        None => (figure.bottom, Ink::Dark),
+        None => (figure.bottom, ink_to_end(figure.ink(bar.open))),
     };
     let width = 150_u64.saturating_sub(level.saturating_mul(40)).max(50);
     let area = Area {

@@ -1,6 +1,6 @@
 // The columns: a lane each, so far apart that the labels fit.
 use crate::figure::{Ends, Scene, ends_of, is_quiet};
-use crate::labels::{Words, group_title, tell_lane};
+use crate::labels::{Told, Words, group_title, tell_lane};
 use crate::sheet::{LETTER, SMALL_LETTER};
 use crate::shown::Shown;
 use picture_data::{Actions, Lane, LaneKind, Place};
@@ -12,6 +12,12 @@ use std::alloc::{AllocError, Global};
 const LEFT: u64 = 620;
 
 pub(crate) const EDGE: u64 = 340;
+
+/// What is left, beside a label and the ticket, between an event with one action and the next column, and between the
+/// two columns of others.
+const BESIDE: u64 = 240;
+
+const BETWEEN: u64 = 360;
 
 /// The columns.
 #[derive(Drop)]
@@ -38,6 +44,14 @@ impl Columns {
         self.at.get(column).copied().unwrap_or(LEFT)
     }
 
+    /// How wide the label of an event with one action in the column may be, with a ticket that is so wide.
+    pub(crate) fn room_beside(&self, column: usize, number: u64) -> u64 {
+        self.at(column.saturating_add(1))
+            .saturating_sub(self.at(column))
+            .saturating_sub(number)
+            .saturating_sub(BESIDE)
+    }
+
     /// Where the last column ends.
     pub(crate) fn right(&self) -> u64 {
         self.at.as_slice().last().copied().unwrap_or(LEFT)
@@ -52,6 +66,20 @@ impl Columns {
     pub(crate) fn lane<'a>(&self, scene: &Scene<'a>, column: usize) -> Option<&'a Lane> {
         scene.picture.lanes.get(*self.lanes.get(column)?)
     }
+}
+
+/// The room for a label beside which so much is left: so much in all at most, but that the value is whole.
+fn label_room(words: Words<'_>, is_small: bool, beside: u64, most: u64) -> u64 {
+    let wanted = words.width(is_small).saturating_add(beside);
+    let least = words.least_width(is_small).saturating_add(beside);
+    wanted.min(most.max(least))
+}
+
+/// How wide the label of an event with two actions may be that stand there, with a ticket that is so wide.
+pub(crate) fn room_between(one: u64, other: u64, number: u64) -> u64 {
+    one.abs_diff(other)
+        .saturating_sub(number)
+        .saturating_sub(BETWEEN)
 }
 
 /// The room that is wanted between two columns: from the one that stands further to the left to the other.
@@ -100,22 +128,23 @@ impl Needs {
         &mut self,
         event: &Event,
         ends: Ends,
-        words: &Words,
+        words: Words<'_>,
         number: u64,
     ) -> Result<(), AllocError> {
-        let label = text_width(words.label.as_slice(), is_quiet(event));
         let Some(second) = ends.second else {
-            let room = label.saturating_add(number).saturating_add(240);
-            self.widen(ends.first, room.min(1700));
+            let beside = number.saturating_add(BESIDE);
+            let room = label_room(words, is_quiet(event), beside, 1700);
+            self.widen(ends.first, room);
             self.widen_left(ends.first, number.saturating_add(100));
             return Ok(());
         };
-        self.add_stored(ends.first, second, words.stored.as_slice());
-        let room = label.saturating_add(number).saturating_add(420);
+        self.add_stored(ends.first, second, words.stored);
+        // Some pixels more than the label takes.
+        let beside = number.saturating_add(BETWEEN).saturating_add(60);
         self.spans.push(Span {
             right: ends.first.max(second),
             left: ends.first.min(second),
-            room: room.min(1500),
+            room: label_room(words, false, beside, 1500),
         })?;
         Ok(())
     }
@@ -125,7 +154,7 @@ impl Needs {
         if name.is_empty() {
             return;
         }
-        let width = text_width(name, true).min(1000);
+        let width = text_width(name, true);
         if second > first {
             self.widen(second, width.saturating_add(220));
         } else {
@@ -140,10 +169,11 @@ pub(crate) fn columns_of(
     alloc: Global,
     scene: &Scene<'_>,
     shown: &Shown,
+    told: &Told,
 ) -> Result<Columns, AllocError> {
     let used = used_lanes(alloc, scene)?;
     let mut columns = numbered(alloc, used.as_slice())?;
-    set_apart(alloc, &mut columns, scene, shown)?;
+    set_apart(alloc, &mut columns, scene, shown, told)?;
     Ok(columns)
 }
 
@@ -219,19 +249,17 @@ fn set_apart(
     columns: &mut Columns,
     scene: &Scene<'_>,
     shown: &Shown,
+    told: &Told,
 ) -> Result<(), AllocError> {
     let mut needs = Needs {
         left: LEFT,
         widths: vec![in alloc; 420; columns.len()]?,
         spans: Vec::new(alloc),
     };
-    let mut words = Words::new(alloc);
     for (index, (ticket, event)) in scene.live.iter().enumerate() {
         if shown.is_marked(index) {
-            let actions = scene.actions(index);
-            words.tell(scene, event, actions)?;
-            if let Some(ends) = ends_of(columns, actions, event) {
-                needs.add_event(event, ends, &words, digits_width(ticket))?;
+            if let Some(ends) = ends_of(columns, scene.actions(index), event) {
+                needs.add_event(event, ends, told.words(index), digits_width(ticket))?;
             }
         }
     }
@@ -298,19 +326,24 @@ fn block_at(columns: &Columns, lanes: &Vec<Lane>, column: usize) -> Option<usize
     block_of(lanes.get(*lane)?)
 }
 
-/// Where the columns stand, and where the last ends.
+/// Where the columns stand, and where the last ends: at whole pixels.
 fn places_of(alloc: Global, needs: &Needs) -> Result<Vec<u64>, AllocError> {
     let mut at = Vec::with_capacity(alloc, needs.widths.len().saturating_add(1))?;
-    at.push(needs.left)?;
+    at.push(whole_pixels(needs.left))?;
     let mut next = 0;
     for (column, width) in needs.widths.as_slice().iter().enumerate() {
         let right = column.saturating_add(1);
         let end = end_of(at.as_slice(), column, *width);
         let (place, behind) = pushed(at.as_slice(), needs.spans.as_slice(), next, right, end);
-        at.push(place)?;
+        at.push(whole_pixels(place))?;
         next = behind;
     }
     Ok(at)
+}
+
+/// The same, or the next whole pixel.
+pub(crate) fn whole_pixels(tenths: u64) -> u64 {
+    tenths.saturating_add(9) / 10 * 10
 }
 
 /// Where the column ends that is so wide.

@@ -1,7 +1,7 @@
 // The rows: one for each depth, and in a row so many tracks that no two labels meet.
 use crate::columns::{Columns, digits_width, text_width};
 use crate::figure::{Ends, Scene, ends_of, is_quiet};
-use crate::labels::Words;
+use crate::labels::{Told, Words};
 use crate::race_names::{RaceName, names_of};
 use crate::shown::{Shown, Standing};
 use crate::tracks::{Band, Level, Placed, Tracks};
@@ -69,10 +69,11 @@ pub(crate) fn rows_of(
     scene: &Scene<'_>,
     shown: &Shown,
     columns: &Columns,
+    told: &Told,
 ) -> Result<Rows, AllocError> {
     let depths = depths_of(alloc, scene, shown)?;
     let names = names_of(alloc, scene, shown, columns, depths.as_slice())?;
-    let reaches = reaches_of(alloc, scene, shown, columns)?;
+    let reaches = reaches_of(alloc, scene, shown, columns, told)?;
     let mut placed = placed_of(alloc, scene, shown, depths.as_slice(), reaches.as_slice())?;
     add_names(&mut placed, depths.as_slice(), names.as_slice())?;
     placed.sort_unstable();
@@ -139,15 +140,19 @@ fn reaches_of(
     scene: &Scene<'_>,
     shown: &Shown,
     columns: &Columns,
+    told: &Told,
 ) -> Result<Vec<(u64, u64)>, AllocError> {
     let mut reaches = Vec::with_capacity(alloc, scene.live.len())?;
-    let mut words = Words::new(alloc);
     for (index, (ticket, event)) in scene.live.iter().enumerate() {
-        let actions = scene.actions(index);
-        words.tell(scene, event, actions)?;
-        let reach = match ends_of(columns, actions, event) {
+        let reach = match ends_of(columns, scene.actions(index), event) {
             Some(ends) if shown.is_marked(index) => {
-                reach_of(columns, ends, event, &words, digits_width(ticket))
+                reach_of(
+                    columns,
+                    ends,
+                    event,
+                    told.words(index),
+                    digits_width(ticket),
+                )
             }
             Some(ends) => around(columns.at(ends.first)),
             None => (0, 0),
@@ -167,15 +172,16 @@ fn reach_of(
     columns: &Columns,
     ends: Ends,
     event: &Event,
-    words: &Words,
+    words: Words<'_>,
     number: u64,
 ) -> (u64, u64) {
     let first = columns.at(ends.first);
     let Some(second) = ends.second else {
-        let label = text_width(words.label.as_slice(), is_quiet(event));
+        let room = columns.room_beside(ends.first, number);
+        let label = words.width(is_quiet(event)).min(room);
         return (
             first.saturating_sub(number).saturating_sub(120),
-            first.saturating_add(label.min(1500)).saturating_add(100),
+            first.saturating_add(label).saturating_add(100),
         );
     };
     let second = columns.at(second);
@@ -184,9 +190,7 @@ fn reach_of(
     if words.stored.is_empty() {
         return (low, high);
     }
-    let stored = text_width(words.stored.as_slice(), true)
-        .min(1000)
-        .saturating_add(100);
+    let stored = text_width(words.stored, true).saturating_add(100);
     if second > first {
         (low, high.saturating_add(stored))
     } else {

@@ -8,8 +8,10 @@ use crate::cones::{Asked, Cones, asked_of};
 use crate::depth_rows::rows_of;
 use crate::figure::{Figure, Scene, inks_of};
 use crate::heads::{draw_axis, draw_heads};
+use crate::labels::Told;
 use crate::links::draw_links;
 use crate::marks::draw_marks;
+use crate::names::Names;
 use crate::now::{bottom_of, draw_now};
 use crate::race_names::draw_names;
 use crate::sheet::{Part, Sheet};
@@ -36,10 +38,12 @@ pub fn drawing_text(
     ensures { IfOk result (λ drawn.
         MatchOption drawn (IsMissing machine.now.live event) (λ _. IsThere machine.now.live event)) }
 {
+    let names = Names::of(alloc, machine.checked().system())?;
     let scene = Scene {
         system: machine.checked().system(),
         live: machine.live_events(),
         picture,
+        names: &names,
         quiet,
     };
     match asked_of(alloc, machine.live_events(), event)? {
@@ -57,8 +61,9 @@ fn drawn(
     cones: Option<&Cones>,
 ) -> Result<Vec<u8>, AllocError> {
     let shown = shown_of(alloc, scene, cones)?;
-    let columns = columns_of(alloc, scene, &shown)?;
-    let rows = rows_of(alloc, scene, &shown, &columns)?;
+    let told = Told::of(alloc, scene, &shown)?;
+    let columns = columns_of(alloc, scene, &shown, &told)?;
+    let rows = rows_of(alloc, scene, &shown, &columns, &told)?;
     let inks = match cones {
         Some(cones) => inks_of(alloc, scene.live, cones)?,
         None => Vec::new(alloc),
@@ -66,6 +71,7 @@ fn drawn(
     let figure = Figure {
         scene: *scene,
         shown: &shown,
+        told: &told,
         columns: &columns,
         rows: &rows,
         inks: inks.as_slice(),
@@ -98,7 +104,7 @@ fn whole(
 fn draw_events(alloc: Global, sheet: &mut Sheet, figure: &Figure<'_>) -> Result<(), AllocError> {
     draw_trails(alloc, sheet, figure)?;
     draw_bars(alloc, sheet, figure)?;
-    draw_links(sheet, figure)?;
+    draw_links(alloc, sheet, figure)?;
     draw_marks(alloc, sheet, figure)
 }
 

@@ -3,6 +3,8 @@ use crate::columns::Columns;
 use crate::cones::Cones;
 use crate::depth_rows::Rows;
 use crate::ink::Ink;
+use crate::labels::Told;
+use crate::names::Names;
 use crate::sheet::Point;
 use crate::shown::Shown;
 use dependence::Live;
@@ -17,6 +19,7 @@ pub(crate) struct Scene<'a> {
     pub(crate) system: &'a System,
     pub(crate) live: &'a Live,
     pub(crate) picture: &'a Picture,
+    pub(crate) names: &'a Names,
     /// turns and tests are left out
     pub(crate) quiet: bool,
 }
@@ -88,6 +91,7 @@ pub(crate) fn own_lane(actions: Actions, event: &Event) -> Option<usize> {
 pub(crate) struct Figure<'a> {
     pub(crate) scene: Scene<'a>,
     pub(crate) shown: &'a Shown,
+    pub(crate) told: &'a Told,
     pub(crate) columns: &'a Columns,
     pub(crate) rows: &'a Rows,
     /// how each event stands to the one that is asked for; empty where none is

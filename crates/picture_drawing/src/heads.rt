@@ -31,10 +31,8 @@ pub(crate) fn draw_axis(sheet: &mut Sheet, figure: &Figure<'_>) -> Result<(), Al
 /// Writes the number of a row that begins there.
 fn draw_row_number(sheet: &mut Sheet, row: u64, top: u64) -> Result<(), AllocError> {
     sheet.add_all(&[
-        Part::Text("<text"),
-        Part::Measure("x", 300),
-        Part::Measure("y", top.saturating_add(130)),
-        Part::Text(" font-size=\"9\" fill=\"#5d6872\" text-anchor=\"end\">"),
+        Part::Length("<text x=\"30\" y=\"", top.saturating_add(130)),
+        Part::Text("\" font-size=\"9\" fill=\"#5d6872\" text-anchor=\"end\">"),
         Part::Number(row),
         Part::Text("</text>\n"),
     ])

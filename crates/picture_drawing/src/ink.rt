@@ -76,15 +76,15 @@ pub(crate) enum Dash {
 }
 
 impl Dash {
-    /// The lengths of strokes and gaps.
-    pub(crate) fn lengths(self) -> &'static str {
+    /// The end of the last attribute and of the element, with the lengths of strokes and gaps, if there are any.
+    pub(crate) fn end(self) -> &'static str {
         match self {
-            Dash::Whole => "",
-            Dash::Dots => "1 4",
-            Dash::Short => "3 3",
-            Dash::Long => "5 4",
-            Dash::Parts => "3 1.5",
-            Dash::Fine => "1 2",
+            Dash::Whole => "\"/>\n",
+            Dash::Dots => "\" stroke-dasharray=\"1 4\"/>\n",
+            Dash::Short => "\" stroke-dasharray=\"3 3\"/>\n",
+            Dash::Long => "\" stroke-dasharray=\"5 4\"/>\n",
+            Dash::Parts => "\" stroke-dasharray=\"3 1.5\"/>\n",
+            Dash::Fine => "\" stroke-dasharray=\"1 2\"/>\n",
         }
     }
 }

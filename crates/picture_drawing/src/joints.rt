@@ -1,6 +1,6 @@
 // Between which columns an order of two events is drawn.
 use crate::columns::Columns;
-use crate::figure::{Ends, Scene, ends_of};
+use crate::figure::Scene;
 use address::{Address, before};
 use runs::Event;
 
@@ -14,6 +14,13 @@ pub(crate) struct Joint {
     pub(crate) to: usize,
 }
 
+/// The columns in which an event stands.
+#[derive(Clone, Copy)]
+struct Sides {
+    first: usize,
+    second: Option<usize>,
+}
+
 /// Where an order of two events is drawn that have no column in common: between places of which the one is before the
 /// other, where there are such, and else where it is shortest.
 pub(crate) fn joint_of(
@@ -22,8 +29,8 @@ pub(crate) fn joint_of(
     earlier: usize,
     later: usize,
 ) -> Option<Joint> {
-    let from = ends_at(scene, columns, earlier)?;
-    let to = ends_at(scene, columns, later)?;
+    let from = sides_at(scene, columns, earlier)?;
+    let to = sides_at(scene, columns, later)?;
     if has(to, from.first) || from.second.is_some_and(|column| has(to, column)) {
         return None;
     }
@@ -37,18 +44,21 @@ pub(crate) fn joint_of(
 }
 
 /// The columns of the event at an index.
-fn ends_at(scene: &Scene<'_>, columns: &Columns, index: usize) -> Option<Ends> {
-    let (_, event) = scene.live.pair_at(index as u64)?;
-    ends_of(columns, scene.actions(index), event)
+fn sides_at(scene: &Scene<'_>, columns: &Columns, index: usize) -> Option<Sides> {
+    let actions = scene.actions(index);
+    Some(Sides {
+        first: columns.of(actions.first_lane)?,
+        second: columns.of(actions.second_lane),
+    })
 }
 
 /// Whether the column is one of these.
-fn has(ends: Ends, column: usize) -> bool {
-    ends.first == column || ends.second == Some(column)
+fn has(sides: Sides, column: usize) -> bool {
+    sides.first == column || sides.second == Some(column)
 }
 
 /// Where the order from a place to an event is drawn.
-fn nearest(columns: &Columns, from: usize, place: &Address, to: Ends, other: &Event) -> Joint {
+fn nearest(columns: &Columns, from: usize, place: &Address, to: Sides, other: &Event) -> Joint {
     let first = made_joint(columns, from, place, to.first, &other.first);
     match (to.second, &other.second) {
         (Some(column), Some(second)) => {

@@ -1,29 +1,168 @@
 // What is written beside events, and over the columns.
+use crate::columns::text_width;
 use crate::figure::{Scene, own_lane};
+use crate::names::Name;
+use crate::shown::Shown;
 use itoa::Buffer;
-use picture_data::{Actions, Lane, LaneKind, prefix_length};
+use picture_data::{Actions, Lane, LaneKind};
 use runs::{Event, Kind};
 use std::alloc::{AllocError, Global};
 use system::QualifiedName;
 
+/// So many letters of a name are told at most, and of one that a value is received into.
+const MOST_LETTERS: u64 = 256;
+
+const MOST_STORED: u64 = 17;
+
 /// The words of an event.
-#[derive(Drop)]
-pub(crate) struct Words {
-    /// what happens: the name and the value
-    pub(crate) label: Vec<u8>,
+#[derive(Clone, Copy)]
+pub(crate) struct Words<'a> {
+    /// the name of the channel or of the variable
+    name: &'a [u8],
+    /// the value with what stands before it, or what else happens; it is never cut
+    value: &'a [u8],
     /// the variable that a value is received into; empty where there is none
-    pub(crate) stored: Vec<u8>,
-    whole: Vec<u8>,
+    pub(crate) stored: &'a [u8],
 }
 
-impl Words {
-    /// None.
-    pub(crate) fn new(alloc: Global) -> Words {
-        Words {
-            label: Vec::new(alloc),
-            stored: Vec::new(alloc),
-            whole: Vec::new(alloc),
+impl Words<'_> {
+    /// How wide the label is: name and value.
+    pub(crate) fn width(&self, is_small: bool) -> u64 {
+        text_width(self.name, is_small).saturating_add(text_width(self.value, is_small))
+    }
+
+    /// How wide it is at least where the name is cut.
+    pub(crate) fn least_width(&self, is_small: bool) -> u64 {
+        let name = text_width(self.name, is_small);
+        text_width(self.value, is_small).saturating_add(name.min(text_width(b"abc...", is_small)))
+    }
+
+    /// Adds the label. Where it is wider than the room the name is cut, and the value stays whole.
+    pub(crate) fn add_label(
+        &self,
+        out: &mut Vec<u8>,
+        room: u64,
+        letter: u64,
+    ) -> Result<(), AllocError> {
+        let rest = room.saturating_sub((self.value.len() as u64).saturating_mul(letter));
+        add_cut(out, self.name, rest, letter)?;
+        out.extend_from_slice(self.value)
+    }
+}
+
+/// The words of all events that have marks, told once.
+#[derive(Drop)]
+pub(crate) struct Told {
+    text: Vec<u8>,
+    /// where in it the words of each event end; those of the next begin there
+    ends: Vec<WordEnds>,
+}
+
+/// Where the words of an event end: the name, the value, and what it is stored in.
+#[derive(Clone, Copy)]
+struct WordEnds {
+    name: usize,
+    value: usize,
+    stored: usize,
+}
+
+impl Told {
+    /// The words of the run.
+    pub(crate) fn of(alloc: Global, scene: &Scene<'_>, shown: &Shown) -> Result<Told, AllocError> {
+        let mut told = Told {
+            text: Vec::new(alloc),
+            ends: Vec::with_capacity(alloc, scene.live.len())?,
+        };
+        let mut teller = Teller::new(alloc);
+        for (index, (_, event)) in scene.live.iter().enumerate() {
+            if shown.is_marked(index) {
+                teller.tell(scene, event, scene.actions(index))?;
+            } else {
+                teller.clear();
+            }
+            told.add(teller.words())?;
         }
+        Ok(told)
+    }
+
+    /// Adds the words of the next event.
+    fn add(&mut self, words: Words<'_>) -> Result<(), AllocError> {
+        self.text.extend_from_slice(words.name)?;
+        let name = self.text.len();
+        self.text.extend_from_slice(words.value)?;
+        let value = self.text.len();
+        self.text.extend_from_slice(words.stored)?;
+        let stored = self.text.len();
+        self.ends.push(WordEnds {
+            name,
+            value,
+            stored,
+        })?;
+        Ok(())
+    }
+
+    /// The words of the event at an index.
+    pub(crate) fn words(&self, index: usize) -> Words<'_> {
+        let begin = match index.checked_sub(1) {
+            Some(before) => self.ends_at(before).stored,
+            None => 0,
+        };
+        let ends = self.ends_at(index);
+        Words {
+            name: self.part(begin, ends.name),
+            value: self.part(ends.name, ends.value),
+            stored: self.part(ends.value, ends.stored),
+        }
+    }
+
+    /// Where the words of the event at an index end.
+    fn ends_at(&self, index: usize) -> WordEnds {
+        self.ends.get(index).copied().unwrap_or(WordEnds {
+            name: 0,
+            value: 0,
+            stored: 0,
+        })
+    }
+
+    /// A part of the text.
+    fn part(&self, begin: usize, end: usize) -> &[u8] {
+        let behind = self.text.as_slice().get(begin..).unwrap_or(&[]);
+        behind.get(..end.saturating_sub(begin)).unwrap_or(&[])
+    }
+}
+
+/// Tells the words of one event after another.
+#[derive(Drop)]
+pub(crate) struct Teller {
+    name: Vec<u8>,
+    value: Vec<u8>,
+    stored: Vec<u8>,
+}
+
+impl Teller {
+    /// None yet.
+    pub(crate) fn new(alloc: Global) -> Teller {
+        Teller {
+            name: Vec::new(alloc),
+            value: Vec::new(alloc),
+            stored: Vec::new(alloc),
+        }
+    }
+
+    /// The words that were told last.
+    pub(crate) fn words(&self) -> Words<'_> {
+        Words {
+            name: self.name.as_slice(),
+            value: self.value.as_slice(),
+            stored: self.stored.as_slice(),
+        }
+    }
+
+    /// Makes them none.
+    fn clear(&mut self) {
+        self.name.clear();
+        self.value.clear();
+        self.stored.clear();
     }
 
     /// Makes them those of an event with these lanes.
@@ -33,12 +172,11 @@ impl Words {
         event: &Event,
         actions: Actions,
     ) -> Result<(), AllocError> {
-        self.label.clear();
-        self.stored.clear();
+        self.clear();
         let lane = own_lane(actions, event);
         match event.kind {
             Kind::Assign => self.tell_assignment(scene, event, lane),
-            Kind::Turn => self.label.extend_from_slice(b"turn"),
+            Kind::Turn => self.value.extend_from_slice(b"turn"),
             Kind::Test => self.tell_test(event),
             Kind::Close => Ok(()),
             Kind::Meet | Kind::Open | Kind::Sync => self.tell_handshake(scene, event, lane),
@@ -53,17 +191,17 @@ impl Words {
         lane: Option<usize>,
     ) -> Result<(), AllocError> {
         let name = written_name(scene, event);
-        add_own_name(scene, name, lane, &mut self.whole, &mut self.label)?;
-        self.label.extend_from_slice(b" := ")?;
-        add_value(event, &mut self.label)
+        add_own_name(scene, name, lane, MOST_LETTERS, &mut self.name)?;
+        self.value.extend_from_slice(b" := ")?;
+        add_value(event, &mut self.value)
     }
 
     /// The words of a test.
     fn tell_test(&mut self, event: &Event) -> Result<(), AllocError> {
-        self.label.extend_from_slice(b"test ")?;
+        self.value.extend_from_slice(b"test ")?;
         match event.arm {
-            Some(arm) => add_number(&mut self.label, u64::from(arm)),
-            None => self.label.extend_from_slice(b"none"),
+            Some(arm) => add_number(&mut self.value, u64::from(arm)),
+            None => self.value.extend_from_slice(b"none"),
         }
     }
 
@@ -75,27 +213,27 @@ impl Words {
         lane: Option<usize>,
     ) -> Result<(), AllocError> {
         let name = channel_name(scene, event);
-        add_own_name(scene, name, lane, &mut self.whole, &mut self.label)?;
+        add_own_name(scene, name, lane, MOST_LETTERS, &mut self.name)?;
         if event.value.is_some() {
-            self.label.extend_from_slice(b" ")?;
-            add_value(event, &mut self.label)?;
+            self.value.extend_from_slice(b" ")?;
+            add_value(event, &mut self.value)?;
         }
         if event.kind == Kind::Meet {
             let name = written_name(scene, event);
-            add_own_name(scene, name, lane, &mut self.whole, &mut self.stored)?;
+            add_own_name(scene, name, lane, MOST_STORED, &mut self.stored)?;
         }
         Ok(())
     }
 }
 
 /// The name of the variable that the event writes, if it writes one.
-fn written_name<'a>(scene: &Scene<'a>, event: &Event) -> Option<&'a QualifiedName> {
-    scene.system.variable_name(event.written?)
+fn written_name<'a>(scene: &Scene<'a>, event: &Event) -> Option<Name<'a>> {
+    scene.names.variable(event.written?)
 }
 
 /// The name of the channel of the event, if it has one.
-fn channel_name<'a>(scene: &Scene<'a>, event: &Event) -> Option<&'a QualifiedName> {
-    scene.system.channel_name(event.channel?)
+fn channel_name<'a>(scene: &Scene<'a>, event: &Event) -> Option<Name<'a>> {
+    scene.names.channel(event.channel?)
 }
 
 /// Adds a number.
@@ -113,27 +251,20 @@ fn add_value(event: &Event, out: &mut Vec<u8>) -> Result<(), AllocError> {
     }
 }
 
-/// Adds a name: its own alone where it is declared in the block of the lane or in one around it, and else the whole.
-/// `whole` is written anew.
+/// Adds a name, or the beginning of one of more letters than so many: its own alone where it is declared in the block of
+/// the lane or in one around it, and else the whole.
 fn add_own_name(
     scene: &Scene<'_>,
-    name: Option<&QualifiedName>,
+    name: Option<Name<'_>>,
     lane: Option<usize>,
-    whole: &mut Vec<u8>,
+    most: u64,
     out: &mut Vec<u8>,
 ) -> Result<(), AllocError> {
     let Some(name) = name else {
         return Ok(());
     };
-    whole.clear();
-    name.write_to(whole)?;
-    out.extend_from_slice(own_part(block_prefix(scene, lane), whole.as_slice()))
-}
-
-/// What of a name is written in a block with this prefix.
-fn own_part<'a>(block: &[u8], name: &'a [u8]) -> &'a [u8] {
-    let (prefix, own) = name.split_at(prefix_length(name));
-    if block.starts_with(prefix) { own } else { name }
+    let is_own = block_prefix(scene, lane).starts_with(name.prefix);
+    add_cut(out, if is_own { name.own } else { name.whole }, most, 1)
 }
 
 /// The prefix of the block of the lane; empty for the environment.

@@ -14,6 +14,7 @@ mod joints;
 mod labels;
 mod links;
 mod marks;
+mod names;
 mod now;
 mod race_names;
 mod sheet;

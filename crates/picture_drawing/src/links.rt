@@ -5,20 +5,84 @@ use crate::joints::{Joint, joint_of};
 use crate::sheet::{Bend, Point, Sheet};
 use crate::shown::{Link, Standing};
 use picture_data::Race;
-use std::alloc::AllocError;
+use std::alloc::{AllocError, Global};
+
+/// The heights at which something stands in each column, from the top.
+#[derive(Drop)]
+struct Stations {
+    heights: Vec<Vec<u64>>,
+}
+
+impl Stations {
+    /// Those of what is drawn.
+    fn of(alloc: Global, figure: &Figure<'_>) -> Result<Stations, AllocError> {
+        let mut stations = Stations {
+            heights: empty_lists(alloc, figure.columns.len())?,
+        };
+        for index in 0..figure.shown.len() {
+            if figure.shown.is_there(index) {
+                let actions = figure.scene.actions(index);
+                let height = figure.rows.height(index);
+                stations.add(figure.columns.of(actions.first_lane), height)?;
+                stations.add(figure.columns.of(actions.second_lane), height)?;
+            }
+        }
+        Ok(stations)
+    }
+
+    /// Notes that something stands there in the column, if there is one.
+    fn add(&mut self, column: Option<usize>, height: u64) -> Result<(), AllocError> {
+        let Some(column) = column else {
+            return Ok(());
+        };
+        match self.heights.get_mut(column) {
+            Some(heights) => {
+                heights.push(height)?;
+                Ok(())
+            }
+            None => Ok(()),
+        }
+    }
+
+    /// Whether nothing stands in the column between two heights.
+    fn is_free(&self, column: usize, from: u64, to: u64) -> bool {
+        let Some(heights) = self.heights.get(column) else {
+            return true;
+        };
+        let next = heights.as_slice().partition_point(|height| *height <= from);
+        match heights.get(next) {
+            Some(height) => *height >= to,
+            None => true,
+        }
+    }
+}
+
+/// So many lists in which nothing stands.
+fn empty_lists(alloc: Global, count: usize) -> Result<Vec<Vec<u64>>, AllocError> {
+    let mut lists = Vec::with_capacity(alloc, count)?;
+    for _ in 0..count {
+        lists.push(Vec::new(alloc))?;
+    }
+    Ok(lists)
+}
 
 /// Draws what joins events of different lanes, and the events that stay as points.
-pub(crate) fn draw_links(sheet: &mut Sheet, figure: &Figure<'_>) -> Result<(), AllocError> {
-    draw_needs(sheet, figure)?;
+pub(crate) fn draw_links(
+    alloc: Global,
+    sheet: &mut Sheet,
+    figure: &Figure<'_>,
+) -> Result<(), AllocError> {
+    draw_needs(alloc, sheet, figure)?;
     draw_races(sheet, figure)?;
     draw_points(sheet, figure)
 }
 
 /// Draws who needs whom.
-fn draw_needs(sheet: &mut Sheet, figure: &Figure<'_>) -> Result<(), AllocError> {
+fn draw_needs(alloc: Global, sheet: &mut Sheet, figure: &Figure<'_>) -> Result<(), AllocError> {
+    let stations = Stations::of(alloc, figure)?;
     for link in figure.shown.links() {
         if figure.shown.is_there(link.later) {
-            draw_link(sheet, figure, *link)?;
+            draw_link(sheet, figure, &stations, *link)?;
         }
     }
     Ok(())
@@ -54,7 +118,12 @@ fn draw_point(sheet: &mut Sheet, figure: &Figure<'_>, index: usize) -> Result<()
 }
 
 /// Draws a link, but for an order that only a shared variable makes between one and its follower.
-fn draw_link(sheet: &mut Sheet, figure: &Figure<'_>, link: Link) -> Result<(), AllocError> {
+fn draw_link(
+    sheet: &mut Sheet,
+    figure: &Figure<'_>,
+    stations: &Stations,
+    link: Link,
+) -> Result<(), AllocError> {
     let Some(joint) = joint_of(&figure.scene, figure.columns, link.earlier, link.later) else {
         return Ok(());
     };
@@ -62,17 +131,27 @@ fn draw_link(sheet: &mut Sheet, figure: &Figure<'_>, link: Link) -> Result<(), A
     let from = figure.point(joint.from, link.earlier);
     let to = figure.point(joint.to, link.later);
     if !joint.is_apart {
-        let bend = if opens_branch(figure, joint) {
-            fork(from, to)
-        } else {
-            join(from, to)
-        };
+        let bend = way_of(figure, stations, joint, from, to);
         return sheet.bend(bend, ink.or(Ink::Soft), Dash::Whole);
     }
     if is_race(figure.scene.picture.steps.races.as_slice(), link) {
         return Ok(());
     }
     sheet.bend(curve(from, to), ink.or(Ink::Race), Dash::Long)
+}
+
+/// The way from the one to the other: down in a column where nothing stands between them, so that it leads through no other
+/// event. To a branch it goes in the column of that, if it can.
+fn way_of(figure: &Figure<'_>, stations: &Stations, joint: Joint, from: Point, to: Point) -> Bend {
+    let is_first_free = stations.is_free(joint.from, from.y, to.y);
+    let is_second_free = stations.is_free(joint.to, from.y, to.y);
+    if is_second_free && (!is_first_free || opens_branch(figure, joint)) {
+        fork(from, to)
+    } else if is_first_free {
+        join(from, to)
+    } else {
+        curve(from, to)
+    }
 }
 
 /// Whether the later lane is one of branches of the earlier.

@@ -1,9 +1,9 @@
 // The mark of each event, with its words.
-use crate::columns::digits_width;
+use crate::columns::{digits_width, room_between};
 use crate::depth_rows::is_tall;
 use crate::figure::{Ends, Figure, ends_of, is_quiet};
 use crate::ink::{Dash, Ink};
-use crate::labels::{Words, add_cut, add_number};
+use crate::labels::{Words, add_number};
 use crate::sheet::{Anchor, Area, Point, SMALL_LETTER, Sheet, Style};
 use runs::{Event, Kind};
 use std::alloc::{AllocError, Global};
@@ -11,7 +11,6 @@ use std::alloc::{AllocError, Global};
 /// What is used for one event after another.
 #[derive(Drop)]
 struct Scratch {
-    words: Words,
     /// the ticket, and what is written of a label
     number: Vec<u8>,
     text: Vec<u8>,
@@ -31,34 +30,13 @@ impl Scratch {
     fn write_label(
         &mut self,
         sheet: &mut Sheet,
+        words: Words<'_>,
         at: Point,
         room: u64,
         style: Style,
     ) -> Result<(), AllocError> {
         self.text.clear();
-        add_cut(
-            &mut self.text,
-            self.words.label.as_slice(),
-            room,
-            style.letter(),
-        )?;
-        sheet.words(at, self.text.as_slice(), style)
-    }
-
-    /// Writes the name of the variable that a value is received into.
-    fn write_stored(
-        &mut self,
-        sheet: &mut Sheet,
-        at: Point,
-        style: Style,
-    ) -> Result<(), AllocError> {
-        self.text.clear();
-        add_cut(
-            &mut self.text,
-            self.words.stored.as_slice(),
-            1000,
-            SMALL_LETTER,
-        )?;
+        words.add_label(&mut self.text, room, style.letter())?;
         sheet.words(at, self.text.as_slice(), style)
     }
 }
@@ -82,6 +60,7 @@ struct Look {
 struct Mark<'a> {
     index: usize,
     event: &'a Event,
+    words: Words<'a>,
     look: Look,
     /// how wide its ticket is
     number: u64,
@@ -94,7 +73,6 @@ pub(crate) fn draw_marks(
     figure: &Figure<'_>,
 ) -> Result<(), AllocError> {
     let mut scratch = Scratch {
-        words: Words::new(alloc),
         number: Vec::new(alloc),
         text: Vec::new(alloc),
     };
@@ -103,6 +81,7 @@ pub(crate) fn draw_marks(
             let mark = Mark {
                 index,
                 event,
+                words: figure.told.words(index),
                 look: look_of(figure, index),
                 number: digits_width(ticket),
             };
@@ -124,7 +103,6 @@ fn draw_event(
     let Some(ends) = ends_of(figure.columns, actions, mark.event) else {
         return Ok(());
     };
-    scratch.words.tell(&figure.scene, mark.event, actions)?;
     scratch.tell_ticket(ticket, ends.second.is_some())?;
     if mark.look.under == Ink::Chosen {
         draw_choice(sheet, figure, mark)?;
@@ -162,10 +140,12 @@ fn look_of(figure: &Figure<'_>, index: usize) -> Look {
 /// Draws what lies behind the event that is asked for, as high as its track has room.
 fn draw_choice(sheet: &mut Sheet, figure: &Figure<'_>, mark: Mark<'_>) -> Result<(), AllocError> {
     let (low, high) = figure.rows.reach(mark.index);
-    let (above, height) = if is_tall(mark.event) {
+    let (above, height) = if mark.event.kind == Kind::Assign {
+        (95, 180)
+    } else if is_tall(mark.event) {
         (140, 200)
     } else {
-        (75, 150)
+        (80, 150)
     };
     let area = Area {
         x: low.saturating_sub(20),
@@ -213,21 +193,13 @@ fn draw_single(
     }
     let quiet = is_quiet(mark.event);
     let ink = if quiet { look.soft } else { look.ink };
-    let next = figure.columns.at(column.saturating_add(1));
-    let room = next
-        .saturating_sub(at.x)
-        .saturating_sub(mark.number)
-        .saturating_sub(240);
+    let room = figure.columns.room_beside(column, mark.number);
     let label = Point {
         x: beside(at, true, 90),
         y: at.y.saturating_add(40),
     };
-    scratch.write_label(
-        sheet,
-        label,
-        room,
-        words_style(ink, quiet, true, look.under),
-    )?;
+    let style = words_style(ink, quiet, true, look.under);
+    scratch.write_label(sheet, mark.words, label, room, style)?;
     let ticket = Point {
         x: beside(at, false, 100),
         y: at.y.saturating_add(30),
@@ -265,16 +237,16 @@ fn draw_pair(
         x: beside(own, right, by.saturating_add(180)),
         y,
     };
-    let room = from.x.abs_diff(to.x).saturating_sub(mark.number);
+    let room = room_between(from.x, to.x, mark.number);
     let style = words_style(mark.look.ink, false, right, mark.look.under);
-    scratch.write_label(sheet, label, room.saturating_sub(360), style)?;
+    scratch.write_label(sheet, mark.words, label, room, style)?;
     let to_right = to.x > from.x;
     let stored = Point {
         x: beside(to, to_right, 80),
         y: to.y.saturating_add(30),
     };
     let style = words_style(mark.look.soft, true, to_right, mark.look.under);
-    scratch.write_stored(sheet, stored, style)
+    sheet.words(stored, mark.words.stored, style)
 }
 
 /// Draws the line between two actions, and its ends.

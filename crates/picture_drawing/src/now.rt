@@ -1,7 +1,7 @@
 // What stands at the end: the events that can be taken, and what waits for whom.
 use crate::figure::{Ends, Figure, Scene, ends_of};
 use crate::ink::{Dash, Ink};
-use crate::labels::{Words, add_cut};
+use crate::labels::{Teller, add_cut};
 use crate::sheet::{Anchor, LETTER, Point, Sheet, Style};
 use picture_data::{LaneKind, Place, Role};
 use runs::{Event, Kind};
@@ -58,10 +58,10 @@ pub(crate) fn draw_now(
     }
     draw_edge(sheet, start)?;
     let mut height = start.saturating_add(140);
-    let mut words = Words::new(alloc);
+    let mut teller = Teller::new(alloc);
     let mut text = Vec::new(alloc);
     for (index, event) in figure.scene.picture.end.ready.as_slice().iter().enumerate() {
-        tell_ready(figure, &mut words, &mut text, index, event)?;
+        tell_ready(figure, &mut teller, &mut text, index, event)?;
         draw_ready(sheet, figure, text.as_slice(), index, event, height)?;
         height = height.saturating_add(LINE);
     }
@@ -96,16 +96,16 @@ fn words_beside(
 /// Makes the text that of the event at an index of those that can be taken.
 fn tell_ready(
     figure: &Figure<'_>,
-    words: &mut Words,
+    teller: &mut Teller,
     text: &mut Vec<u8>,
     index: usize,
     event: &Event,
 ) -> Result<(), AllocError> {
     text.clear();
     if let Some(actions) = figure.scene.picture.end.ready_actions.get(index) {
-        words.tell(&figure.scene, event, *actions)?;
+        teller.tell(&figure.scene, event, *actions)?;
         text.extend_from_slice(verb(event.kind))?;
-        add_cut(text, words.label.as_slice(), 2400, LETTER)?;
+        teller.words().add_label(text, 2400, LETTER)?;
     }
     Ok(())
 }
@@ -155,7 +155,7 @@ fn draw_ready(
     sheet.circle(to, 40, Ink::White, Ink::Ready, Dash::Whole)?;
     sheet.circle(from, 40, Ink::White, Ink::Ready, Dash::Whole)?;
     let left = from.x.min(to.x);
-    words_beside(sheet, left, y.saturating_sub(40), text, Ink::Ready)
+    words_beside(sheet, left, y.saturating_sub(60), text, Ink::Ready)
 }
 
 /// Draws the places that wait, from this height on.
@@ -168,12 +168,11 @@ fn draw_places(
     let end = &figure.scene.picture.end;
     let partners = ring_partners(alloc, end.places.len(), end.ring.as_slice())?;
     let mut y = from;
-    let mut whole = Vec::new(alloc);
     let mut text = Vec::new(alloc);
     for (index, place) in end.places.as_slice().iter().enumerate() {
         if is_shown(&figure.scene, place) {
             let partner = partners.get(index).copied().unwrap_or(None);
-            tell_place(figure, place, &mut whole, &mut text)?;
+            tell_place(figure, place, &mut text)?;
             draw_place(sheet, figure, place, partner, text.as_slice(), y)?;
             y = y.saturating_add(LINE);
         }
@@ -289,12 +288,7 @@ fn draw_arrow(
 }
 
 /// Makes the text that of the place: the channels on which it waits.
-fn tell_place(
-    figure: &Figure<'_>,
-    place: &Place,
-    whole: &mut Vec<u8>,
-    text: &mut Vec<u8>,
-) -> Result<(), AllocError> {
+fn tell_place(figure: &Figure<'_>, place: &Place, text: &mut Vec<u8>) -> Result<(), AllocError> {
     text.clear();
     if place.role == Role::Held {
         text.extend_from_slice(b"held ")?;
@@ -305,7 +299,7 @@ fn tell_place(
         if index > 0 {
             text.extend_from_slice(b" | ")?;
         }
-        add_channel(figure, wanted.channel, whole, text)?;
+        add_channel(figure, wanted.channel, text)?;
     }
     if none_comes && !place.wanted.is_empty() {
         text.extend_from_slice(never(place.role))?;
@@ -323,15 +317,9 @@ fn never(role: Role) -> &'static [u8] {
 }
 
 /// Adds the name of a channel, or its beginning.
-fn add_channel(
-    figure: &Figure<'_>,
-    channel: u32,
-    whole: &mut Vec<u8>,
-    text: &mut Vec<u8>,
-) -> Result<(), AllocError> {
-    whole.clear();
-    if let Some(name) = figure.scene.system.channel_name(channel) {
-        name.write_to(whole)?;
+fn add_channel(figure: &Figure<'_>, channel: u32, text: &mut Vec<u8>) -> Result<(), AllocError> {
+    match figure.scene.names.channel(channel) {
+        Some(name) => add_cut(text, name.whole, 1600, LETTER),
+        None => Ok(()),
     }
-    add_cut(text, whole.as_slice(), 1600, LETTER)
 }

@@ -33,11 +33,9 @@ impl RaceName {
     }
 }
 
-/// The text of a name.
+/// The text of a name, or its beginning.
 #[derive(Drop)]
 struct NameText {
-    whole: Vec<u8>,
-    /// the whole, or its beginning
     cut: Vec<u8>,
 }
 
@@ -45,19 +43,17 @@ impl NameText {
     /// None.
     fn new(alloc: Global) -> NameText {
         NameText {
-            whole: Vec::new(alloc),
             cut: Vec::new(alloc),
         }
     }
 
     /// Makes it that of the variable.
     fn tell(&mut self, scene: &Scene<'_>, variable: u32) -> Result<(), AllocError> {
-        self.whole.clear();
         self.cut.clear();
-        if let Some(name) = scene.system.variable_name(variable) {
-            name.write_to(&mut self.whole)?;
+        match scene.names.variable(variable) {
+            Some(name) => add_cut(&mut self.cut, name.whole, WIDEST, SMALL_LETTER),
+            None => Ok(()),
         }
-        add_cut(&mut self.cut, self.whole.as_slice(), WIDEST, SMALL_LETTER)
     }
 
     /// How wide it is.

@@ -1,4 +1,5 @@
 // The drawing as it grows. All lengths are in tenths of a pixel.
+use crate::columns::whole_pixels;
 use crate::ink::{Dash, Ink};
 use itoa::Buffer;
 use std::alloc::{AllocError, Global};
@@ -43,16 +44,6 @@ pub(crate) enum Anchor {
     End,
 }
 
-impl Anchor {
-    /// Its word.
-    fn word(self) -> &'static str {
-        match self {
-            Anchor::Start => "start",
-            Anchor::End => "end",
-        }
-    }
-}
-
 /// How a text is written.
 #[derive(Clone, Copy)]
 pub(crate) struct Style {
@@ -85,9 +76,37 @@ impl Style {
     fn size(self) -> u64 {
         if self.is_small { 90 } else { 110 }
     }
+
+    /// What the element of a text has between its place and its colour.
+    fn before_ink(self) -> &'static str {
+        if self.is_small {
+            "\" font-size=\"9\" fill=\""
+        } else {
+            "\" font-size=\"11\" fill=\""
+        }
+    }
+
+    /// What the paper under it has between its width and its colour.
+    fn before_paper(self) -> &'static str {
+        if self.is_small {
+            "\" height=\"9\" fill=\""
+        } else {
+            "\" height=\"11\" fill=\""
+        }
+    }
+
+    /// What it has between its colour and its letters.
+    fn behind_ink(self) -> &'static str {
+        match (self.anchor, self.is_bold) {
+            (Anchor::Start, false) => "\" text-anchor=\"start\">",
+            (Anchor::Start, true) => "\" text-anchor=\"start\" font-weight=\"bold\">",
+            (Anchor::End, false) => "\" text-anchor=\"end\">",
+            (Anchor::End, true) => "\" text-anchor=\"end\" font-weight=\"bold\">",
+        }
+    }
 }
 
-/// A part of an element.
+/// A part of an element. An attribute is ended by what stands before the next one.
 #[derive(Clone, Copy)]
 pub(crate) enum Part<'a> {
     /// as it stands here
@@ -95,16 +114,16 @@ pub(crate) enum Part<'a> {
     /// a text that stands for these bytes
     Words(&'a [u8]),
     Number(u64),
-    /// an attribute that is a length
-    Measure(&'a str, u64),
-    /// an attribute that is a word
-    Word(&'a str, &'a str),
-    /// an attribute that says how a line is broken, if it is
-    Broken(Dash),
+    /// a length, and what stands before it
+    Length(&'a str, u64),
+    /// a colour, and what stands before it
+    Ink(&'a str, Ink),
     /// a point of a path behind the letter that leads to it
     To(&'a str, u64, u64),
-    /// a line of a path down to there
-    Down(u64),
+    /// a line of a path down from there to there, if it has a length
+    Down(u64, u64),
+    /// the end of an element without content, with how its lines are broken, if they are
+    End(Dash),
 }
 
 /// The drawing as it grows.
@@ -159,12 +178,18 @@ impl Sheet {
             Part::Text(text) => self.add(text),
             Part::Words(bytes) => add_text(&mut self.bytes, bytes),
             Part::Number(number) => self.add_number(number),
-            Part::Measure(name, tenths) => self.add_measure(name, tenths),
-            Part::Word(name, word) => self.add_word(name, word),
-            Part::Broken(Dash::Whole) => Ok(()),
-            Part::Broken(dash) => self.add_word("stroke-dasharray", dash.lengths()),
-            Part::To(letter, x, y) => self.add_point(letter, x, y),
-            Part::Down(y) => self.add_down(y),
+            Part::Length(before, tenths) => self.add_length(before, tenths),
+            Part::Ink(before, ink) => {
+                self.add(before)?;
+                self.add(ink.code())
+            }
+            Part::To(letter, x, y) => {
+                self.add_length(letter, x)?;
+                self.add_length(" ", y)
+            }
+            Part::Down(from, to) if from == to => Ok(()),
+            Part::Down(_, to) => self.add_length("V", to),
+            Part::End(dash) => self.add(dash.end()),
         }
     }
 
@@ -180,49 +205,14 @@ impl Sheet {
         self.bytes.extend_from_slice(digits.as_bytes())
     }
 
-    /// Adds a length in pixels.
-    fn add_length(&mut self, tenths: u64) -> Result<(), AllocError> {
+    /// Adds a length in pixels, and before it what stands there.
+    fn add_length(&mut self, before: &str, tenths: u64) -> Result<(), AllocError> {
+        self.add(before)?;
         self.add_number(tenths / 10)?;
-        if tenths % 10 == 0 {
-            return Ok(());
+        match part_of(tenths) {
+            Some(part) => self.add(part),
+            None => Ok(()),
         }
-        self.add(".")?;
-        self.add_number(tenths % 10)
-    }
-
-    /// Begins an attribute.
-    fn begin_attribute(&mut self, name: &str) -> Result<(), AllocError> {
-        self.add(" ")?;
-        self.add(name)?;
-        self.add("=\"")
-    }
-
-    /// Adds an attribute that is a length.
-    fn add_measure(&mut self, name: &str, tenths: u64) -> Result<(), AllocError> {
-        self.begin_attribute(name)?;
-        self.add_length(tenths)?;
-        self.add("\"")
-    }
-
-    /// Adds an attribute that is a word.
-    fn add_word(&mut self, name: &str, word: &str) -> Result<(), AllocError> {
-        self.begin_attribute(name)?;
-        self.add(word)?;
-        self.add("\"")
-    }
-
-    /// Adds a point of a path.
-    fn add_point(&mut self, letter: &str, x: u64, y: u64) -> Result<(), AllocError> {
-        self.add(letter)?;
-        self.add_length(x)?;
-        self.add(" ")?;
-        self.add_length(y)
-    }
-
-    /// Adds a line of a path down to there.
-    fn add_down(&mut self, y: u64) -> Result<(), AllocError> {
-        self.add("V")?;
-        self.add_length(y)
     }
 
     /// Draws a line.
@@ -235,26 +225,23 @@ impl Sheet {
         dash: Dash,
     ) -> Result<(), AllocError> {
         self.add_all(&[
-            Part::Text("<line"),
-            Part::Measure("x1", from.x),
-            Part::Measure("y1", from.y),
-            Part::Measure("x2", to.x),
-            Part::Measure("y2", to.y),
-            Part::Word("stroke", ink.code()),
-            Part::Measure("stroke-width", width),
-            Part::Broken(dash),
-            Part::Text("/>\n"),
+            Part::Length("<line x1=\"", from.x),
+            Part::Length("\" y1=\"", from.y),
+            Part::Length("\" x2=\"", to.x),
+            Part::Length("\" y2=\"", to.y),
+            Part::Ink("\" stroke=\"", ink),
+            Part::Length("\" stroke-width=\"", width),
+            Part::End(dash),
         ])
     }
 
     /// Draws a line from edge to edge.
     pub(crate) fn edge(&mut self, y: u64, ink: Ink) -> Result<(), AllocError> {
         self.add_all(&[
-            Part::Text("<line x1=\"0\" x2=\"100%\""),
-            Part::Measure("y1", y),
-            Part::Measure("y2", y),
-            Part::Word("stroke", ink.code()),
-            Part::Text(" stroke-width=\"1\"/>\n"),
+            Part::Length("<line x1=\"0\" x2=\"100%\" y1=\"", y),
+            Part::Length("\" y2=\"", y),
+            Part::Ink("\" stroke=\"", ink),
+            Part::Text("\" stroke-width=\"1\"/>\n"),
         ])
     }
 
@@ -266,7 +253,7 @@ impl Sheet {
         edge: Ink,
         dash: Dash,
     ) -> Result<(), AllocError> {
-        self.rectangle(area, " rx=\"2.5\"", fill, edge, dash)
+        self.rectangle(area, "\" rx=\"2.5\" fill=\"", fill, edge, dash)
     }
 
     /// Draws a small square.
@@ -283,27 +270,27 @@ impl Sheet {
             width: 80,
             height: 80,
         };
-        self.rectangle(area, "", fill, edge, dash)
+        self.rectangle(area, "\" fill=\"", fill, edge, dash)
     }
 
-    /// Draws a rectangle with such corners.
+    /// Draws a rectangle that has this between its outline and its colour.
     fn rectangle(
         &mut self,
         area: Area,
-        corners: &str,
+        before_fill: &str,
         fill: Ink,
         edge: Ink,
         dash: Dash,
     ) -> Result<(), AllocError> {
-        let outline = [
-            Part::Text("<rect"),
-            Part::Measure("x", area.x),
-            Part::Measure("y", area.y),
-            Part::Measure("width", area.width),
-            Part::Measure("height", area.height),
-            Part::Text(corners),
-        ];
-        self.shape(&outline, fill, edge, dash)
+        self.add_all(&[
+            Part::Length("<rect x=\"", area.x),
+            Part::Length("\" y=\"", area.y),
+            Part::Length("\" width=\"", area.width),
+            Part::Length("\" height=\"", area.height),
+            Part::Ink(before_fill, fill),
+            Part::Ink("\" stroke=\"", edge),
+            Part::End(dash),
+        ])
     }
 
     /// Draws a circle with an edge.
@@ -315,13 +302,14 @@ impl Sheet {
         edge: Ink,
         dash: Dash,
     ) -> Result<(), AllocError> {
-        let outline = [
-            Part::Text("<circle"),
-            Part::Measure("cx", centre.x),
-            Part::Measure("cy", centre.y),
-            Part::Measure("r", radius),
-        ];
-        self.shape(&outline, fill, edge, dash)
+        self.add_all(&[
+            Part::Length("<circle cx=\"", centre.x),
+            Part::Length("\" cy=\"", centre.y),
+            Part::Length("\" r=\"", radius),
+            Part::Ink("\" fill=\"", fill),
+            Part::Ink("\" stroke=\"", edge),
+            Part::End(dash),
+        ])
     }
 
     /// Draws a small diamond.
@@ -331,61 +319,39 @@ impl Sheet {
         ink: Ink,
         dash: Dash,
     ) -> Result<(), AllocError> {
-        let outline = [
-            Part::Text("<path d=\""),
-            Part::To("M", centre.x, centre.y.saturating_sub(40)),
-            Part::Text("l4 4l-4 4l-4 -4z\""),
-        ];
-        self.shape(&outline, Ink::White, ink, dash)
+        self.add_all(&[
+            Part::To("<path d=\"M", centre.x, centre.y.saturating_sub(40)),
+            Part::Ink("l4 4l-4 4l-4 -4z\" fill=\"", Ink::White),
+            Part::Ink("\" stroke=\"", ink),
+            Part::End(dash),
+        ])
     }
 
     /// Draws the head of an arrow that points to the right, or else to the left.
     pub(crate) fn arrow(&mut self, tip: Point, to_right: bool, ink: Ink) -> Result<(), AllocError> {
         let sides = if to_right {
-            "l-8 -4.5v9z\""
+            "l-8 -4.5v9z\" fill=\""
         } else {
-            "l8 -4.5v9z\""
+            "l8 -4.5v9z\" fill=\""
         };
         self.add_all(&[
-            Part::Text("<path d=\""),
-            Part::To("M", tip.x, tip.y),
-            Part::Text(sides),
-            Part::Word("fill", ink.code()),
-            Part::Text("/>\n"),
-        ])
-    }
-
-    /// Draws a shape with this outline.
-    fn shape(
-        &mut self,
-        outline: &[Part<'_>],
-        fill: Ink,
-        edge: Ink,
-        dash: Dash,
-    ) -> Result<(), AllocError> {
-        self.add_all(outline)?;
-        self.add_all(&[
-            Part::Word("fill", fill.code()),
-            Part::Word("stroke", edge.code()),
-            Part::Broken(dash),
-            Part::Text("/>\n"),
+            Part::To("<path d=\"M", tip.x, tip.y),
+            Part::Ink(sides, ink),
+            Part::End(Dash::Whole),
         ])
     }
 
     /// Draws a line that bends to another column.
     pub(crate) fn bend(&mut self, bend: Bend, ink: Ink, dash: Dash) -> Result<(), AllocError> {
         self.add_all(&[
-            Part::Text("<path d=\""),
-            Part::To("M", bend.from.x, bend.from.y),
-            Part::Down(bend.begin),
+            Part::To("<path d=\"M", bend.from.x, bend.from.y),
+            Part::Down(bend.from.y, bend.begin),
             Part::To("C", bend.from.x, bend.first),
             Part::To(" ", bend.to.x, bend.second),
             Part::To(" ", bend.to.x, bend.end),
-            Part::Down(bend.to.y),
-            Part::Text("\" fill=\"none\" stroke-width=\"1.3\""),
-            Part::Word("stroke", ink.code()),
-            Part::Broken(dash),
-            Part::Text("/>\n"),
+            Part::Down(bend.end, bend.to.y),
+            Part::Ink("\" fill=\"none\" stroke-width=\"1.3\" stroke=\"", ink),
+            Part::End(dash),
         ])
     }
 
@@ -403,42 +369,50 @@ impl Sheet {
         let left = x.saturating_sub(before);
         self.reach(left.saturating_add(width));
         if let Some(under) = style.under {
-            self.paper(Point { x: left, y: at.y }, width, style.size(), under)?;
+            self.paper(Point { x: left, y: at.y }, width, style, under)?;
         }
         self.letters(Point { x, y: at.y }, text, style)
     }
 
-    /// Draws the paper under a text of this size that begins there.
-    fn paper(&mut self, at: Point, width: u64, size: u64, ink: Ink) -> Result<(), AllocError> {
+    /// Draws the paper under a text that begins there, in whole pixels. What lies under it is seen a little.
+    fn paper(&mut self, at: Point, width: u64, style: Style, ink: Ink) -> Result<(), AllocError> {
+        let left = at.x / 10 * 10;
+        let right = whole_pixels(at.x.saturating_add(width));
+        let top = at.y.saturating_sub(style.size()).saturating_add(20);
         self.add_all(&[
-            Part::Text("<rect opacity=\"1\""),
-            Part::Measure("x", at.x),
-            Part::Measure("y", at.y.saturating_sub(size).saturating_add(20)),
-            Part::Measure("width", width),
-            Part::Measure("height", size),
-            Part::Word("fill", ink.code()),
-            Part::Text("/>\n"),
+            Part::Length("<rect opacity=\"0.8\" x=\"", left),
+            Part::Length("\" y=\"", top),
+            Part::Length("\" width=\"", right.saturating_sub(left)),
+            Part::Ink(style.before_paper(), ink),
+            Part::End(Dash::Whole),
         ])
     }
 
     /// Writes the letters of a text.
     fn letters(&mut self, at: Point, text: &[u8], style: Style) -> Result<(), AllocError> {
-        let weight = if style.is_bold {
-            " font-weight=\"bold\""
-        } else {
-            ""
-        };
         self.add_all(&[
-            Part::Text("<text"),
-            Part::Measure("x", at.x),
-            Part::Measure("y", at.y),
-            Part::Measure("font-size", style.size()),
-            Part::Word("fill", style.ink.code()),
-            Part::Word("text-anchor", style.anchor.word()),
-            Part::Text(weight),
-            Part::Text(">"),
+            Part::Length("<text x=\"", at.x),
+            Part::Length("\" y=\"", at.y),
+            Part::Ink(style.before_ink(), style.ink),
+            Part::Text(style.behind_ink()),
             Part::Words(text),
             Part::Text("</text>\n"),
         ])
+    }
+}
+
+/// What is written of so many tenths behind the whole pixels.
+fn part_of(tenths: u64) -> Option<&'static str> {
+    match tenths % 10 {
+        0 => None,
+        1 => Some(".1"),
+        2 => Some(".2"),
+        3 => Some(".3"),
+        4 => Some(".4"),
+        5 => Some(".5"),
+        6 => Some(".6"),
+        7 => Some(".7"),
+        8 => Some(".8"),
+        _ => Some(".9"),
     }
 }

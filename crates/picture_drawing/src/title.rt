@@ -1,4 +1,4 @@
-// The line over all: the file of the trace, how many events it has, how the run stands, and what is marked.
+// The line over all: the file of the trace, how many steps it has, how the run stands, and what is marked.
 use crate::cones::Cones;
 use crate::figure::Figure;
 use crate::labels::add_number;
@@ -59,11 +59,11 @@ fn letter_width(byte: u8) -> u64 {
     }
 }
 
-/// Adds the file, how many events it has, and how the run stands.
+/// Adds the file, how many steps it has, and how the run stands.
 fn tell_run(figure: &Figure<'_>, trace: &[u8], text: &mut Vec<u8>) -> Result<(), AllocError> {
     text.extend_from_slice(base_of(trace))?;
     text.extend_from_slice(b": ")?;
-    add_counted(text, figure.scene.live.len() as u64, b" event")?;
+    add_counted(text, figure.scene.live.len() as u64, b" step")?;
     text.extend_from_slice(b", ")?;
     tell_state(&figure.scene.picture.end, text)
 }
@@ -85,11 +85,11 @@ fn add_counted(text: &mut Vec<u8>, count: u64, word: &[u8]) -> Result<(), AllocE
 
 /// Adds how the run stands.
 fn tell_state(end: &End, text: &mut Vec<u8>) -> Result<(), AllocError> {
-    if !end.ring.is_empty() {
-        return text.extend_from_slice(b"deadlock");
-    }
     if end.ready.is_empty() {
         return text.extend_from_slice(standing(end));
+    }
+    if !end.ring.is_empty() {
+        text.extend_from_slice(b"deadlock, ")?;
     }
     add_number(text, end.ready.len() as u64)?;
     text.extend_from_slice(b" ready")
@@ -97,6 +97,9 @@ fn tell_state(end: &End, text: &mut Vec<u8>) -> Result<(), AllocError> {
 
 /// How a run stands that goes on no more, in the words of `waiting`.
 fn standing(end: &End) -> &'static [u8] {
+    if !end.ring.is_empty() {
+        return b"deadlock";
+    }
     match end.progress {
         Progress::GoesOn => b"goes on",
         Progress::Done => b"done",

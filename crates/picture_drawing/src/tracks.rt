@@ -10,6 +10,11 @@ const TALL: u64 = 240;
 
 const LOW: u64 = 150;
 
+/// How far down what stands in them is, in whole pixels.
+const TALL_CENTRE: u64 = 160;
+
+const LOW_CENTRE: u64 = 80;
+
 /// What stands in a part of a row.
 #[derive(Clone, Copy, Debug, PartialEq, Eq, PartialOrd, Ord)]
 pub(crate) enum Level {
@@ -187,8 +192,8 @@ impl Tracks {
         let track = self.of_placed.get(order).copied().unwrap_or(0);
         let start = self.starts.get(track).copied().unwrap_or(TOP);
         match self.tracks.get(track) {
-            Some(track) if track.is_tall => start.saturating_add(160),
-            _ => start.saturating_add(LOW / 2),
+            Some(track) if track.is_tall => start.saturating_add(TALL_CENTRE),
+            _ => start.saturating_add(LOW_CENTRE),
         }
     }
 

@@ -11,6 +11,34 @@ use std::alloc::{AllocError, Global};
 /// How far down the lanes begin, in tenths of a pixel.
 pub(crate) const HEAD: u64 = 540;
 
+/// A line of a column that may go on.
+#[derive(Clone, Copy)]
+struct Stretch {
+    from: Point,
+    to: Point,
+    ink: Ink,
+    dash: Dash,
+}
+
+impl Stretch {
+    /// Both as one, if the other goes on from this one and looks as it does.
+    fn with(self, other: Stretch) -> Option<Stretch> {
+        if self.to.y == other.from.y && self.ink == other.ink && self.dash == other.dash {
+            Some(Stretch {
+                to: other.to,
+                ..self
+            })
+        } else {
+            None
+        }
+    }
+
+    /// Draws it.
+    fn draw(self, sheet: &mut Sheet) -> Result<(), AllocError> {
+        sheet.line(self.from, self.to, self.ink, 20, self.dash)
+    }
+}
+
 /// How far the line of a column has come.
 #[derive(Clone, Copy)]
 struct Trail {
@@ -20,6 +48,8 @@ struct Trail {
     drawn: Option<usize>,
     /// each event since that one belongs to the same turn of the branch as the one before it, or follows it
     is_joined: bool,
+    /// what is not drawn yet
+    stretch: Option<Stretch>,
 }
 
 /// Draws the lines of all lanes.
@@ -32,6 +62,7 @@ pub(crate) fn draw_trails(
         last: None,
         drawn: None,
         is_joined: true,
+        stretch: None,
     };
     let mut trails = vec![in alloc; start; figure.columns.len()]?;
     for (index, (_, event)) in figure.scene.live.iter().enumerate() {
@@ -49,6 +80,7 @@ pub(crate) fn draw_trails(
             }
         }
     }
+    draw_stretches(sheet, trails.as_slice())?;
     let waits = waiting_columns(alloc, figure, trails.as_slice())?;
     for (column, trail) in trails.as_slice().iter().enumerate() {
         if trail.last.is_none() || waits.get(column).copied().unwrap_or(false) {
@@ -88,9 +120,39 @@ fn follow(
         last: Some((index, is_second)),
         drawn: if is_shown { Some(index) } else { trail.drawn },
         is_joined: is_shown || is_joined,
+        stretch: trail.stretch,
     };
     if is_shown && is_joined {
-        return draw_part(sheet, figure, column, trail.drawn, index);
+        let next = stretch_to(figure, column, trail.drawn, index);
+        trails[column].stretch = Some(drawn_up_to(sheet, trail.stretch, next)?);
+    }
+    Ok(())
+}
+
+/// What is still to be drawn where this comes next: both as one, and else the next, where what came before is drawn now.
+fn drawn_up_to(
+    sheet: &mut Sheet,
+    before: Option<Stretch>,
+    next: Stretch,
+) -> Result<Stretch, AllocError> {
+    let Some(before) = before else {
+        return Ok(next);
+    };
+    match before.with(next) {
+        Some(both) => Ok(both),
+        None => {
+            before.draw(sheet)?;
+            Ok(next)
+        }
+    }
+}
+
+/// Draws what is left.
+fn draw_stretches(sheet: &mut Sheet, trails: &[Trail]) -> Result<(), AllocError> {
+    for trail in trails {
+        if let Some(stretch) = trail.stretch {
+            stretch.draw(sheet)?;
+        }
     }
     Ok(())
 }
@@ -134,24 +196,19 @@ fn turn_length(entries: &[Entry]) -> usize
     length.min(entries.len())
 }
 
-/// Whether a branch is there from the start of the run on.
+/// Whether a branch is there from the start of the run on: nothing comes before it in a sequence.
 fn is_from_start(entries: &[Entry]) -> bool {
     for entry in entries {
-        if let Entry::Ordered(_) = entry {
-            return false;
+        match entry {
+            Entry::Ordered(0) | Entry::Branch(_) => {}
+            Entry::Ordered(_) => return false,
         }
     }
     true
 }
 
-/// Draws the line of a column from an event, or from its head, to a later one.
-fn draw_part(
-    sheet: &mut Sheet,
-    figure: &Figure<'_>,
-    column: usize,
-    earlier: Option<usize>,
-    later: usize,
-) -> Result<(), AllocError> {
+/// The line of a column from an event, or from its head, to a later one.
+fn stretch_to(figure: &Figure<'_>, column: usize, earlier: Option<usize>, later: usize) -> Stretch {
     let to = figure.point(column, later);
     let row = figure.rows.row(later);
     let Some(earlier) = earlier else {
@@ -160,12 +217,22 @@ fn draw_part(
             _ => Ink::Faint,
         };
         let dash = if row == 0 { Dash::Whole } else { Dash::Dots };
-        return sheet.line(head(figure, column), to, ink, 20, dash);
+        return Stretch {
+            from: head(figure, column),
+            to,
+            ink,
+            dash,
+        };
     };
     let ink = figure.ink_between(earlier, later).or(Ink::Faint);
     let far = row.saturating_sub(figure.rows.row(earlier));
     let dash = if far > 1 { Dash::Dots } else { Dash::Whole };
-    sheet.line(figure.point(column, earlier), to, ink, 20, dash)
+    Stretch {
+        from: figure.point(column, earlier),
+        to,
+        ink,
+        dash,
+    }
 }
 
 /// Where the line of the column begins.

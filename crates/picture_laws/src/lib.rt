@@ -1,10 +1,10 @@
 //! The laws of pictures: runs that differ only in the order of independent steps show the same, whatever their tickets;
 //! one order of events shows the same at each index; and so in the canonical order, as saved traces have it, such runs
-//! have one page, byte for byte. Each lane of the data is a chain. The data of a picture are read in one way. The
+//! have one page, byte for byte. Each lane of the data is a chain. The data of a picture are read back. The
 //! functions do nothing, their contracts say it.
 #![tactic(auto)]
 
-ghost use Rattle.picture_laws.specs.DataRead.{DataHaveOneValue};
+ghost use Rattle.picture_laws.specs.DataRead.{DataAreReadBack};
 ghost use Rattle.picture_laws.specs.EqualPages.{EqualRunsHaveOnePage};
 ghost use Rattle.picture_laws.specs.EqualPictures.{EqualRunsShowTheSame, OneRunShowsTheSame};
 ghost use Rattle.picture_laws.specs.LaneChains.{ShownLanesAreChains};
@@ -46,9 +46,9 @@ pub fn shown_lanes_are_chains()
     lanes_are_chains();
 }
 
-/// The data of a picture are one value of JSON, and are read as no other.
-pub fn data_have_one_value()
-    ensures { DataHaveOneValue }
+/// The data of a picture are read as JSON of just the value that they are.
+pub fn data_are_read_back()
+    ensures { DataAreReadBack }
 {
     texts_have_one_value();
 }

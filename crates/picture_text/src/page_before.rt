@@ -270,8 +270,23 @@ th {
   vertical-align: top;
   font-weight: 400
 }
-td.m {
-  white-space: nowrap
+#card > div,
+td.name {
+  overflow-wrap: anywhere
+}
+td.who {
+  min-width: 96px
+}
+table.tall tr {
+  display: flex;
+  flex-wrap: wrap
+}
+table.tall .name {
+  flex: 1 0 100%;
+  padding-right: 0
+}
+table.tall td + td {
+  padding-left: 14px
 }
 a {
   color: inherit;
@@ -303,12 +318,25 @@ a.cf {
   align-items: center;
   margin: 3px 0
 }
+.cmd code,
+.cmd .m {
+  overflow-wrap: anywhere;
+  min-width: 0
+}
+.cmd code,
+.cmd button {
+  flex: none;
+  max-width: 62%
+}
 .cmd code {
-  white-space: nowrap;
   background: var(--bg);
   border: 1px solid var(--hair);
   border-radius: 4px;
   padding: 1px 7px
+}
+.ring div {
+  padding-left: 14px;
+  text-indent: -14px
 }
 .soft {
   color: var(--soft)
@@ -321,8 +349,15 @@ a.cf {
   margin-right: 5px;
   vertical-align: -1px
 }
-.sw.hollow {
-  border: 2px solid var(--next)
+.sw.next {
+  background: var(--next)
+}
+.dashes {
+  display: inline-block;
+  width: 25px;
+  border-top: 2px dashed var(--next);
+  margin-right: 5px;
+  vertical-align: 3px
 }
 #help {
   position: fixed;
@@ -496,6 +531,12 @@ svg .on {
 .rg0 {
   color: var(--ring)
 }
+@media screen and (max-width: 1060px) {
+  footer {
+    flex-wrap: wrap;
+    white-space: normal
+  }
+}
 @media screen and (max-width: 760px) {
   header,
   footer {
@@ -538,6 +579,7 @@ svg .on {
   }
   header button:not(.chip),
   header input,
+  .cmd button,
   footer,
   #map,
   aside #src,
@@ -558,6 +600,9 @@ svg .on {
   }
   #card {
     max-height: none
+  }
+  #sheets p {
+    margin: 0 0 8px
   }
   #sheets svg {
     display: block;
@@ -591,13 +636,15 @@ svg .on {
 </defs></svg>
 <header><h1 id="title"></h1><button id="state" class="chip" data-k="w" title="what waits now (w)"></button>
 <span class="sub" id="sub"></span>
-<input id="find" type="search" placeholder="find  ( / )" aria-label="find events: a variable, a channel, a word of the event">
+<input id="find" type="search" placeholder="find  ( / )"
+  aria-label="find events: a variable, a channel, a word of the event">
 <button data-k="q" id="bq" title="show or hide loop turns and tests (q)">turns, tests</button>
 <button data-k="-" title="smaller (-)">−</button><button data-k="+" title="larger (+)">+</button>
 <button data-k="w" title="what waits now (w)">now</button>
 <button data-k="d" title="light or dark (d)">◐</button><button data-k="?" title="keys (?)">?</button></header>
 <main>
-<div id="view" tabindex="0" role="application" aria-label="space-time diagram of the run; arrow keys go from event to event">
+<div id="view" tabindex="0" role="application"
+  aria-label="space-time diagram of the run; arrow keys go from event to event">
 <div id="pad"><svg id="pic" xmlns="http://www.w3.org/2000/svg"></svg></div><div id="sheets"></div></div>
 <canvas id="map" title="the whole run; click to go there"></canvas>
 <aside><section id="card" aria-live="polite"></section><pre id="src" aria-label="source"></pre>

@@ -55,16 +55,18 @@ for (const e of E) {
 }
 const inst = k => L[k].inst < 0 ? null : R.instances[L[k].inst];
 const named = i => i[1] + i[0]; // as the outline and the variables have it: 5:fork
+const whereOf = i => (i[2] < 0 ? '' : ', called on line ' + i[3]) + ', its body from line ' + i[4];
 const who = k => L[k].side === 'body' ? named(inst(k)) : (L[k].side === 'out' ? 'output ' : L[k].side === 'in' ?
   'input ' : 'sync port ') + R.channels[L[k].chan][0];
 const short = (name, k) => {
   const p = name.slice(0, name.lastIndexOf(':') + 1);
   return p && L[k].inst >= 0 && inst(k)[1].startsWith(p) ? name.slice(p.length) : name
 };
-const incarnation = a => (a.match(/^.*\/[1-9]\d*/) || ['/0'])[
-0]; // the branch that a place lies in, of this turn of the loops around it
-const split = a => a.match(/[./]\d+/g) ||
-[]; // is place a before place b: at the first difference both are ordered, a's less
+// the branch that a place lies in, of this turn of the loops around it
+const incarnation = a => (a.match(/^.*\/[1-9]\d*/) || ['/0'])[0];
+const split = a => a.match(/[./]\d+/g) || [];
+
+// is place a before place b: at the first difference both are ordered, a's less
 function before(a, b) {
   a = split(a);
   b = split(b);
@@ -109,13 +111,24 @@ let zoom = 6,
   hits = null,
   fontText = true;
 let some0 = false,
-  cols, colOf, hid, pre, row, X, Y, BL, BW, rowTop, rowEv, H, W, headH, head, now, nowTop, bars, edges, laneEv;
+  cols, colOf, hid, pre, row, X, Y, BL, BW, rowTop, rowAt, rowEv, rowNames, H, W, headH, head, now, nowTop,
+  bars, edges, laneEv;
 const focus = () => sel >= 0 ? sel : hover;
-const label = e => e.k === 'assign' ? [short(e.name, e.lane) + ' := ', e.val] : e.k === 'turn' ? ['turn', ''] : e
-  .k === 'test' ? [e.text.split(' ').slice(0, 2).join(' '), ''] : e.k === 'close' ? ['', ''] : [short(e.name, e
-    .lane) + (e.val !== '' ? ' ' : ''), e.val];
+// the words of an event: its name, what stands between, and its value
+const label = e => e.k === 'turn' ? ['turn', '', ''] :
+  e.k === 'test' ? [e.text.split(' ').slice(0, 2).join(' '), '', ''] :
+  e.k === 'close' ? ['', '', ''] :
+  [short(e.name, e.lane), e.val === '' ? '' : e.k === 'assign' ? ' := ' : ' ', e.val];
+const letters = words => words.join('').length;
+// how many letters have to fit: the value, and of a longer name some
+const least = ([name, between, value]) => Math.min(name.length, 6) + between.length + value.length;
+// the words in so many letters: the name is cut, the value stays whole
+const shorten = ([name, between, value], n) => [cut(name, n - between.length - value.length), between, value];
+const written = ([name, between, value]) => esc(name + between) + (value && `<tspan class="v">${value}</tspan>`);
 const stored = e => e.k === 'meet' && e.w >= 0 ? short(R.variables[e.w][0], e.b) : '';
-const fits = (s, brief, n) => s.length > n && brief && brief.length <= n ? brief : cut(s, n);
+// where there is room for so many letters more than a brief name has, the whole is cut
+const fits = (s, brief, n, more = n) =>
+  s.length > n && brief && brief.length <= n && n < brief.length + more ? brief : cut(s, n);
 const cut = (s, n) => s.length <= n ? s : n < 2 ? '' : s.slice(0, n - 1) + '…';
 // ---- layout: columns, rows by depth, and in a row tracks so that no two boxes meet
 function layout() {
@@ -165,9 +178,10 @@ function layout() {
     for (const e of E)
       if (!hid[e.i]) {
         const c = colOf[e.lane],
-          [s, v] = label(e);
-        if (e.b < 0) need[c] = Math.max(need[c], Math.min(170, 20 + (e.quiet ? (s.length) * SW : (s.length + v
-          .length) * CW) + String(e.t).length * SW));
+          said = label(e),
+          beside = 20 + String(e.t).length * SW;
+        if (e.b < 0) need[c] = Math.max(need[c], Math.min(170, beside + letters(said) * (e.quiet ? SW : CW)),
+          e.val === '' ? 0 : beside + least(said) * CW);
         else if (stored(e)) {
           const at = colOf[e.b] > colOf[e.a] ? c : c - 1,
             wide = Math.min(120, 22 + stored(e).length * SW);
@@ -196,8 +210,9 @@ function layout() {
       if (!hid[e.i] && e.b >= 0) {
         const a = Math.min(colOf[e.a], colOf[e.b]),
           b = Math.max(colOf[e.a], colOf[e.b]),
-          [s, v] = label(e),
-          w = Math.min(150, 40 + (s.length + v.length) * CW + String(e.t).length * SW);
+          said = label(e),
+          beside = 40 + String(e.t).length * SW,
+          w = Math.max(Math.min(150, beside + letters(said) * CW), e.val === '' ? 0 : beside + least(said) * CW);
         if (w > (spans.get(b * 9999 + a) || 0)) spans.set(b * 9999 + a, w)
       }
     for (const [key, w] of [...spans].sort((x, y) => x[0] - y[0])) {
@@ -253,108 +268,7 @@ function layout() {
   head.deep = deep - skip;
   head.tight = tight;
   headH = (deep - skip) * 18 + (tight && !text ? 6 : 22) + 6;
-  // rows and tracks
-  rowEv = Array.from({
-    length: rows
-  }, () => []);
-  for (const e of E)
-    if (!hid[e.i]) rowEv[row[e.i]].push(e.i);
-  Y = new Float64Array(N);
-  BL = new Float64Array(N);
-  BW = new Float64Array(N);
-  rowTop = new Float64Array(rows + 1);
-  const big = ROWS[zoom],
-    small = text ? 15 : Math.max(1, big * .6);
-  let y = headH + 8;
-  for (let r = 0; r < rows; r++) {
-    rowTop[r] = y;
-    const tracks = [];
-    for (const i of rowEv[r]) {
-      const e = E[i],
-        xa = X[colOf[e.a]],
-        xb = e.b >= 0 ? X[colOf[e.b]] : xa;
-      let l = Math.min(xa, xb) - 4,
-        h = Math.max(xa, xb) + 4;
-      if (text) {
-        const tk = String(e.t).length * SW;
-        if (e.b < 0) {
-          const [s, v] = label(e), room = (X[colOf[e.a] + 1] || W) - xa - 16 - tk;
-          l -= tk + 8;
-          h += 6 + Math.min(room, (e.quiet ? s.length * SW : (s.length + v.length) * CW))
-        } else {
-          if (stored(e)) xb > xa ? h += stored(e).length * SW + 10 : l -= stored(e).length * SW + 10;
-          if (e.k === 'close') {
-            l -= 2;
-            h += 2
-          }
-        }
-      }
-      BL[i] = l;
-      BW[i] = h - l
-    }
-    for (const i of rowEv[r].sort((p, q) => BL[p] - BL[q])) {
-      let k = tracks.findIndex(t => t.end + 5 < BL[i]);
-      if (k < 0) {
-        k = tracks.length;
-        tracks.push({
-          end: 0,
-          ev: [],
-          tall: false
-        })
-      }
-      tracks[k].end = BL[i] + BW[i];
-      tracks[k].ev.push(i);
-      if (!E[i].quiet && E[i].k !== 'close') tracks[k].tall = true
-    }
-    for (const t of tracks) {
-      const h = t.tall ? big : small;
-      for (const i of t.ev) Y[i] = y + (text && t.tall ? h * .66 : h / 2);
-      y += h
-    }
-  }
-  rowTop[rows] = y;
-  H = y;
-  laneEv = L.map(l => l.evs.filter(i => !hid[i]));
-  // bars of enclosed handshakes, edges between lanes
-  bars = [];
-  const open = new Map(),
-    depthOf = L.map(() => []);
-  for (const e of E) {
-    if (e.k === 'open') {
-      open.set(e.name, e)
-    } else if (e.k === 'close') {
-      const o = open.get(e.name);
-      open.delete(e.name);
-      bar(o, e)
-    }
-  }
-  for (const o of open.values()) bar(o, null);
-
-  function bar(o, c) {
-    if (hid[o.i]) return;
-    bars.push({
-      lane: o.b,
-      o,
-      c,
-      held: false
-    }, {
-      lane: o.a,
-      o,
-      c,
-      held: true
-    })
-  }
-  const byLane = L.map(() => []);
-  bars.forEach(b => byLane[b.lane].push(b));
-  byLane.forEach(bs => {
-    bs.sort((p, q) => p.o.i - q.o.i);
-    const up = [];
-    for (const b of bs) {
-      while (up.length && up.at(-1).c && up.at(-1).c.i < b.o.i) up.pop();
-      b.lv = up.length;
-      up.push(b)
-    }
-  });
+  // edges between lanes
   edges = [];
   for (const e of E)
     if (!hid[e.i])
@@ -370,9 +284,124 @@ function layout() {
               d = Math.abs(X[colOf[u]] - X[colOf[v]]) - (o ? 1e6 : 0);
             if (!best || d < best[0]) best = [d, u, v, o]
           }
-        if (colOf[best[1]] !== colOf[best[2]]) edges.push([j, e.i, best[1], best[2], best[3] ? '' : raceOf.get(j +
-          ',' + e.i) || ' '])
+        if (colOf[best[1]] !== colOf[best[2]])
+          edges.push([j, e.i, best[1], best[2], best[3] ? '' : raceOf.get(j + ',' + e.i) || ' '])
       }
+  // the names of variables that alone make an order, each once beside its event
+  const beside = new Map();
+  rowNames = [];
+  if (text)
+    for (const edge of edges)
+      if (edge[4].trim()) {
+        const key = edge[1] + ' ' + edge[4];
+        if (!beside.has(key) || beside.get(key)[0] < edge[0]) beside.set(key, edge)
+      }
+  for (const [j, i, u, v, race] of beside.values()) {
+    const xa = X[colOf[u]],
+      xb = X[colOf[v]],
+      t = cut(race, Math.min(48, Math.max(18, Math.floor((Math.abs(xb - xa) - 24) / SW)))),
+      w = t.length * SW,
+      low = row[i] - row[j] < 2 ? (xa + xb - w) / 2 : xa < xb ? xb - 6 - w : xb + 6,
+      x = Math.max(40, Math.min(low, W - w - 4));
+    (rowNames[row[i]] ||= []).push({i, j, t, w, x})
+  }
+  // rows and tracks, above them those of the names
+  rowEv = Array.from({length: rows}, () => []);
+  for (const e of E)
+    if (!hid[e.i]) rowEv[row[e.i]].push(e.i);
+  Y = new Float64Array(N);
+  BL = new Float64Array(N);
+  BW = new Float64Array(N);
+  rowTop = new Float64Array(rows + 1);
+  rowAt = new Float64Array(rows);
+  const big = ROWS[zoom],
+    small = text ? 15 : Math.max(1, big * .6);
+  let y = headH + 8;
+  for (let r = 0; r < rows; r++) {
+    rowTop[r] = y;
+    const ends = [];
+    for (const name of (rowNames[r] || []).sort((p, q) => p.x - q.x)) {
+      let k = ends.findIndex(end => end + 6 < name.x);
+      if (k < 0) k = ends.length;
+      ends[k] = name.x + name.w;
+      name.y = y + k * 12 + 9
+    }
+    y += ends.length * 12;
+    rowAt[r] = y;
+    const tracks = [];
+    for (const i of rowEv[r]) {
+      const e = E[i],
+        xa = X[colOf[e.a]],
+        xb = e.b >= 0 ? X[colOf[e.b]] : xa;
+      let l = Math.min(xa, xb) - 4,
+        h = Math.max(xa, xb) + 4;
+      if (text) {
+        const tk = String(e.t).length * SW;
+        if (e.b < 0) {
+          const room = (X[colOf[e.a] + 1] || W) - xa - 16 - tk;
+          l -= tk + 8;
+          h += 6 + Math.min(room, letters(label(e)) * (e.quiet ? SW : CW))
+        } else {
+          if (stored(e)) xb > xa ? h += stored(e).length * SW + 10 : l -= stored(e).length * SW + 10;
+          if (e.k === 'close') {
+            l -= 2;
+            h += 2
+          }
+        }
+      }
+      BL[i] = l;
+      BW[i] = h - l
+    }
+    for (const i of rowEv[r].sort((p, q) => BL[p] - BL[q])) {
+      let k = tracks.findIndex(t => t.end + 5 < BL[i]);
+      if (k < 0) {
+        k = tracks.length;
+        tracks.push({end: 0, ev: [], tall: false})
+      }
+      tracks[k].end = BL[i] + BW[i];
+      tracks[k].ev.push(i);
+      if (!E[i].quiet && E[i].k !== 'close') tracks[k].tall = true
+    }
+    for (const t of tracks) {
+      const h = t.tall ? big : small;
+      for (const i of t.ev) Y[i] = y + (text && t.tall ? h * .66 : h / 2);
+      y += h
+    }
+  }
+  rowTop[rows] = y;
+  H = y;
+  laneEv = L.map(l => l.evs.filter(i => !hid[i]));
+  // bars of enclosed handshakes
+  bars = [];
+  const open = new Map(),
+    depthOf = L.map(() => []);
+  for (const e of E) {
+    if (e.k === 'open') {
+      open.set(e.name, e)
+    } else if (e.k === 'close') {
+      const o = open.get(e.name);
+      open.delete(e.name);
+      bar(o, e)
+    }
+  }
+  for (const o of open.values()) bar(o, null);
+  bars.sort((p, q) => p.o.i - q.o.i);
+
+  function bar(o, c) {
+    if (hid[o.i]) return;
+    bars.push({lane: o.b, o, c, held: false}, {lane: o.a, o, c, held: true})
+  }
+  const byLane = L.map(() => []);
+  bars.forEach(b => byLane[b.lane].push(b));
+  byLane.forEach(bs => {
+    bs.sort((p, q) => p.o.i - q.o.i);
+    const up = [];
+    for (const b of bs) {
+      while (up.length && up.at(-1).c && up.at(-1).c.i < b.o.i) up.pop();
+      b.lv = up.length;
+      up.push(b)
+    }
+  });
   place();
   mapDraw();
 }
@@ -387,9 +416,11 @@ function place() {
     const xa = X[colOf[r[1]]],
       xb = r[2] >= 0 ? X[colOf[r[2]]] : xa,
       f = r[0].split(' '),
-      t = cut(f[0] === 'assign' ? short(f[1], r[1]) + ' := ' + f[2] : /turn|test|close/.test(f[0]) ? f.slice(0,
-        2).join(' ').replace(/ \/.*/, '') : short(f[1], r[2] < 0 ? r[1] : r[2]) + (/meet|open/.test(f[0]) &&
-        f[2] !== '-' ? ' ' + f[2] : ''), 22);
+      assign = f[0] === 'assign',
+      said = /turn|test|close/.test(f[0]) ? [f.slice(0, 2).join(' ').replace(/ \/.*/, ''), '', ''] :
+      !assign && !(/meet|open/.test(f[0]) && f[2] !== '-') ? [short(f[1], r[2] < 0 ? r[1] : r[2]), '', ''] :
+      [short(f[1], assign || r[2] < 0 ? r[1] : r[2]), assign ? ' := ' : ' ', f[2]],
+      t = shorten(said, Math.max(22, least(said))).join('');
     now.push({
       ready: i,
       xa,
@@ -411,17 +442,14 @@ function place() {
     }
     const t = (p[3] === 'held' ? 'held ' : '') + p[4].map(o => short(R.channels[o[0]][0], p[0])).join(' | ') +
       (!p[4].length || p[4].some(o => o[2]) ? '' : p[3] === 'held' ? ' (for ever)' : ' (none comes)'),
-      l = Math.min(xa, ...xs),
-      h = Math.max(xa, ...xs),
-      end = h > xa && l === xa ? l + 20 + t.length * CW : h;
+      far = xs.reduce((p, q) => Math.abs(q - xa) > Math.abs(p - xa) ? q : p, xa),
+      wide = t.length * CW + 24,
+      // the text stands over the arrow, or right of the place where there is no room
+      left = far < xa && xa - wide > 34;
     now.push({
-      wait: i,
-      xa,
-      xs,
-      t,
-      ring,
-      l: (l < xa && h - l < t.length * CW + 24 ? h - 24 - t.length * CW : l) - 6,
-      h: Math.max(h, end, l === h ? l + 20 + t.length * CW : 0) + 8
+      wait: i, xa, xs, t, ring, left,
+      l: Math.min(xa, ...xs, left ? xa - wide : xa) - 6,
+      h: Math.max(xa, ...xs, left ? xa : xa + wide) + 8
     })
   });
   const tracks = [];
@@ -436,7 +464,8 @@ function place() {
   });
   const h = now.length ? nowTop + 14 + tracks.length * 22 + 14 : H + 24;
   now.end = h;
-  $('pad').style.width = Math.max(W, view.clientWidth - 1) + 'px';
+  now.wide = fontText ? now.reduce((most, z) => Math.max(most, z.h), W) : W;
+  $('pad').style.width = Math.max(now.wide, view.clientWidth - 1) + 'px';
   $('pad').style.height = Math.max(h, view.clientHeight - 1) + 'px'
 }
 // ---- drawing of what is in sight
@@ -457,6 +486,11 @@ const lower = (a, y) => {
     Y[a[m]] < y ? lo = m + 1 : hi = m
   }
   return lo
+};
+
+const isFree = (lane, a, b) => {
+  const i = lower(laneEv[lane], a + 1);
+  return i === laneEv[lane].length || Y[laneEv[lane][i]] > b - 1
 };
 
 function picture(sx, sy, w, h) {
@@ -499,9 +533,9 @@ function picture(sx, sy, w, h) {
         `M${x} ${Math.max(a,y0).toFixed(1)}V${Math.min(b,y1).toFixed(1)}`);
     const stands = R.places.filter(p => p[0] === k && p[3] !== 'go' || p[0] === k && p[5]),
       tail = ev.length ? incarnation(at(ev.at(-1), k)) : incarnation(L[k].path);
-    if (ev.length ? !/\./.test(incarnation(at(ev[0], k))) : L[k].inst >= 0 && stands.length) seg(headH, ev
+    if (ev.length ? !/\.[1-9]/.test(incarnation(at(ev[0], k))) : L[k].inst >= 0 && stands.length) seg(headH, ev
       .length ? Y[ev[0]] : yn, (!ev.length || row[ev[0]] ? 'w ' : '') + (focus() < 0 || !ev.length ? '' : st[
-        ev[0]] === 4 ? 'n' : CLS[st[ev[0]]] === 's' ? 'p' : CLS[st[ev[0]]]));
+        ev[0]] === 1 ? 'p' : 'n'));
     const i0 = Math.max(1, lower(ev, y0));
     for (let i = i0; i < ev.length; i++) {
       const p = ev[i - 1],
@@ -528,7 +562,6 @@ function picture(sx, sy, w, h) {
       `y="${Math.max(a,y0-9)}" height="${Math.max(1,Math.min(z,y1+9)-Math.max(a,y0-9))}" rx="2.5"/>`
       )
   }
-  const names = [];
   for (const [j, i, u, v, race] of edges) {
     if (Math.max(Y[i], Y[j]) < y0 || Math.min(Y[i], Y[j]) > y1) continue;
     const xa = X[colOf[u]],
@@ -537,17 +570,19 @@ function picture(sx, sy, w, h) {
       yb = Y[i],
       m = (ya + yb) / 2,
       q = text ? 1 : ROWS[zoom] / 24;
-    add(`xe ${race?'race ':''}${pair(j,i)}`, race ?
-      `M${xa} ${ya+4*q}C${xa} ${m+4*q} ${xb} ${m+2*q} ${xb} ${yb-4*q}` : L[v].path.length > L[u].path.length ?
+    // down in a lane where nothing stands between them
+    const own = isFree(u, ya, yb),
+      other = isFree(v, ya, yb);
+    add(`xe ${race?'race ':''}${pair(j,i)}`, race || !own && !other ?
+      `M${xa} ${ya+4*q}C${xa} ${m+4*q} ${xb} ${m+2*q} ${xb} ${yb-4*q}` :
+      other && (!own || L[v].path.length > L[u].path.length) ?
       `M${xa} ${ya+3*q}C${xa} ${ya+15*q} ${xb} ${ya+7*q} ${xb} ${Math.min(yb-4*q,ya+20*q)}V${yb-3*q}` :
       `M${xa} ${ya+3*q}V${Math.max(ya+4*q,yb-18*q)}C${xa} ${yb-6*q} ${xb} ${yb-12*q} ${xb} ${yb-2*q}`);
-    if (race && text) names.push(
-      `<text class="s9 lab ${pair(j,i)==='n'?'n':''}" style="fill:var(--race)" ` +
-      `x="${(xa+xb)/2}" y="${m+3}" text-anchor="middle">${race}</text>`
-      )
   }
   flush();
-  o.push(...names);
+  for (let r = r0; r < rowEv.length && rowTop[r] < y1; r++)
+    for (const {i, j, t, x, y} of rowNames[r] || []) o.push(
+      `<text class="s9 lab ${pair(j,i)==='n'?'n':''}" style="fill:var(--race)" x="${x}" y="${y}">${esc(t)}</text>`);
   // events
   for (let r = r0; r < rowEv.length && rowTop[r] < y1; r++)
     for (const i of rowEv[r]) {
@@ -573,7 +608,8 @@ function picture(sx, sy, w, h) {
           `<g class="ev rdy" data-r="${z.ready}">` +
             `<rect class="box" x="${z.l}" y="${y-12}" width="${z.h-z.l}" height="20" rx="3"/>` +
           (z.xa !== z.xb ?
-            `<line x1="${z.xa}" x2="${z.xb}" y1="${y}" y2="${y}" stroke="currentColor" stroke-width="1.6" stroke-dasharray="2 3"/>` :
+            `<line x1="${z.xa}" x2="${z.xb}" y1="${y}" y2="${y}" stroke="currentColor" ` +
+            `stroke-width="1.6" stroke-dasharray="2 3"/>` :
             '') + [z.xa, z.xb].map(x =>
             `<circle cx="${x}" cy="${y}" r="4" fill="var(--bg)" stroke="currentColor" stroke-width="1.6"/>`).join(
             '') + (text ?
@@ -582,8 +618,7 @@ function picture(sx, sy, w, h) {
         continue
       }
       const c = z.ring ? 'rg0' : 'wt',
-        far = z.xs.length ? z.xs.reduce((p, q) => Math.abs(q - z.xa) > Math.abs(p - z.xa) ? q : p, z.xs[0]) : z.xa,
-        right = far >= z.xa;
+        right = z.xs.some(x => x > z.xa);
       o.push(
         `<g class="ev ${c}" data-w="${z.wait}">` +
           `<rect class="box" x="${z.l}" y="${y-12}" width="${z.h-z.l}" height="20" rx="3"/>`
@@ -598,9 +633,11 @@ function picture(sx, sy, w, h) {
             )
         }
       o.push(
-        `<rect x="${z.xa-4}" y="${y-4}" width="8" height="8" fill="var(--bg)" stroke="currentColor" stroke-width="1.8"/>` +
+        `<rect x="${z.xa-4}" y="${y-4}" width="8" height="8" fill="var(--bg)" ` +
+        `stroke="currentColor" stroke-width="1.8"/>` +
         (text ?
-          `<text class="lab" x="${right?z.xa+9:z.xa-9}" y="${y+(far===z.xa?4:-5)}" text-anchor="${right?'start':'end'}">${z.t}</text>` :
+          `<text class="lab" x="${z.left?z.xa-9:z.xa+9}" y="${y+(z.left||right?-5:4)}" ` +
+          `text-anchor="${z.left?'end':'start'}">${z.t}</text>` :
           '') + '</g>')
     }
   }
@@ -609,7 +646,7 @@ function picture(sx, sy, w, h) {
   o.push(`<rect x="0" y="0" width="34" height="${h}" fill="var(--bg)"/>`);
   for (let r = r0; r < rowEv.length && rowTop[r] < y1; r++)
     if (r % step === 0) o.push(
-      `<text class="s9 tk ruler" x="30" y="${(rowTop[r]-sy+(text?12:4)).toFixed(1)}" text-anchor="end">${r}</text>`);
+      `<text class="s9 tk ruler" x="30" y="${(rowAt[r]-sy+(text?12:4)).toFixed(1)}" text-anchor="end">${r}</text>`);
   if (now.length) o.push(
     `<text class="s9 tk ruler" x="30" y="${nowTop-sy+8}" text-anchor="end" style="font-weight:700">now</text>`);
   o.push(
@@ -626,34 +663,39 @@ function picture(sx, sy, w, h) {
       left = Math.max(b.x0, Math.min(sx + 36, b.x1 - full.length * CW - 8));
     o.push(
       `<g class="ev" data-i="${b.inst}" tabindex="0" role="button">` +
-        `<title>${esc(I[0]+' '+I[1]+' ('+I[5]+'), called on line '+I[3]+', declared on line '+I[4])}</title>` +
-        `<rect x="${b.x0}" y="${y}" width="${Math.max(2,wd)}" height="16" rx="3" fill="var(--bg)" stroke="var(--faint)"/>` +
-        `<text x="${left+5}" y="${y+12}" style="font-weight:600">${esc(fits(full,I[1].slice(0,-1),Math.floor((b.x1-left-8)/CW)))}</text>` +
-        `</g>`
+        `<title>${esc(I[0]+' '+I[1]+' ('+I[5]+')'+whereOf(I))}</title>` +
+        `<rect x="${b.x0}" y="${y}" width="${Math.max(2,wd)}" height="16" rx="3" ` +
+        `fill="var(--bg)" stroke="var(--faint)"/>` +
+        `<text x="${left+5}" y="${y+12}" style="font-weight:600">` +
+        esc(fits(full, I[1].slice(0, -1), Math.floor((b.x1 - left - 8) / CW), 8)) + `</text></g>`
       )
   }
   cols.forEach((c, i) => {
     const x = X[i];
     if (x < sx - 200 || x > sx + w + 100) return;
+    // a name ends before the next block, what is below it before the next text
     const l = L[c.lanes[0]],
-      room = (X[i + 1] || W) - x + 4;
+      left = x - (text ? 14 : 3),
+      next = (X[i + 1] || W + 14) - x,
+      most = Math.floor((next - (text ? 8 : 5)) / CW),
+      small = Math.floor((next - 4) / SW);
     if (l.side !== 'body') {
       const ch = R.channels[l.chan],
         fd = R.feeds.find(f => f[0] === c.lanes[0]),
         used = l.evs.filter(j => E[j].k !== 'close').length;
       o.push(
         `<g><title>${l.side==='in'?'input':l.side==='out'?'output':'sync'} ${ch[0]}, ${ch[1]} bits</title>` +
-          `<text x="${x-(text?14:3)}" y="${headH-26}" style="font-weight:600">${esc(cut(ch[0],Math.floor((room+8)/CW)))}</text>` +
-          `<text class="s9 tk" x="${x-(text?14:3)}" y="${headH-8}">` +
-          `${cut(l.side==='out'?'out '+used:(l.side==='in'?'in ':'sync ')+used+'/'+fd[1],Math.floor((room+8)/SW))}</text>` +
-          `</g>`
+          `<text x="${left}" y="${headH-26}" style="font-weight:600">${esc(cut(ch[0],most))}</text>` +
+          `<text class="s9 tk" x="${left}" y="${headH-8}">` +
+          cut(l.side === 'out' ? 'out ' + used : (l.side === 'in' ? 'in ' : 'sync ') + used + '/' + fd[1], small) +
+          `</text></g>`
         )
     } else if (text) {
       const sub = i > 0 && c.box < 0 && cols[i - 1].box < 0 && L[cols[i - 1].lanes[0]].inst === l.inst;
       o.push(
-        `<text class="s9 tk" x="${x-14}" y="${headH-8}">` + cut(
-          c.box>=0?(c.lanes.length>1?c.lanes.length+' lanes':'folded'):(sub?'|| ':'line ')+l.line,
-          Math.floor((room+6)/SW)) + `</text>`
+        `<text class="s9 tk" x="${left}" y="${headH-8}">` + (c.box >= 0 ?
+          cut(c.lanes.length > 1 ? c.lanes.length + ' lanes' : 'folded', small) :
+          fits((sub ? '|| ' : 'line ') + l.line, String(l.line), small)) + `</text>`
         )
     }
   });
@@ -674,25 +716,24 @@ function drawEvent(e, text) {
     by = tall ? y - 14 : y - bh / 2;
   let s =
     `<g class="ev ${c}" data-e="${e.i}">` +
-      `<rect class="box" x="${(BL[e.i]-2).toFixed(1)}" y="${by}" width="${(BW[e.i]+4).toFixed(1)}" height="${bh}" rx="3"/>`;
-  const [n, v] = label(e), tk = String(e.t);
+      `<rect class="box" x="${(BL[e.i]-2).toFixed(1)}" y="${by}" width="${(BW[e.i]+4).toFixed(1)}" ` +
+      `height="${bh}" rx="3"/>`;
+  const said = label(e),
+    tk = String(e.t);
   if (e.b < 0) {
     if (e.k === 'assign') s += text ? `<rect x="${xa-4}" y="${y-4}" width="8" height="8" fill="currentColor"/>` :
       `<rect x="${xa-2}" y="${y-1.5}" width="4" height="3" fill="currentColor"/>`;
     else if (e.k === 'turn') s +=
       `<circle cx="${xa}" cy="${y}" r="${text?3:1.2}" fill="var(--bg)" stroke="currentColor"/>`;
     else s += text ?
-      `<polygon points="${xa},${y-4} ${xa+4},${y} ${xa},${y+4} ${xa-4},${y}" fill="var(--bg)" stroke="currentColor"/>` :
+      `<polygon points="${xa},${y-4} ${xa+4},${y} ${xa},${y+4} ${xa-4},${y}" ` +
+      `fill="var(--bg)" stroke="currentColor"/>` :
       `<circle cx="${xa}" cy="${y}" r="1.2" fill="currentColor"/>`;
     if (text) {
       const room = (X[colOf[e.a] + 1] || W) - xa - 14 - tk.length * SW;
-      if (e.quiet) s += `<text class="s9 tk lab" x="${xa+8}" y="${y+3}">${cut(n,Math.floor(room/SW))}</text>`;
-      else {
-        const full = n + v,
-          sh = cut(full, Math.floor(room / CW));
-        s +=
-          `<text class="lab" x="${xa+9}" y="${y+4}">${sh===full?esc(n)+`<tspan class="v">${v}</tspan>`:esc(sh)}</text>`
-      }
+      const words = shorten(said, Math.floor(room / (e.quiet ? SW : CW)));
+      s += e.quiet ? `<text class="s9 tk lab" x="${xa+8}" y="${y+3}">${words[0]}</text>` :
+        `<text class="lab" x="${xa+9}" y="${y+4}">${written(words)}</text>`;
       s += `<text class="s9 tk lab" x="${xa-10}" y="${y+3}" text-anchor="end">${tk}</text>`
     }
   } else {
@@ -717,19 +758,18 @@ function drawEvent(e, text) {
         out = ax === r ? -1 : 1,
         tw = (tk.length + 1) * SW,
         room = r - l - 30 - tw,
-        full = n + v,
-        sh = cut(full, Math.floor(room / CW)),
         tx = ax + out * (tw + 18),
         an = out < 0 ? 'end' : 'start';
       s +=
         `<text class="s9 tk lab" x="${ax+out*12}" y="${y-4}" text-anchor="${an}">#${tk}</text>` +
           `<text class="lab" x="${tx}" y="${y-4}" text-anchor="${an}">` +
-          (sh===full?esc(n)+(v!==''?`<tspan class="v">${v}</tspan>`:''):esc(sh)) + `</text>`;
+          written(shorten(said, Math.floor(room / CW))) + `</text>`;
       const q = stored(e);
       if (q) {
         const room2 = xb > xa ? (X[colOf[e.b] + 1] || W) - xb - 18 : xb - (X[colOf[e.b] - 1] || 36) - 18;
         s +=
-          `<text class="s9 tk lab" x="${xb+sg*8}" y="${y+3}" text-anchor="${sg>0?'start':'end'}">${cut(q,Math.floor(room2/SW))}</text>`
+          `<text class="s9 tk lab" x="${xb+sg*8}" y="${y+3}" text-anchor="${sg>0?'start':'end'}">` +
+          cut(q, Math.floor(room2 / SW)) + `</text>`
       }
     }
   }

@@ -50,7 +50,8 @@ function mapView() {
   g.globalAlpha = 1
 }
 // ---- the panel
-const link = (i, c) => `<a class="${c||''}" href="#e${E[i].t}" data-go="${i}" title="${esc(E[i].text)}">#${E[i].t}</a>`,
+const link = (i, c) =>
+  `<a class="${c||''}" href="#e${E[i].t}" data-go="${i}" title="${esc(E[i].text)}">#${E[i].t}</a>`,
   lineLink = n => n ? ` <a class="line" href="#src" data-line="${n}">line ${n}</a>` : '';
 const copy = s => `<code>${esc(s)}</code><button data-copy="${esc(s)}" title="copy">copy</button>`;
 const some = (a, c) => a.slice(0, 12).map(i => link(i, c)).join(' ') + (a.length > 12 ? ` … ${a.length} in all` :
@@ -65,7 +66,8 @@ function card() {
       f = st.reduce((s, x) => s + (x === 2), 0);
     o =
       `<h2>Event #${e.t}</h2><code class="ev0">${esc(e.text)}</code>` +
-        `<div>${esc(who(e.a))}${lineLink(e.la)}${e.b>=0?` <b>${e.val!==''?'→':'↔'}</b> ${esc(who(e.b))}${lineLink(e.lb)}`:''}</div>` +
+        `<div>${esc(who(e.a))}${lineLink(e.la)}` +
+        (e.b >= 0 ? ` <b>${e.val!==''?'→':'↔'}</b> ${esc(who(e.b))}${lineLink(e.lb)}` : '') + `</div>` +
       (e.since.length && e.since[0] !== e.since[1] && e.k !== 'close' ?
         `<div class="soft">${esc(who(e.since[0]<e.since[1]?e.a:e.b))} waited ${Math.abs(e.since[0]-e.since[1])} ` +
         `row${Math.abs(e.since[0]-e.since[1])===1?'':'s'} for the other</div>` :
@@ -76,12 +78,12 @@ function card() {
         '') +
       `<table><tr><td><span class="sw" style="background:var(--past)">` +
         `</span>${p} cause${p===1?'':'s'}<td>nearest ${some(e.from,'cp')}<tr><td>` +
-        `<span class="sw hollow">` +
+        `<span class="sw next">` +
         `</span>${f} consequence${f===1?'':'s'}<td>nearest ${some(e.to,'cf')}<tr><td>` +
         `<span class="sw" style="background:var(--faint)">` +
         `</span>${N-1-p-f} independent<td>depth ${e.depth}</table>` +
-      `<div class="cmd">${copy((f?'roll ':'undo ')+e.t)}<span class="soft">${f?`takes back ${f+1} events`:'nothing needs it'}</span>` +
-        `</div>`
+      `<div class="cmd">${copy((f?'roll ':'undo ')+e.t)}` +
+        `<span class="soft">${f?`takes back ${f+1} events`:'nothing needs it'}</span></div>`
   } else {
     const ring = R.rings[0],
       body = R.places.filter(p => !p[5] && L[p[0]].side === 'body'),
@@ -93,12 +95,13 @@ function card() {
     if (R.ready.length) o +=
       `<div class="rd"><b>${R.ready.length} step${R.ready.length>1?'s':''} can be taken</b></div>` + R.ready.slice(
         0, 30).map(r =>
-        `<div class="cmd">${copy(r[5].replace(/ 0$/,''))}<span class="m soft" style="font-size:11px">${esc(r[0].split(' /')[0])}</span>` +
-          `</div>`
+        `<div class="cmd">${copy(r[5].replace(/ 0$/,''))}` +
+          `<span class="m soft" style="font-size:11px">${esc(r[0].split(' /')[0])}</span></div>`
         ).join('');
     else if (!ring) o += `<div><b>No step can be taken.</b> ${standing(body)}</div>`;
     if (wait.length) o += `<h2>Waits</h2><table>` + wait.slice(0, 60).map(p =>
-      `<tr><td>${esc(who(p[0]))}${lineLink(p[2])}<td>${waitText(p)}`).join('') + '</table>'
+      `<tr><td class="name who">${esc(who(p[0]))}${lineLink(p[2])}` +
+      `<td class="name">${waitText(p)}`).join('') + '</table>'
   }
   $('card').innerHTML = o
 }
@@ -137,12 +140,30 @@ function waitText(p) {
     [...new Set(o[1].map(who))].slice(0, 3).map(esc).join(', ')).join('<br>')
 }
 
-function ringPicture(ring) {
-  if (ring.length > 14) return '';
+// on which channel a place of a ring waits for the next
+function ringChannel(ring, i) {
+  const P = R.places[ring[i]],
+    to = R.places[ring[(i + 1) % ring.length]][0],
+    on = P[4].find(q => q[1].includes(to)) || P[4][0];
+  return short(R.channels[on[0]][0], P[0])
+}
+
+// a ring as a picture, or as lines where a text would lie over another
+const ringPicture = ring => ring.length <= 14 && ringDrawn(ring) || ringLines(ring);
+
+function ringLines(ring) {
+  const line = (p, i) => `<div>${esc(who(R.places[p][0]))}${lineLink(R.places[p][2])} ` +
+    (R.places[p][3] === 'held' ? 'is held on' : 'waits on') + ` <span class="m">${esc(ringChannel(ring, i))}</span>` +
+    ` for ${esc(who(R.places[ring[(i + 1) % ring.length]][0]))}</div>`;
+  return `<div class="ring">${ring.slice(0, 60).map(line).join('')}` +
+    (ring.length > 60 ? `<div class="soft">and ${ring.length - 60} more</div>` : '') + '</div>'
+}
+
+// the picture of a ring, if no text lies over another, over a box or an arrow, and all are within
+function ringDrawn(ring) {
   const n = ring.length,
     w = 378,
     h = n < 4 ? 170 : n < 7 ? 250 : 320,
-    labels = [],
     o = [`<svg width="${w}" height="${h}" role="img" aria-label="ring of waiting"><g class="rg0">`];
   const box = ring.map((p, i) => {
     const a = 2 * Math.PI * i / n - (n === 2 ? Math.PI : Math.PI / 2),
@@ -156,13 +177,11 @@ function ringPicture(ring) {
       line: R.places[p][2]
     }
   });
+  const crowd = (a, b) => Math.abs(a.x - b.x) < (a.bw + b.bw) / 2 + 8 && Math.abs(a.y - b.y) < 40;
+  if (box.some((a, i) => box.some((b, j) => i < j && crowd(a, b)))) return '';
   const inside = (b, x, y) => Math.abs(x - b.x) < b.bw / 2 + 3 && Math.abs(y - b.y) < 19;
-  ring.forEach((p, i) => {
-    const P = R.places[p],
-      A = box[i],
-      B = box[(i + 1) % n],
-      to = R.places[ring[(i + 1) % n]][0],
-      on = P[4].find(q => q[1].includes(to)) || P[4][0],
+  const arrows = box.map((A, i) => {
+    const B = box[(i + 1) % n],
       mx = (A.x + B.x) / 2,
       my = (A.y + B.y) / 2,
       qx = mx + (n === 2 ? 0 : (mx - w / 2) * .42),
@@ -175,25 +194,45 @@ function ringPicture(ring) {
     while (t0 < .5 && inside(A, ...pt(t0))) t0 += .02;
     while (t1 > .5 && inside(B, ...pt(t1))) t1 -= .02;
     const pts = [];
-    for (let t = t0; t <= t1 + .001; t += (t1 - t0) / 16) pts.push(pt(t).map(v => v.toFixed(1)).join(' '));
-    const name = (P[3] === 'held' ? 'held ' : '') + short(R.channels[on[0]][0], P[0]),
-      half = name.length * CW / 2 + 3,
-      [ex, ey] = pt(t1), [fx, fy] = pt(t1 - .06), [lx, ly] = pt(t0 + (t1 - t0) * .45),
-      tx = Math.max(half, Math.min(w - half, lx)),
+    for (let t = t0; t <= t1 + .001; t += (t1 - t0) / 16) pts.push(pt(t));
+    const [ex, ey] = pt(t1), [fx, fy] = pt(t1 - .06),
       ang = Math.atan2(ey - fy, ex - fx) * 180 / Math.PI;
     o.push(
-      `<path d="M${pts.join('L')}" fill="none" stroke="currentColor" stroke-width="2.2"/>` +
+      `<path d="M${pts.map(p=>p.map(v=>v.toFixed(1)).join(' ')).join('L')}" ` +
+        `fill="none" stroke="currentColor" stroke-width="2.2"/>` +
         `<polygon points="1,0 -9,-5 -9,5" fill="currentColor" transform="translate(${ex},${ey}) rotate(${ang})"/>`
       );
-    labels.push(
-      `<rect x="${tx-half}" y="${ly-8}" width="${2*half}" height="15" fill="var(--panel)"/>` +
-        `<text class="on" x="${tx}" y="${ly+4}" text-anchor="middle">${esc(name)}</text>`
-      )
+    return {pts, ex, ey}
   });
-  o.push(...labels, '</g>');
+  // what a name must not meet: as middle, half a width and half a height
+  const meets = (a, b) => Math.abs(a.x - b.x) < a.w + b.w && Math.abs(a.y - b.y) < a.h + b.h,
+    taken = box.map(b => ({x: b.x, y: b.y, w: b.bw / 2, h: 16}));
+  arrows.forEach(a => taken.push({x: a.ex, y: a.ey, w: 8, h: 8}));
+  for (const [i, {pts}] of arrows.entries()) {
+    const name = (R.places[ring[i]][3] === 'held' ? 'held ' : '') + ringChannel(ring, i),
+      half = name.length * CW / 2 + 3,
+      others = arrows.flatMap((a, k) => k === i ? [] : a.pts.map(([x, y]) => ({x, y, w: 1, h: 1}))),
+      out = pts[8][0] < w / 2 ? -1 : 1,
+      place = (k, aside) => {
+        const at = pts[k][0] + out * aside,
+          x = Math.max(half, Math.min(w - half, at));
+        return {x, y: pts[k][1], w: half, h: 8, off: Math.abs(at - x)}
+      },
+      // on its arrow, near the middle of that, or else beside it
+      free = [0, half + 5].flatMap(aside => [7, 8, 6, 9, 5, 10, 4].map(k => place(k, aside))).find(z =>
+        z.off < half && z.y > 8 && z.y < h - 8 && ![...taken, ...others].some(b => meets(z, b)));
+    if (!free) return '';
+    taken.push(free);
+    o.push(
+      `<rect x="${free.x-half}" y="${free.y-8}" width="${2*half}" height="15" fill="var(--panel)"/>` +
+        `<text class="on" x="${free.x}" y="${free.y+4}" text-anchor="middle">${esc(name)}</text>`
+      )
+  }
+  o.push('</g>');
   for (const b of box) o.push(
     `<g class="ev" data-line="${b.line}">` +
-      `<rect x="${b.x-b.bw/2}" y="${b.y-16}" width="${b.bw}" height="32" rx="5" fill="var(--ringbg)" stroke="var(--ring)"/>` +
+      `<rect x="${b.x-b.bw/2}" y="${b.y-16}" width="${b.bw}" height="32" rx="5" ` +
+      `fill="var(--ringbg)" stroke="var(--ring)"/>` +
       `<text x="${b.x}" y="${b.y-2}" text-anchor="middle" style="font-weight:600">${esc(b.t)}</text>` +
       `<text class="tk" style="font-size:9px" x="${b.x}" y="${b.y+10}" text-anchor="middle">line ${b.line}</text>` +
       `</g>`
@@ -207,19 +246,26 @@ function valuesPanel() {
     e = i < 0 ? null : E[i],
     set = vals0.map((v, k) => [k, v]).filter(([k, v]) => v[1] >= 0 || e && (e.w === k || e.reads.includes(k)) || R
       .variables.length <= 12),
-    rest = R.variables.length - set.length;
+    rest = R.variables.length - set.length,
+    most = lengths => lengths.reduce((a, b) => Math.max(a, b), 0) * 7.7,
+    shown = set.slice(0, 200),
+    // a row has its name in a line of its own where all three are too wide for the panel
+    tall = most(shown.map(([k]) => R.variables[k][0].length)) + most(shown.map(([, v]) => String(v[0]).length)) +
+    24 + Math.max(70, e && e.w >= 0 ? most([e.val.length, String(vals0[e.w][0]).length]) : 0) > 372;
   $('vals').hidden = !R.variables.length;
-  $('vals').innerHTML = `<h2>${e?'Values right after its causes':'Values now'}</h2><table>` + set.slice(0, 200).map(
+  $('vals').innerHTML = `<h2>${e?'Values right after its causes':'Values now'}</h2>` +
+    `<table${tall?' class="tall"':''}>` + shown.map(
     ([k, v]) =>
     `<tr${e&&e.w===k?' style="font-weight:600"':''}>` +
-      `<td class="m">${R.variables[k][0]}<td class="m">${v[0]}${e&&e.w===k?` → ${e.val}`:''}` +
-      `<td>${e&&e.w===k?v[0]+' ':''}${v[1]>=0?'by '+link(v[1],e?'cp':''):'<span class="soft">from the start</span>'}` +
+      `<td class="m name">${R.variables[k][0]}<td class="m">${v[0]}${e&&e.w===k?` → ${e.val}`:''}` +
+      `<td>${e&&e.w===k?v[0]+' ':''}` +
+      (v[1] >= 0 ? 'by ' + link(v[1], e ? 'cp' : '') : '<span class="soft">from the start</span>') +
       (e && e.w === k ? `, ${e.val} by this event` : '') +
       (R.variables[k][2]?' <span style="color:var(--race)">shared</span>':'')
     ).join('') + '</table>' + (rest ? `<div class="soft">and ${rest} more, 0 from the start</div>` : '')
 }
-const WORDS =
-  /\b(arbitrate|and|as|begin|bits|case|channel|continue|else|end|enumeration|halt|if|input|is|loop|not|of|or|output|procedure|select|shared|sync|then|type|variable|while|xor)\b/g;
+const WORDS = new RegExp('\\b(arbitrate|and|as|begin|bits|case|channel|continue|else|end|enumeration|halt|if|input|' +
+  'is|loop|not|of|or|output|procedure|select|shared|sync|then|type|variable|while|xor)\\b', 'g');
 
 function sourceText() {
   let deep = 0;
@@ -322,9 +368,10 @@ function legend(t) {
   $('bar').innerHTML = t || (focus() >= 0 ?
     `<span><span class="sw" style="background:var(--past)"></span>causes</span><span>` +
       `<span class="sw" style="background:var(--self);outline:1px solid var(--ink)"></span>this event</span><span>` +
-      `<span class="sw hollow"></span>consequences, in italics: what roll takes</span><span>` +
+      `<span class="sw next"></span><span class="dashes"></span><i>consequences</i>: what roll takes</span><span>` +
       `<span class="sw" style="background:var(--faint)"></span>independent: stays</span><span>Esc: back</span>` :
-    `<span>●—▸ rendezvous, to the receiver</span><span>■ assignment</span><span>○ turn ◇ test</span><span>` +
+    `<span>●—▸ rendezvous, to the receiver</span><span>■ assignment</span><span>○ turn ◇ test</span>` +
+      `<span>` +
       `<span class="sw" style="background:var(--bar);outline:1px solid var(--barline)"></span>enclosed</span>` +
       `<span>┈ the lane waits</span>` +
       (R.races.length?'<span style="color:var(--race)">╌ order by a shared variable</span>':'') +
@@ -371,11 +418,12 @@ function search(s) {
     const m = s.match(/^line (\d+)$/),
       ticket = s.match(/^#?(\d+)$/),
       low = s.toLowerCase(),
-      has = e => [e.text, label(e).join(''), e.w >= 0 ? R.variables[e.w][0] : ''].some(t => t.toLowerCase().includes(low));
+      texts = e => [e.text, label(e).join(''), e.w >= 0 ? R.variables[e.w][0] : ''],
+      has = e => texts(e).some(t => t.toLowerCase().includes(low));
     for (const e of E)
       if (m ? e.la === +m[1] || e.lb === +m[1] : ticket && e.t === +ticket[1] || has(e)) hits[e.i] = 1;
     const n = found().length;
-    legend(`<b>${n}</b> event${n===1?'':'s'} with “${esc(s)}”; Enter goes to the next`)
+    legend(`<b>${n}</b> event${n===1?'':'s'} with “${esc(s)}”` + (n ? '; Enter goes to the next' : ''))
   } else legend();
   draw()
 }
@@ -659,21 +707,30 @@ view.addEventListener('wheel', ev => {
 }
 // ---- printing: sheets of the whole run, or of what is in sight where it is long
 addEventListener('beforeprint', () => {
-  const sheet = W * 1.25,
+  const wide = Math.max(now.wide, view.clientWidth),
+    sheet = wide * 1.25,
     whole = now.end < sheet * 30,
     from = whole ? 0 : view.scrollTop,
     to = whole ? now.end : view.scrollTop + view.clientHeight,
     o = [];
+  if (!whole) o.push(`<p><b>Only what was in sight is printed:</b> ${inSight(from + headH, to)}. ` +
+    'The whole run takes more than 30 sheets.</p>');
   for (let y = from; y < to;) {
     // a sheet ends above a row, if it has one that is whole
     const most = y + sheet,
       above = rowTop[Math.max(0, lowerRow(most + 1) - 1)],
       ends = most >= to + 10 ? to + 10 : above > y + headH + 20 ? above : most;
-    o.push(`<svg viewBox="0 0 ${W} ${ends-y}">${picture(0,y,W,ends-y)}</svg>`);
+    o.push(`<svg viewBox="0 0 ${wide} ${ends-y}">${picture(0,y,wide,ends-y)}</svg>`);
     y = ends >= to + 10 ? to : ends - headH
   }
   $('sheets').innerHTML = o.join('')
 });
+// the rows between two heights
+function inSight(from, to) {
+  const last = rowEv.length - 1,
+    first = Math.max(0, Math.min(last, lowerRow(from + 1) - 1));
+  return `row ${first} to ${Math.max(first, Math.min(last, lowerRow(to) - 1))} of 0 to ${last}`
+}
 addEventListener('afterprint', () => $('sheets').innerHTML = '');
 // ---- start
 {
@@ -684,10 +741,12 @@ addEventListener('afterprint', () => $('sheets').innerHTML = '');
   document.title = (base || 'balsadbg') + ': picture of a run';
   const ring = R.rings.length,
     s = $('state');
-  s.textContent = ring ? 'deadlock' : R.ready.length ? R.ready.length + ' ready' : R.progress;
+  s.textContent = [...ring ? ['deadlock'] : [], ...R.ready.length ? [R.ready.length + ' ready'] : []].join(', ') ||
+    R.progress;
   s.className = 'chip' + (ring ? ' ring' : R.ready.length ? ' go' : '');
   const depth = E.reduce((m, e) => Math.max(m, e.depth), -1) + 1;
-  $('sub').textContent = `${N} event${N===1?'':'s'}, depth ${depth}, ${L.length} lane${L.length===1?'':'s'} · ${R.files[2]}`;
+  $('sub').textContent = `${N} event${N===1?'':'s'}, depth ${depth}, ${L.length} lane${L.length===1?'':'s'}` +
+    ` · ${R.files[2]}`;
   const word = f => /^[\w./+:@%-]+$/.test(f) ? f : `'${f.replaceAll("'", "'\\''")}'`;
   $('again').textContent = 'balsadbg shell ' + R.files.map(word).join(' ');
   for (const w of q) {

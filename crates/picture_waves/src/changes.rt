@@ -1,7 +1,7 @@
 // The changes of signals.
 use crate::signals::{channel_width, of_channel, of_giver, of_taker, of_variable};
 use dependence::Live;
-use picture_data::{Place, Role, Steps};
+use picture_data::{Picture, Place, Role};
 use runs::{Event, Kind};
 use std::alloc::{AllocError, Global};
 use system::System;
@@ -51,17 +51,16 @@ pub(crate) fn changes_of(
     alloc: Global,
     system: &System,
     live: &Live,
-    steps: &Steps,
-    places: &[Place],
+    picture: &Picture,
 ) -> Result<Vec<Change>, AllocError> {
     let mut changes = Vec::new(alloc);
     for (index, (_, event)) in live.iter().enumerate() {
-        let depth = steps.depths.get(index).copied().unwrap_or(0);
-        let since = steps.since.get(index).copied().unwrap_or((0, 0));
+        let depth = picture.steps.depths.get(index).copied().unwrap_or(0);
+        let since = picture.steps.since.get(index).copied().unwrap_or((0, 0));
         add_event(&mut changes, system, event, depth, since)?;
     }
-    for place in places {
-        add_place(&mut changes, system, place)?;
+    for place in picture.end.places.as_slice() {
+        add_place(&mut changes, system, picture, place)?;
     }
     changes.sort_unstable();
     Ok(changes)
@@ -138,20 +137,50 @@ pub(crate) fn at_rest(system: &System, channel: u32) -> Level {
 }
 
 /// Adds that an action stands at a place, to the end.
-fn add_place(changes: &mut Vec<Change>, system: &System, place: &Place) -> Result<(), AllocError> {
+fn add_place(
+    changes: &mut Vec<Change>,
+    system: &System,
+    picture: &Picture,
+    place: &Place,
+) -> Result<(), AllocError> {
     for wanted in place.wanted.as_slice() {
-        if let Some(signal) = standing_signal(system, place.role, wanted.channel) {
+        if let Some(signal) = standing_signal(system, picture, place, wanted.channel) {
             note(changes, begin_of(place.since), signal, Level::Has(1))?;
         }
     }
     Ok(())
 }
 
-/// The signal of an action of this role on a channel, where it stands there and the handshake has not begun.
-fn standing_signal(system: &System, role: Role, channel: u32) -> Option<u64> {
-    match role {
-        Role::Sends | Role::Syncs => Some(of_giver(system, channel)),
+/// The signal of an action on a channel that stands at the place, where the handshake has not begun. Of one without data
+/// that waits alone it is that of who gives: it is not known yet which side it will be.
+fn standing_signal(system: &System, picture: &Picture, place: &Place, channel: u32) -> Option<u64> {
+    match place.role {
+        Role::Sends => Some(of_giver(system, channel)),
         Role::Receives | Role::Opens => Some(of_taker(system, channel)),
+        Role::Syncs => {
+            if is_second_ready(picture, place, channel) {
+                Some(of_taker(system, channel))
+            } else {
+                Some(of_giver(system, channel))
+            }
+        }
         Role::Held | Role::Closes | Role::Goes => None,
     }
+}
+
+/// Whether the place is the second of two that can sync on the channel now.
+fn is_second_ready(picture: &Picture, place: &Place, channel: u32) -> bool {
+    if !place.is_ready {
+        return false;
+    }
+    for event in picture.end.ready.as_slice() {
+        if event.kind == Kind::Sync && event.channel == Some(channel) {
+            if let Some(second) = &event.second {
+                if second.equals(&place.place) {
+                    return true;
+                }
+            }
+        }
+    }
+    false
 }

@@ -25,13 +25,7 @@ pub fn waves_text(
     let mut levels = add_first_levels(alloc, &mut out, system)?;
     out.extend_from_slice(b"$end\n")?;
     let live = machine.live_events();
-    let changes = changes_of(
-        alloc,
-        system,
-        live,
-        &picture.steps,
-        picture.end.places.as_slice(),
-    )?;
+    let changes = changes_of(alloc, system, live, picture)?;
     add_changes(&mut out, system, changes.as_slice(), levels.as_mut_slice())?;
     add_last_time(&mut out, picture.steps.depths.as_slice())?;
     Ok(out)

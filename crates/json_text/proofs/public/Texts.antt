@@ -134,7 +134,7 @@ by-lead : (ds : List ℕ) → IsNumeral 10 ds → Leads 64 ds → IsNumber ds
 by-lead ds h (inl first) = inl (no-zero ds h first)
 by-lead ds h (inr many) = inr (inr (h, many))
 
-number-of : (n : ℕ) → IsNumber (decimal n)
+pub number-of : (n : ℕ) → IsNumber (decimal n)
 number-of zero = inl zero-alone
 number-of (suc n) =
     let some : 0 < suc n = omega arith in by-lead (decimal (suc n)) (numeral (suc n)) (decimal-leads (suc n) some)
@@ -147,11 +147,11 @@ numbers-are-integers (suc n) h =
 pub number-json : (n : ℕ) → IsJson (decimal n)
 number-json n = (number (decimal n), (refl, number-of n))
 
+pub minus-one : IsNumber (45 ∷ 49 ∷ [])
+minus-one = inr (inl (49 ∷ [], refl, ((omega arith, (small-digit 49 (omega arith) (omega arith), tt)), λ is. refl)))
+
 pub optional-json : (o : Option ℕ) → IsJson (optional_text o)
-optional-json None = (
-  number (45 ∷ 49 ∷ []),
-  (refl, inr (inl (49 ∷ [], refl, ((omega arith, (small-digit 49 (omega arith) (omega arith), tt)), λ is. refl)))),
-)
+optional-json None = (number (45 ∷ 49 ∷ []), (refl, minus-one))
 optional-json (Some n) = number-json n
 
 -- ---- lists and objects
