@@ -1,13 +1,12 @@
 -- The branches of a system: what each is to do fits what is known of it, and still does behind moves.
-use Rattle.std.proofs.Common.{◌≡◌, inl, inr, ℕ, zero, suc, ◌+◌, ◌-◌, ◌<◌, List, [], ◌∷◌, ◌++◌, Bool, true, false, if◌then◌else◌, length, map, Option, Some, None, refl, sym, ap, ◌∙◌, subst, arith}
+use Rattle.std.proofs.Common.{◌≡◌, inl, inr, ℕ, zero, suc, ◌+◌, ◌-◌, List, [], ◌∷◌, ◌++◌, Bool, true, false, if◌then◌else◌, length, map, Option, Some, None, refl, sym, ap, ◌∙◌, subst, arith}
 use Rattle.std.specs.Prelude.{nat_lt, nat_le, ◌==◌}
 use Rattle.std.proofs.lemmas.Bool.Decides.{nat_tests}
 use Rattle.std.proofs.lemmas.List.{length-map}
-use Rattle.address.specs.declared.Entry.{Entry}
-use Rattle.address.specs.declared.Entry.TheVariants.{Ordered, Branch}
-use Rattle.syntax.specs.Lists.{In, Every}
+use Rattle.address.specs.declared.Entry.TheVariants.{Branch}
+use Rattle.syntax.specs.Lists.{Every}
 use Rattle.system.specs.Named.{as_number}
-use Rattle.system.specs.Residual.{Residual, done, halted, inside, beside, assign, send, receive, sync, held, loop, while, test, choose, closing, drain, along}
+use Rattle.system.specs.Residual.{Residual, done, beside, along}
 use Rattle.system.specs.Translation.{OnChannel, OnGuard, OnLabels, residual_of, branch_of, in_parallel, opening_residual, action_layer, arm_layer, command_layer, guarded_layer, labelled_layer}
 use Rattle.system.specs.declared.command.Action.{Action, out-Action}
 use Rattle.system.specs.declared.command.Action.TheOpen.{Action-F}
@@ -25,7 +24,8 @@ use Rattle.runs.specs.Steps.{State, Moves, Run}
 use Rattle.runs.specs.declared.event.Event.{Event}
 use Rattle.runs.proofs.public.Options.{some-injective}
 use Rattle.idle_branches.specs.internal.Known.{Known, Fits, FitsMove, FitEach, parts, parts_of}
-use Rattle.idle_branches.proofs.FitsLemmas.{Moved, moved}
+use Rattle.idle_branches.specs.internal.Sights.{child_of, number_at, number_within}
+use Rattle.idle_branches.proofs.FitsLemmas.{moved}
 
 -- ---- a body that is a parallel
 abbrev action-residual : Action → Residual
@@ -54,11 +54,11 @@ parallel-body c children is =
     ∙ layer-parallel (out-Action (out-Command c).action) children is
 
 -- a number behind a test
-number-is : (b : Bool) (j k : ℕ) → (if b then Some j else None) ≡ Some k → j ≡ k
+pub number-is : (b : Bool) (j k : ℕ) → (if b then Some j else None) ≡ Some k → j ≡ k
 number-is true j k is = some-injective j k is
 number-is false j k is = cc
 
-port-is : (b : Bool) (o : Option ℕ) (k : ℕ) → (if b then o else None) ≡ Some k → o ≡ Some k
+pub port-is : (b : Bool) (o : Option ℕ) (k : ℕ) → (if b then o else None) ≡ Some k → o ≡ Some k
 port-is true o k is = is
 port-is false o k is = cc
 
@@ -228,6 +228,28 @@ module _ (known : ℕ → Known) where
   whole-makes system r a m q k f h is =
       let one = (chain-moved (FitsPart (parallel_of system.main) (branches_of system.main)) (part-stays (parallel_of system.main) (branches_of system.main)) r a m q f h).one in
       part-makes system one.branch one.child one.way m one.left k one.fits one.makes (ap (branch_at system) (sym one.is) ∙ is)
+
+  -- the branch to which a move belongs
+  body-number : (o : Option (List Command)) (child : Residual) (way : Place) (m : Move) (left : Residual) → FitsBody o child
+      → Local child way m left → (g : ℕ) × (number_within o way ≡ Some g) × FitsMove (known g) m
+  body-number None child way m left f h = (0, refl, (moved (known 0) child way m left f h).made)
+  body-number (Some children) child way m left f h =
+      let one = (chain-moved FitsAt at-stays child way m left f h).one in
+      (one.branch, ap child_of one.is, (moved (known one.branch) one.child one.way m one.left one.fits one.makes).made)
+
+  part-number : (system : System) (n : ℕ) (child : Residual) (way : Place) (m : Move) (left : Residual)
+      → FitsPart (parallel_of system.main) (branches_of system.main) n child → Local child way m left
+      → (g : ℕ) × (number_at system (Branch n ∷ way) ≡ Some g) × FitsMove (known g) m
+  part-number system zero child way m left f h = body-number (parallel_of system.main) child way m left f h
+  part-number system (suc i) child way m left f h =
+      (branches_of system.main + i, refl, (moved (known (branches_of system.main + i)) child way m left f h).made)
+
+  pub whole-number : (system : System) (r : Residual) (a : Place) (m : Move) (q : Residual) → FitsWhole system r → Local r a m q
+      → (g : ℕ) × (number_at system a ≡ Some g) × FitsMove (known g) m
+  whole-number system r a m q f h =
+      let one = (chain-moved (FitsPart (parallel_of system.main) (branches_of system.main)) (part-stays (parallel_of system.main) (branches_of system.main)) r a m q f h).one in
+      let part = part-number system one.branch one.child one.way m one.left one.fits one.makes in
+      (part.0, ap (number_at system) one.is ∙ part.1, part.2)
 
   -- moves one after another
   abbrev pub FitsLocated : System → Located → Type 0

@@ -1,7 +1,7 @@
 -- What a residual is to do still fits behind a move, and so does the move.
 use Rattle.std.proofs.Common.{◌≡◌, inl, inr, ℕ, zero, suc, ◌+◌, ◌*◌, List, [], ◌∷◌, Option, Some, None, refl, sym, subst}
 use Rattle.std.specs.Prelude.{slice_get}
-use Rattle.syntax.specs.Lists.{In, Every}
+use Rattle.syntax.specs.Lists.{Every}
 use Rattle.value.specs.Word.{Word}
 use Rattle.system.specs.Residual.{Residual, done, halted, inside, beside, assign, send, receive, sync, held, loop, while, test, choose, closing, drain, Arms, no_arms, arm, within, along, arm_at, opened, put_residual, put_arms}
 use Rattle.runs.specs.Moves.{Place, Move, Local}

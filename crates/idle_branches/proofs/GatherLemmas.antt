@@ -10,7 +10,6 @@ use Rattle.system.specs.declared.system.System.{System}
 use Rattle.system_places.specs.SystemBranches.{parallel_of}
 use Rattle.value.specs.Word.{Word}
 use Rattle.runs.proofs.public.Lists.{in-left, in-right}
-use Rattle.idle_branches.specs.Idle.{AreEnds}
 use Rattle.idle_branches.specs.declared.ends.Ends.{Ends}
 use Rattle.idle_branches.specs.declared.used.Used.{Used}
 use Rattle.idle_branches.specs.internal.Known.{Known, Acts, FitEach, Fits, FitsArms, Gives, Grows, known_at, list_at, parts, parts_of}
@@ -176,9 +175,10 @@ part-added a b k r number more adds = record {
 }
 
 -- those of a system
-pub are-ends : (system : System) (a b c : Ends) → a.count ≡ 0 → AddsParts a (parts_of system.main (parallel_of system.main)) b
-    → AddsParts b (map branch_of system.environment) c → AreEnds system c
-are-ends system a b c none body ports =
+pub all-fit : (system : System) (a b c : Ends) → a.count ≡ 0 → AddsParts a (parts_of system.main (parallel_of system.main)) b
+    → AddsParts b (map branch_of system.environment) c
+    → FitEach (known_at c.used.acting.items c.used.giving.items) 0 (parts system)
+all-fit system a b c none body ports =
     let all = parts-both a b c (parts_of system.main (parallel_of system.main)) (map branch_of system.environment) body ports in
     subst (λ (n : ℕ). FitEach (known_at c.used.acting.items c.used.giving.items) n (parts system)) none
     (all.fits c.used.acting.items c.used.giving.items ((λ k x there. there), (λ k x there. there))).1

@@ -35,7 +35,7 @@ same-within (Some children) (Branch i ∷ a) [] h = absurd h
 same-within (Some children) (Ordered i ∷ a) (Branch j ∷ b) h = absurd h
 same-within (Some children) (Branch i ∷ a) (Ordered j ∷ b) h = absurd h
 
-same-branch : (system : System) (a b : Place) → Before a b → branch_at system a ≡ branch_at system b
+pub same-branch : (system : System) (a b : Place) → Before a b → branch_at system a ≡ branch_at system b
 same-branch system (Ordered i ∷ a) (Ordered j ∷ b) h = refl
 same-branch system (Branch i ∷ a) (Branch j ∷ b) h =
     ap (λ (o : Option ℕ). if i == 0 then o else branch_of_port system i) (same-within (parallel_of system.main) a b h.1)
@@ -52,7 +52,7 @@ earlier-end [] e x = inl (refl, inl refl)
 earlier-end (y ∷ h) e x = inr (earlier-end h e x)
 
 -- what a move is that the state offers
-shown : (T : State) (a : Place) (m : Move) → Offers T.residual (at a m) → Decided T.store m
+pub shown : (T : State) (a : Place) (m : Move) → Offers T.residual (at a m) → Decided T.store m
     → Offered T (record { place = a; action = action_of T.store m })
 shown T a m o d = record { move = m; after = o.0; possible = o.1; decided = d; shown = refl }
 
@@ -134,7 +134,7 @@ not-direct system h U e x rule all unshared later (inr (inr (inr (v, w, uses))))
 -- the law
 pub stays-idle : StaysIdle
 stays-idle system ends h S T e k rule are run step passes idle x (U, next) acts =
-    let whole = run-keeps (known system ends) system (opening system) S h (whole-opens (known system ends) system are) run in
+    let whole = run-keeps (known system ends) system (opening system) S h (whole-opens (known system ends) system are.fit) run in
     let after = run-keeps (known system ends) system S T (e ∷ []) whole (T, step, refl) in
     let fits = moves-fit (known system ends) system T.residual next.moves U.residual after next.moved in
     let formed = states_are_well_formed system h S run in
@@ -146,7 +146,7 @@ stays-idle system ends h S T e k rule are run step passes idle x (U, next) acts 
     idle x (last.run.0, last.run.1) acts
 
 -- the channel at whose other side a move is
-gives-move : (u : Known) (T : State) (m : Move) (c : ℕ) → FitsMove u m → given_on (action_of T.store m) ≡ Some c → Gives u c
+pub gives-move : (u : Known) (T : State) (m : Move) (c : ℕ) → FitsMove u m → given_on (action_of T.store m) ≡ Some c → Gives u c
 gives-move u T (assigns x w e) c f is = cc
 gives-move u T (tests d n) c f is = cc
 gives-move u T turns c f is = cc
@@ -160,7 +160,7 @@ gives-move u T (closes d) c f is = cc
 -- the law
 pub gives-what-is-known : GivesWhatIsKnown
 gives-what-is-known system ends h S a x k c are run offer before is given =
-    let whole = run-keeps (known system ends) system (opening system) S h (whole-opens (known system ends) system are) run in
+    let whole = run-keeps (known system ends) system (opening system) S h (whole-opens (known system ends) system are.fit) run in
     let at : branch_at system x.place ≡ Some k = sym (same-branch system a x.place before) ∙ is in
     let fits = whole-makes (known system ends) system S.residual x.place offer.move offer.after k whole offer.possible at in
     gives-move (known system ends k) S offer.move c fits (ap given_on (sym offer.shown) ∙ given)

@@ -14,7 +14,7 @@ use Rattle.local_actions.specs.declared.action.ActionKind.{ActionKind}
 use Rattle.local_actions.specs.declared.action.ActionKind.TheVariants.{Sends, Syncs, Releases}
 use Rattle.local_actions.specs.declared.action.LocalAction.{LocalAction}
 use Rattle.idle_branches.specs.declared.ends.Ends.{Ends}
-use Rattle.idle_branches.specs.internal.Known.{ActsOn, FitEach, GivesOn, known_at, parts}
+use Rattle.idle_branches.specs.internal.Known.{ActsOn, FitEach, GivesOn, KnowsGivers, known_at, parts}
 
 -- no event that is allowed in S acts in branch k
 abbrev pub IdleIn : System → State → ℕ → Type 0
@@ -59,9 +59,10 @@ pub record Passes (system : System) (ends : Ends) (T : State) (e : Event) (k : �
   pub faces_none : Faces ends T e k → ⊥
   pub unshared : TouchesNoShared system e
 
--- all channels on which the branches act or give are known
-abbrev pub AreEnds : System → Ends → Type 0
-AreEnds system ends = FitEach (known_at ends.used.acting.items ends.used.giving.items) 0 (parts system)
+-- all channels on which the branches act or give are known, and who gives on each
+pub record AreEnds (system : System) (ends : Ends) : Type 0 where
+  pub fit : FitEach (known_at ends.used.acting.items ends.used.giving.items) 0 (parts system)
+  pub givers : KnowsGivers ends.givers.items ends.used.giving.items
 
 -- a branch that has no step has none behind an event that cannot bring it one
 abbrev pub StaysIdle : Type 0

@@ -1,2 +1,3 @@
+pub mod Glance
 pub mod Idle
 pub mod internal

@@ -2,3 +2,4 @@ pub mod Behind
 pub mod Gathered
 pub mod Gathering
 pub mod Known
+pub mod Sights

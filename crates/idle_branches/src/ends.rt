@@ -1,5 +1,5 @@
 // The channels on which the branches of a system act, and those on which they give.
-ghost use Rattle.std.specs.Prelude.{◌≡◌, ℕ, ◌∷◌, [], map, true, Some, IfOk, MatchBool, OnOk};
+ghost use Rattle.std.specs.Prelude.{◌≡◌, ℕ, ◌∷◌, [], map, true, Some, IfOk, MatchBool, OnOk, slice_get};
 ghost use Rattle.syntax.specs.Lists.{In};
 ghost use Rattle.std.specs.Option.{option_copied};
 ghost use Rattle.system.specs.Translation.{residual_of, branch_of};
@@ -7,8 +7,9 @@ ghost use Rattle.sharing_check.specs.Rule as rule;
 ghost use Rattle.system_places.specs.SystemBranches as places;
 ghost use Rattle.idle_branches.specs.Idle.{AreEnds, TouchesNoShared};
 ghost use Rattle.idle_branches.specs.internal.Gathered.{AddsParts};
-ghost use Rattle.idle_branches.specs.internal.Known.{list_at, parts_of};
+ghost use Rattle.idle_branches.specs.internal.Known.{MayBe, list_at, parts_of};
 
+use crate::givers::{Giver, giver_on, givers_of};
 use crate::used::{Used, add_command};
 use runs::Event;
 use sharing_check::Checked;
@@ -18,12 +19,14 @@ use system::{Action, Branch, Command, System};
 use system_places::branch_count;
 
 /// For each channel of a system the branches that act on it: of a meeting the receiver, of two handshakes without data
-/// both. And for each branch the channels on which it gives: on which it sends, or has handshakes without data.
+/// both. And for each branch the channels on which it gives: on which it sends, or has handshakes without data; and for
+/// each channel who gives on it.
 #[derive(Drop)]
 pub struct Ends {
     /// so many branches were gone through
     pub(crate) count: u64,
     pub(crate) used: Used,
+    pub(crate) givers: Vec<Giver>,
 }
 
 impl Ends {
@@ -36,6 +39,7 @@ impl Ends {
         let mut ends = Ends::none(alloc, system.channels.len(), branches)?;
         ends.add_body(&system.main)?;
         ends.add_ports(system.environment.as_slice())?;
+        ends.givers = givers_of(alloc, system.channels.len(), ends.used.giving.as_slice())?;
         Ok(ends)
     }
 
@@ -53,6 +57,13 @@ impl Ends {
         list_in(self.used.giving.as_slice(), branch)
     }
 
+    /// Who gives on the channel.
+    pub(crate) fn giver_on(&self, channel: u32) -> Giver
+        ensures { (k : ℕ) → MayBe (slice_get self.now.givers.items channel) k → MayBe (Some result) k }
+    {
+        giver_on(self.givers.as_slice(), channel)
+    }
+
     /// No branches yet, of a system of so many channels and branches.
     fn none(alloc: Global, channels: usize, branches: usize) -> Result<Ends, AllocError>
         ensures { IfOk result (λ ends. ends.count ≡ 0) }
@@ -63,6 +74,7 @@ impl Ends {
                 acting: empty_lists(alloc, channels)?,
                 giving: empty_lists(alloc, branches)?,
             },
+            givers: Vec::new(alloc),
         })
     }
 
@@ -184,7 +196,7 @@ fn is_shared(system: &System, variable: u32) -> bool
 }
 
 /// The children of a command that is a parallel.
-fn parallel_of(command: &Command) -> Option<&Items<Command>>
+pub(crate) fn parallel_of(command: &Command) -> Option<&Items<Command>>
     ensures { option_copied result ≡ places.parallel_of command.now }
 {
     match command.action.get() {

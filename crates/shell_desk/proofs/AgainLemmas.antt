@@ -10,7 +10,6 @@ use Rattle.locked_execution.specs.Performs.{Answers}
 use Rattle.locked_execution.specs.declared.command.Command.{Command}
 use Rattle.locked_execution.specs.declared.command.Reply.{Reply}
 use Rattle.locked_execution.proofs.public.AskedLists.{answered-joins}
-use Rattle.shell_desk.specs.Does.{AreBreaksAt}
 use Rattle.shell_desk.specs.internal.Again.{SetsAgain, IsAt, IsUpTo, IsOfFirst}
 use Rattle.shell_desk.proofs.DeedLemmas.{true-false}
 

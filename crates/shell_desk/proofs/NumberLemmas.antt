@@ -1,5 +1,5 @@
 -- A list of ready events that is refused for want of memory, and what is kept in mind behind a reply.
-use Rattle.std.proofs.Common.{◌≡◌, ◌⊎◌, inl, inr, ℕ, Bool, true, false, List, Option, refl, sym, ap, ◌∙◌, subst}
+use Rattle.std.proofs.Common.{◌≡◌, inl, inr, ℕ, true, List, Option, refl, sym, ap, ◌∙◌, subst}
 use Rattle.std.proofs.lemmas.Bool.{false≢true}
 use Rattle.sharing_check.specs.declared.checked.Checked.{Checked}
 use Rattle.runs.specs.Object.{Object}

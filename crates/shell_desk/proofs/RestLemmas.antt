@@ -1,19 +1,17 @@
 -- Who sleeps has no step, so that a turn of those that are awake is one of all.
-use Rattle.std.proofs.Common.{◌≡◌, ◌⊎◌, inl, inr, ℕ, zero, suc, List, [], ◌∷◌, ◌++◌, Bool, true, false, cond, Option, Some, None, refl, sym, ap, ◌∙◌, subst, eq-eqb}
+use Rattle.std.proofs.Common.{◌≡◌, inl, inr, ℕ, zero, suc, List, [], ◌∷◌, ◌++◌, Bool, true, false, cond, Option, Some, None, refl, sym, ap, ◌∙◌, subst, eq-eqb}
 use Rattle.std.proofs.lemmas.Bool.{eqb-true}
 use Rattle.std.specs.Bool.{MatchBool}
-use Rattle.std.specs.Prelude.{filter, map}
+use Rattle.std.specs.Prelude.{filter}
 use Rattle.syntax.specs.Lists.{In}
 use Rattle.system_places.specs.SystemBranches.{branch_at, branch_count}
 use Rattle.sharing_check.specs.Rule.{SharesWell}
 use Rattle.runs.specs.Events.{acting}
 use Rattle.runs.specs.Live.{events}
 use Rattle.runs.specs.Object.{Object, Reaches, with_event}
-use Rattle.runs.specs.Ready.{ReadyList}
 use Rattle.runs.specs.Sound.{Sound}
 use Rattle.runs.specs.Steps.{State, Allowed, Run, Step}
 use Rattle.runs.specs.declared.event.Event.{Event}
-use Rattle.runs.specs.declared.command.Refusal.TheVariants.{Memory}
 use Rattle.runs.proofs.public.Effects.{sound-formed}
 use Rattle.runs.proofs.public.Orders.{run-formed, run-part}
 use Rattle.runs.proofs.public.ReadyLists.{ready-list}
@@ -25,7 +23,7 @@ use Rattle.machine.specs.AtMachine.{AtMachine, object}
 use Rattle.machine.specs.Branching.{StepsBranch, acts_in, in_branch, is_branch}
 use Rattle.machine.specs.declared.branch.BranchReply.{BranchReply}
 use Rattle.locked_execution.specs.AtDesk.{AtDesk, breaks_of, execution}
-use Rattle.locked_execution.specs.Performs.{Answers, branch_reply}
+use Rattle.locked_execution.specs.Performs.{branch_reply}
 use Rattle.locked_execution.specs.declared.command.Command.{Command}
 use Rattle.locked_execution.specs.declared.command.Reply.{Reply}
 use Rattle.shell_desk.specs.AtBench.{AtBench}
@@ -128,8 +126,10 @@ module _ (law : StaysIdle) (ends : Ends) where
       → SleepsBehind ends m.desk.machine k (branch_reply answer) asleep s → Resting ends b asleep → Resting ends m s
   rests-behind b m k (BranchReply.Stepped t e) asleep s good (T, es, reaches, ready, (free, steps)) system behind (are, rests) = (
     subst (λ c. AreEnds c ends) (sym system) are,
-    λ i sleeps.
-        rests-stepped law ends b m.desk.machine e i good are system steps.4 (behind i sleeps).1 (rests i (behind i sleeps).0),
+    λ i sleeps. elim (behind i sleeps) [
+      | inl old ↦ rests-stepped law ends b m.desk.machine e i good are system steps.4 old.1 (rests i old.0)
+      | inr now ↦ now (subst (λ c. AreEnds c ends) (sym system) are)
+    ],
   )
   rests-behind b m k (BranchReply.Stopped line) asleep s good (T, es, reaches, ready, (kept, same)) system behind resting =
       unmoved b m asleep s same behind resting

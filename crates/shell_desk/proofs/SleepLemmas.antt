@@ -1,7 +1,9 @@
 -- Who sleeps, where some are woken or one falls asleep.
 use Rattle.std.proofs.Common.{◌≡◌, ◌≢◌, ◌⊎◌, inl, inr, ℕ, zero, suc, ◌+◌, ◌-◌, ◌<◌, ◌≤◌, List, [], ◌∷◌, length, drop, get_or, Option, Some, None, refl, sym, ap, ◌∙◌, subst, arith}
 use Rattle.std.specs.Prelude.{replicate, slice_set}
+use Rattle.std.proofs.lemmas.Bool.{cases_order}
 use Rattle.std.proofs.lemmas.List.{drop_more, drop_all}
+use Rattle.address.specs.Places.{Before}
 use Rattle.memchr.specs.Find as find
 use Rattle.memchr.specs.Find.{is_byte}
 use Rattle.syntax.specs.Lists.{In}
@@ -20,12 +22,14 @@ use Rattle.runs.proofs.public.Orders.{run-formed}
 use Rattle.runs.proofs.public.StateLaws.{reaches-one}
 use Rattle.local_actions.specs.Actions.{Offered}
 use Rattle.local_actions.specs.declared.action.LocalAction.{LocalAction}
-use Rattle.idle_branches.specs.Idle.{AreEnds, Faces, GivesWhatIsKnown, HasBehind, TouchesNoShared, given_on}
+use Rattle.idle_branches.specs.Glance.{IsFaced, Tells}
+use Rattle.idle_branches.specs.Idle.{AreEnds, Faces, GivesWhatIsKnown, HasBehind, IdleIn, TouchesNoShared, given_on}
 use Rattle.idle_branches.specs.declared.ends.Ends.{Ends}
+use Rattle.idle_branches.specs.declared.glance.Glance.{Glance}
 use Rattle.idle_branches.specs.internal.Known.{list_at}
 use Rattle.machine.specs.AtMachine.{AtMachine, object}
 use Rattle.locked_execution.specs.declared.command.Reply.{Reply}
-use Rattle.shell_desk.specs.internal.Sleeping.{ActsOnOne, AllSleep, AreGiven, FacedAt, FacedBy, IsAsleep, NoneSleeps, PassesAt, PassesNow, SleepBehindEvent, SleepBehindPlaces, SleepBut, SleepButActing, SleepButAt, SleepButFaced, SleepButFacedAt, SleepButThese, SleepsBehind, acting_on, faced_by}
+use Rattle.shell_desk.specs.internal.Sleeping.{ActsOnOne, AllSleep, AreGiven, FacedAt, FacedBy, FacesNow, IsAsleep, NoneSleeps, PassesAt, PassesNow, RestsBut, RestsNow, SleepBehindEvent, SleepBehindPlaces, SleepBut, SleepButActing, SleepButAt, SleepButFaced, SleepButFacedAt, SleepButThese, SleepsBehind, TellsNow, acting_on, faced_by}
 
 -- nothing is something
 none-some : {X : Type 0} (x : X) → None ≡ Some x → ⊥
@@ -64,6 +68,28 @@ lulled (x ∷ xs) zero zero h = inr refl
 lulled (x ∷ xs) zero (suc i) h = inl h
 lulled (x ∷ xs) (suc k) zero h = inl h
 lulled (x ∷ xs) (suc k) (suc i) h = elim (lulled xs k i h) [ inl old ↦ inl old | inr e ↦ inr (ap suc e) ]
+
+-- there are as many marks
+pub as-many : (asleep : List ℕ) (k mark : ℕ) → length (slice_set asleep k mark) ≡ length asleep
+as-many [] k mark = refl
+as-many (x ∷ xs) zero mark = refl
+as-many (x ∷ xs) (suc k) mark = ap suc (as-many xs k mark)
+
+-- all others sleep as before
+pub others-sleep : (asleep : List ℕ) (k i : ℕ) → i ≢ k → IsAsleep asleep i → IsAsleep (slice_set asleep k 0) i
+others-sleep [] k i other (mark, h) = absurd (none-some (suc mark) h)
+others-sleep (x ∷ xs) zero zero other h = absurd (other refl)
+others-sleep (x ∷ xs) zero (suc i) other h = h
+others-sleep (x ∷ xs) (suc k) zero other h = h
+others-sleep (x ∷ xs) (suc k) (suc i) other h = others-sleep xs k i (λ e. other (ap suc e)) h
+
+-- and who slept does
+pub still-sleeps : (asleep : List ℕ) (k i : ℕ) → IsAsleep asleep i → IsAsleep (slice_set asleep k 1) i
+still-sleeps [] k i (mark, h) = absurd (none-some (suc mark) h)
+still-sleeps (x ∷ xs) zero zero h = (0, refl)
+still-sleeps (x ∷ xs) zero (suc i) h = h
+still-sleeps (x ∷ xs) (suc k) zero h = h
+still-sleeps (x ∷ xs) (suc k) (suc i) h = still-sleeps xs k i h
 
 -- all are awake
 pub all-awake : (n : ℕ) → NoneSleeps (replicate n 0)
@@ -215,38 +241,118 @@ pub faced-all-woken : (ends : Ends) (h : AtMachine) (a : Place) (before after : 
     → SleepButFacedAt ends h a before after
 faced-all-woken ends h a before after none i sleeps = absurd (none i sleeps)
 
--- both
+-- one place alone
+at-one : (ends : Ends) (h : AtMachine) (a : Place) (i : ℕ) → PassesAt ends h a i → (b : Place) → In b (a ∷ []) → PassesAt ends h b i
+at-one ends h a i passes b among = elim among [
+  | inl same ↦ subst (λ (c : Place). PassesAt ends h c i) (sym same) passes
+  | inr bad ↦ absurd bad
+]
+
+-- the branch in which the place lies, and those that are faced there
 pub wakes-at : (ends : Ends) (h : AtMachine) (a : Place) (before between after : List ℕ)
     → SleepButAt h.checked a before between → SleepButFacedAt ends h a between after
     → SleepBehindPlaces ends h (a ∷ []) before after
 wakes-at ends h a before between after one faced i sleeps =
     let later = faced i sleeps in
     let sooner = one i later.0 in
-    let passes : PassesAt ends h a i = record { elsewhere = sooner.1; faced_by_none = later.1 } in (
-      sooner.0,
-      λ b among. elim among [
-        | inl same ↦ subst (λ (c : Place). PassesAt ends h c i) (sym same) passes
-        | inr bad ↦ absurd bad
-      ],
+    let passes : PassesAt ends h a i = record { elsewhere = sooner.1; faced_by_none = later.1 } in
+    inl (sooner.0, at-one ends h a i passes)
+
+-- another branch than that of the place, which is not faced there
+passes-other : (ends : Ends) (h : AtMachine) (a : Place) (k i : ℕ) → branch_at h.checked a ≡ Some k → i ≢ k
+    → ((T : State) (x : LocalAction) → Reaches (object h) T → Offered T x → Before a x.place → In i (faced_by ends x) → ⊥)
+    → PassesAt ends h a i
+passes-other ends h a k i at other none = record {
+  elsewhere = λ there. other (sym (some-same k i (sym at ∙ there)));
+  faced_by_none = λ are faced. unfaced faced;
+}
+  where
+    unfaced : FacedAt ends h a i → ⊥
+    unfaced (T, x, reaches, offered, behind, acts) = none T x reaches offered behind acts
+
+-- a branch that faces no other
+pub acts-at : (ends : Ends) (h : AtMachine) (a : Place) (k : ℕ) (before after : List ℕ) → branch_at h.checked a ≡ Some k
+    → FacesNow Glance.Acts h a → SleepBut k before after → SleepBehindPlaces ends h (a ∷ []) before after
+acts-at ends h a k before after at faces but i sleeps =
+    let one = but i sleeps in
+    inl (
+      one.0,
+      at-one ends h a i (passes-other ends h a k i at one.1
+          (λ T x reaches offered behind acts. subst (λ (o : Option ℕ). In i (acting_on ends o)) (faces T x reaches offered behind) acts)),
     )
+
+-- one that has no step, and faces those on one channel at most
+pub rests-at : (ends : Ends) (h : AtMachine) (a : Place) (k : ℕ) (faced : Option ℕ) (before after : List ℕ) → branch_at h.checked a ≡ Some k
+    → TellsNow (Glance.Rests faced) ends h k → FacesNow (Glance.Rests faced) h a → RestsBut ends k faced before after
+    → SleepBehindPlaces ends h (a ∷ []) before after
+rests-at ends h a k faced before after at tells faces but i sleeps = elim (cases_order i k) [
+  | inl same ↦ inr (rests same)
+  | inr order ↦ elim (but i sleeps) [
+    | inl old ↦ inl (
+      old.0,
+      at-one ends h a i (passes-other ends h a k i at (apart order)
+          (λ T x reaches offered behind acts.
+          old.1 (subst (λ (o : Option ℕ). In i (acting_on ends o)) (faces T x reaches offered behind) acts))),
+    )
+    | inr same ↦ inr (rests same)
+  ]
+]
+  where
+    rests : i ≡ k → RestsNow ends h i
+    rests same are T reaches = subst (λ (n : ℕ). IdleIn h.checked T n) (sym same) (tells are T reaches)
+
+    apart : (i < k) ⊎ (k < i) → i ≢ k
+    apart (inl less) same = omega arith
+    apart (inr more) same = omega arith
+
+-- a branch falls asleep, and those on a channel are woken
+pub rests-but : (ends : Ends) (k : ℕ) (faced : Option ℕ) (before between after : List ℕ)
+    → ((i : ℕ) → IsAsleep between i → IsAsleep before i × (In i (acting_on ends faced) → ⊥))
+    → ((i : ℕ) → IsAsleep after i → IsAsleep between i ⊎ (i ≡ k)) → RestsBut ends k faced before after
+rests-but ends k faced before between after woken lulls i sleeps = elim (lulls i sleeps) [
+  | inl old ↦ inl (woken i old)
+  | inr same ↦ inr same
+]
+
+pub nobody-faced : (ends : Ends) (asleep : List ℕ) (i : ℕ) → IsAsleep asleep i → IsAsleep asleep i × (In i (acting_on ends None) → ⊥)
+nobody-faced ends asleep i sleeps = (sleeps, λ none. none)
+
+-- what a look tells of the state of a machine
+pub tells-now : (told : Glance) (ends : Ends) (h : AtMachine) (k : ℕ) (S : State) → Sound (object h) → Reaches (object h) S
+    → (AreEnds h.checked ends → Tells told h.checked S k) → TellsNow told ends h k
+tells-now told ends h k S sound here tells are T reaches =
+    subst (λ (U : State). Tells told h.checked U k) (sym (reaches-one (object h) T S sound reaches here)) (tells are)
+
+pub faces-now : (told : Glance) (h : AtMachine) (a : Place) (S : State) → Sound (object h) → Reaches (object h) S
+    → ((x : LocalAction) → Offered S x → Before a x.place → IsFaced told x.action) → FacesNow told h a
+faces-now told h a S sound here faces T x reaches offered behind =
+    faces x (subst (λ (U : State). Offered U x) (reaches-one (object h) T S sound reaches here) offered) behind
 
 pub event-all-woken : (ends : Ends) (h : AtMachine) (e : Event) (before after : List ℕ) → NoneSleeps after
     → SleepBehindEvent ends h e before after
 event-all-woken ends h e before after none i sleeps = absurd (none i sleeps)
 
+pub place-all-woken : (ends : Ends) (h : AtMachine) (a : Place) (before after : List ℕ) → NoneSleeps after
+    → SleepBehindPlaces ends h (a ∷ []) before after
+place-all-woken ends h a before after none i sleeps = absurd (none i sleeps)
+
 pub no-place : (ends : Ends) (h : AtMachine) (asleep : List ℕ) → SleepBehindPlaces ends h [] asleep asleep
-no-place ends h asleep i sleeps = (sleeps, λ a among. absurd among)
+no-place ends h asleep i sleeps = inl (sleeps, λ a among. absurd among)
 
 -- both sides of a step
 pub wakes-event : (ends : Ends) (h : AtMachine) (e : Event) (before between after : List ℕ)
     → SleepBehindPlaces ends h (e.first ∷ []) before between → SleepBehindPlaces ends h (places_of e.second) between after
     → TouchesNoShared h.checked e → SleepBehindEvent ends h e before after
-wakes-event ends h e before between after one other unshared i sleeps =
-    let later = other i sleeps in
-    let sooner = one i later.0 in
-    let at : (a : Place) → In a (places e) → PassesAt ends h a i =
-    λ a among. elim among [ inl same ↦ sooner.1 a (inl same) | inr more ↦ later.1 a more ] in
-    (sooner.0, passes at)
+wakes-event ends h e before between after one other unshared i sleeps = elim (other i sleeps) [
+  | inr rests ↦ inr rests
+  | inl later ↦ elim (one i later.0) [
+    | inr rests ↦ inr rests
+    | inl sooner ↦ inl (
+      sooner.0,
+      passes (λ a among. elim among [ inl same ↦ sooner.1 a (inl same) | inr more ↦ later.1 a more ]),
+    )
+  ]
+]
   where
     passes : ((a : Place) → In a (places e) → PassesAt ends h a i) → PassesNow ends h e i
     passes at are T reaches = record {

@@ -8,6 +8,7 @@ mod bench;
 mod deed;
 mod laws;
 mod loaded;
+mod marks;
 mod run;
 mod sleepers;
 mod tidy;

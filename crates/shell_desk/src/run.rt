@@ -125,9 +125,9 @@ impl Bench {
 
     /// Asks the branches that are awake in turn for a step, up to the first that is not idle.
     fn awake_turn<W: Watch>(&mut self, ends: &Ends, sleepers: &mut Sleepers, watch: &mut W) -> Reply
-        requires { Resting ends.now self.old sleepers.old.asleep.items }
+        requires { Resting ends.now self.old sleepers.old.asleep }
         ensures turn { OneTurn self.old result self.new }
-        ensures resting { Resting ends.now self.new sleepers.new.asleep.items }
+        ensures resting { Resting ends.now self.new sleepers.new.asleep }
     {
         stays_idle();
         self.is_sound();
@@ -160,8 +160,8 @@ impl Bench {
         watch: &mut W,
     ) -> Option<Reply>
         requires { from ≤ to }
-        ensures { AsksBetween ends.now from to self.old sleepers.old.asleep.items
-            result self.new sleepers.new.asleep.items }
+        ensures { AsksBetween ends.now from to self.old sleepers.old.asleep
+            result self.new sleepers.new.asleep }
     {
         let mut branch = from;
         while let Some(next) = sleepers.first_awake(branch, to) {
@@ -184,7 +184,7 @@ impl Bench {
     ) -> Reply
         ensures asked { Asked self.old (CommandAt.Branch branch) result self.new }
         ensures sleep { SleepsBehind ends.now self.new.desk.machine branch result
-            sleepers.old.asleep.items sleepers.new.asleep.items }
+            sleepers.old.asleep sleepers.new.asleep }
     {
         let reply = self.ask(&Command::Branch(branch), watch);
         sleepers.note(self.desk.machine(), ends, branch, &reply);

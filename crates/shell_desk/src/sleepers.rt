@@ -1,16 +1,19 @@
 // The branches that a run passes over: they had no step, and no step since could bring them one.
-ghost use Rattle.std.specs.Prelude.{◌≡◌, ◌∷◌, [], ◌⊎◌, ◌+◌, ◌<◌, ◌≤◌, ℕ, IfOk, IfSome, MatchOption};
+ghost use Rattle.std.specs.Prelude.{◌≡◌, ◌∷◌, [], ◌<◌, ◌≤◌, Some, IfSome, MatchOption};
+ghost use Rattle.system_places.specs.SystemBranches.{branch_at};
 ghost use Rattle.runs.specs.Events.{places_of};
-ghost use Rattle.idle_branches.specs.Idle.{AreEnds};
+ghost use Rattle.runs.specs.Moves.{Place};
 ghost use Rattle.idle_branches.specs.internal.Known.{list_at};
-ghost use Rattle.shell_desk.specs.internal.Sleeping.{AllSleep, AreGiven, IsAsleep, NoneSleeps, SleepBehindEvent, SleepBehindPlaces, SleepBut, SleepButActing, SleepButAt, SleepButFaced, SleepButFacedAt, SleepButThese, SleepsBehind, faced_by};
+ghost use Rattle.shell_desk.specs.internal.Sleeping.{AllSleep, AreGiven, FacesNow, NoneSleeps, RestsBut, SleepBehindEvent, SleepBehindPlaces, SleepButActing, SleepButFaced, SleepButFacedAt, SleepButThese, SleepsBehind, TellsNow, faced_by};
 
+use crate::marks::Marks;
 use address::Address;
-use idle_branches::{Ends, given_on, gives_what_is_known, offers_behind, touches_shared};
+use idle_branches::{
+    Ends, Glance, given_on, gives_what_is_known, glance_of, offers_behind, touches_shared,
+};
 use local_actions::LocalAction;
 use locked_execution::{Event, Machine, Reply};
-use memchr::memchr;
-use std::alloc::{AllocError, Global};
+use std::alloc::Global;
 use system::System;
 use system_places::branch_at;
 
@@ -18,37 +21,29 @@ use system_places::branch_at;
 /// is not looked at.
 const FEW_CHANNELS: usize = 16;
 
-/// The mark of a branch that is awake, and of one that is asleep. They are bytes, so that the next that is awake is found
-/// at once among thousands.
-const AWAKE: u8 = 0;
-
-const ASLEEP: u8 = 1;
-
-/// For each branch the mark that says whether it is asleep. Those that are left out are awake.
+/// Who sleeps in a run.
 #[derive(Drop)]
 pub(crate) struct Sleepers {
-    pub(crate) asleep: Vec<u8>,
+    pub(crate) asleep: Marks,
 }
 
 impl Sleepers {
     /// None of so many branches. Without memory none will ever sleep.
     pub(crate) fn none(alloc: Global, count: u32) -> Sleepers
-        ensures { NoneSleeps result.asleep.items }
+        ensures { NoneSleeps result.asleep }
     {
-        match all_awake(alloc, count) {
-            Ok(asleep) => Sleepers { asleep },
-            Err(_) => Sleepers {
-                asleep: Vec::new(alloc),
-            },
+        Sleepers {
+            asleep: Marks::none(alloc, count),
         }
     }
 
     /// The first branch from one up to another that is awake.
-    pub(crate) fn first_awake(&self, from: u32, to: u32) -> Option<u32>
-        ensures { MatchOption result (AllSleep self.now.asleep.items from to)
-            (λ next. (from ≤ next) × (next < to) × AllSleep self.now.asleep.items from next) }
+    pub(crate) fn first_awake(&mut self, from: u32, to: u32) -> Option<u32>
+        ensures next { MatchOption result (AllSleep self.new.asleep from to)
+            (λ next. (from ≤ next) × (next < to) × AllSleep self.new.asleep from next) }
+        ensures same { self.new ≡ self.old }
     {
-        let next = (from as usize).saturating_add(self.asleep_from(from));
+        let next = (from as usize).saturating_add(self.asleep.asleep_from(from));
         if next < to as usize {
             Some(next as u32)
         } else {
@@ -56,78 +51,83 @@ impl Sleepers {
         }
     }
 
-    /// How many branches are asleep from this one on, one behind the other.
-    fn asleep_from(&self, branch: u32) -> usize
-        ensures { AllSleep self.now.asleep.items branch (branch + result) }
-    {
-        let marks = self.asleep.as_slice();
-        if marks.len() <= branch as usize {
-            return 0;
-        }
-        let (_, marks) = marks.split_at(branch as usize);
-        match memchr(AWAKE, marks) {
-            Some(count) => count,
-            None => marks.len(),
-        }
-    }
-
     /// Keeps in mind who sleeps behind this reply to a branch, which the machine gave last: the branch, where it has no
     /// step; no more those to whom a step may have brought one.
     pub(crate) fn note(&mut self, machine: &Machine, ends: &Ends, branch: u32, reply: &Reply)
-        ensures { SleepsBehind ends.now machine.now branch reply.now self.old.asleep.items self.new.asleep.items }
+        ensures { SleepsBehind ends.now machine.now branch reply.now self.old.asleep self.new.asleep }
     {
         match reply {
-            Reply::Idle => self.lull(branch),
-            Reply::Stepped(_, event) => self.wake_behind(machine, ends, event),
+            Reply::Idle => self.asleep.lull(branch),
+            Reply::Stepped(_, event) => self.settle(machine, ends, event),
             _ => {}
         }
     }
 
-    /// Wakes those to whom the event may have brought a step: who took part in it, who acts on a channel whose other
-    /// side is offered behind it, and all where it is on a shared variable.
-    fn wake_behind(&mut self, machine: &Machine, ends: &Ends, event: &Event)
-        ensures { SleepBehindEvent ends.now machine.now event.now self.old.asleep.items self.new.asleep.items }
+    /// Wakes those to whom the event may have brought a step: who took part in it and may have one, who acts on a channel
+    /// whose other side is offered behind it, and all where it is on a shared variable.
+    fn settle(&mut self, machine: &Machine, ends: &Ends, event: &Event)
+        ensures { SleepBehindEvent ends.now machine.now event.now self.old.asleep self.new.asleep }
     {
         if touches_shared(machine.checked().system(), event) {
-            self.wake_all();
+            self.asleep.wake_all();
         } else {
-            self.wake_at(machine, ends, &event.first);
-            self.wake_second(machine, ends, &event.second);
+            self.settle_at(machine, ends, &event.first);
+            self.settle_second(machine, ends, &event.second);
         }
     }
 
     /// Wakes those to whom a step at the place may have brought one, if there is one.
-    fn wake_second(&mut self, machine: &Machine, ends: &Ends, second: &Option<Address>)
-        ensures { SleepBehindPlaces ends.now machine.now (places_of second.now)
-            self.old.asleep.items self.new.asleep.items }
+    fn settle_second(&mut self, machine: &Machine, ends: &Ends, second: &Option<Address>)
+        ensures { SleepBehindPlaces ends.now machine.now (places_of second.now) self.old.asleep self.new.asleep }
     {
         match second {
-            Some(place) => self.wake_at(machine, ends, place),
+            Some(place) => self.settle_at(machine, ends, place),
             None => {}
         }
     }
 
     /// Wakes those to whom a step at the place may have brought one.
-    fn wake_at(&mut self, machine: &Machine, ends: &Ends, place: &Address)
-        ensures { SleepBehindPlaces ends.now machine.now (place.now ∷ []) self.old.asleep.items self.new.asleep.items }
+    fn settle_at(&mut self, machine: &Machine, ends: &Ends, place: &Address)
+        ensures { SleepBehindPlaces ends.now machine.now (place.now ∷ []) self.old.asleep self.new.asleep }
     {
-        self.wake_there(machine.checked().system(), place);
-        self.wake_faced_at(machine, ends, place);
+        match branch_at(machine.checked().system(), place) {
+            Some(branch) => self.settle_branch(machine, ends, branch, place),
+            None => self.asleep.wake_all(),
+        }
     }
 
-    /// Wakes the branch in which the place lies.
-    fn wake_there(&mut self, system: &System, place: &Address)
-        ensures { SleepButAt system.now place.now self.old.asleep.items self.new.asleep.items }
+    /// The same, where the place lies in this branch. Where a look at it tells that it has no step, it falls asleep, and
+    /// only those are woken that it faces.
+    fn settle_branch(&mut self, machine: &Machine, ends: &Ends, branch: u32, place: &Address)
+        requires { branch_at machine.now.checked place.now ≡ Some branch }
+        ensures { SleepBehindPlaces ends.now machine.now (place.now ∷ []) self.old.asleep self.new.asleep }
     {
-        match branch_at(system, place) {
-            Some(branch) => self.wake(branch),
-            None => {}
+        match glance_at(machine, ends, branch) {
+            Glance::Rests(faced) => self.rest(ends, branch, faced),
+            Glance::Acts => self.asleep.wake(branch),
+            Glance::Open => {
+                self.asleep.wake(branch);
+                self.wake_faced_at(machine, ends, place);
+            }
+        }
+    }
+
+    /// Lets a branch fall asleep, and wakes who acts on the channel that it faces, if any.
+    fn rest(&mut self, ends: &Ends, branch: u32, faced: Option<u32>)
+        ensures { RestsBut ends.now branch faced self.old.asleep self.new.asleep }
+    {
+        match faced {
+            Some(channel) => {
+                self.wake_on(ends, channel);
+                self.asleep.lull(branch);
+            }
+            None => self.asleep.lull(branch),
         }
     }
 
     /// Wakes who acts on a channel whose other side is offered behind the place, and perhaps others.
     fn wake_faced_at(&mut self, machine: &Machine, ends: &Ends, place: &Address)
-        ensures { SleepButFacedAt ends.now machine.now place.now self.old.asleep.items self.new.asleep.items }
+        ensures { SleepButFacedAt ends.now machine.now place.now self.old.asleep self.new.asleep }
     {
         gives_what_is_known();
         match few_given(machine.checked().system(), ends, place) {
@@ -138,7 +138,7 @@ impl Sleepers {
 
     /// Wakes who acts on one of these channels.
     fn wake_acting(&mut self, ends: &Ends, channels: &[u32])
-        ensures { SleepButActing ends.now channels.now self.old.asleep.items self.new.asleep.items }
+        ensures { SleepButActing ends.now channels.now self.old.asleep self.new.asleep }
     {
         for channel in channels {
             self.wake_on(ends, *channel);
@@ -148,26 +148,26 @@ impl Sleepers {
     /// Wakes who acts on the channel.
     fn wake_on(&mut self, ends: &Ends, channel: u32)
         ensures { SleepButThese (list_at ends.now.used.acting.items channel)
-            self.old.asleep.items self.new.asleep.items }
+            self.old.asleep self.new.asleep }
     {
         self.wake_each(ends.acting_on(channel));
     }
 
     /// Wakes who acts on a channel whose other side is offered behind the place; without memory all.
     fn wake_offered_at(&mut self, machine: &Machine, ends: &Ends, place: &Address)
-        ensures { SleepButFacedAt ends.now machine.now place.now self.old.asleep.items self.new.asleep.items }
+        ensures { SleepButFacedAt ends.now machine.now place.now self.old.asleep self.new.asleep }
     {
         machine.is_sound();
         let (tree, store) = machine.state();
-        match offers_behind(*self.asleep.allocator(), tree, store, place.entries()) {
+        match offers_behind(self.asleep.alloc(), tree, store, place.entries()) {
             Ok(offers) => self.wake_faced(ends, offers.as_slice()),
-            Err(_) => self.wake_all(),
+            Err(_) => self.asleep.wake_all(),
         }
     }
 
     /// Wakes who acts on a channel at whose other side one of these is.
     fn wake_faced(&mut self, ends: &Ends, offers: &[LocalAction])
-        ensures { SleepButFaced ends.now offers.now self.old.asleep.items self.new.asleep.items }
+        ensures { SleepButFaced ends.now offers.now self.old.asleep self.new.asleep }
     {
         for offer in offers {
             self.wake_each(faced_by(ends, offer));
@@ -176,41 +176,22 @@ impl Sleepers {
 
     /// Wakes these.
     fn wake_each(&mut self, branches: &[u32])
-        ensures { SleepButThese branches.now self.old.asleep.items self.new.asleep.items }
+        ensures { SleepButThese branches.now self.old.asleep self.new.asleep }
     {
         for branch in branches {
-            self.wake(*branch);
+            self.asleep.wake(*branch);
         }
     }
+}
 
-    /// Wakes all.
-    fn wake_all(&mut self)
-        ensures { NoneSleeps self.new.asleep.items }
-    {
-        self.asleep.as_mut_slice().fill(AWAKE);
-    }
-
-    /// Wakes a branch.
-    fn wake(&mut self, branch: u32)
-        ensures { SleepBut branch self.old.asleep.items self.new.asleep.items }
-    {
-        let index = branch as usize;
-        if self.asleep.len() <= index {
-            return;
-        }
-        self.asleep[index] = AWAKE;
-    }
-
-    /// Lets a branch fall asleep.
-    fn lull(&mut self, branch: u32)
-        ensures { (i : ℕ) → IsAsleep self.new.asleep.items i → IsAsleep self.old.asleep.items i ⊎ (i ≡ branch) }
-    {
-        let index = branch as usize;
-        if self.asleep.len() <= index {
-            return;
-        }
-        self.asleep[index] = ASLEEP;
-    }
+/// What a look at the branch tells.
+fn glance_at(machine: &Machine, ends: &Ends, branch: u32) -> Glance
+    ensures rests { TellsNow result ends.now machine.now branch }
+    ensures faced { (a : Place) → branch_at machine.now.checked a ≡ Some branch → FacesNow result machine.now a }
+{
+    machine.is_sound();
+    let (tree, _) = machine.state();
+    glance_of(ends, machine.checked().system(), tree, branch)
 }
 
 /// The channels on which the branch gives in which the place lies, where they are few.
@@ -242,11 +223,4 @@ fn faced_by<'a>(ends: &'a Ends, offer: &LocalAction) -> &'a [u32]
         Some(channel) => ends.acting_on(channel),
         None => &[],
     }
-}
-
-/// So many branches that are awake.
-fn all_awake(alloc: Global, count: u32) -> Result<Vec<u8>, AllocError>
-    ensures { IfOk result (λ asleep. NoneSleeps asleep.items) }
-{
-    Ok(vec![in alloc; AWAKE; count as usize]?)
 }

@@ -1,6 +1,6 @@
 -- What is known of the channels that the parts of a system use.
 -- No reader has to believe it: what it leads to are the laws of `Idle.antt`.
-use Rattle.std.specs.Prelude.{ℕ, ◌+◌, List, [], ◌∷◌, ◌++◌, Option, None, Some, map, slice_get}
+use Rattle.std.specs.Prelude.{◌≡◌, ℕ, ◌+◌, List, [], ◌∷◌, ◌++◌, Option, None, Some, map, slice_get}
 use Rattle.syntax.specs.Lists.{In, Every}
 use Rattle.system.specs.Residual.{Residual, done, halted, inside, beside, assign, send, receive, sync, held, loop, while, test, choose, closing, drain, Arms, no_arms, arm}
 use Rattle.system.specs.Translation.{residual_of, branch_of}
@@ -8,6 +8,7 @@ use Rattle.system.specs.declared.command.Command.{Command}
 use Rattle.system.specs.declared.system.System.{System}
 use Rattle.system_places.specs.SystemBranches.{parallel_of}
 use Rattle.runs.specs.Moves.{Move, sends, receives, syncs, opens, releases, closes}
+use Rattle.idle_branches.specs.declared.givers.Giver.{Giver}
 
 -- the list of this number
 abbrev pub list_or : Option (List ℕ) → List ℕ
@@ -94,3 +95,14 @@ parts system = parts_of system.main (parallel_of system.main) ++ map branch_of s
 abbrev pub FitEach : (ℕ → Known) → ℕ → List Residual → Type 0
 FitEach known k [] = Unit {0}
 FitEach known k (r ∷ rs) = Fits (known k) r × FitEach known (k + 1) rs
+
+-- branch k may be the giver, of which nothing is known where there is none
+abbrev pub MayBe : Option Giver → ℕ → Type 0
+MayBe None k = Unit {0}
+MayBe (Some Giver.Nobody) k = ⊥
+MayBe (Some (Giver.One j)) k = j ≡ k
+MayBe (Some Giver.Several) k = Unit {0}
+
+-- whoever gives on a channel, by this table, may be its giver
+abbrev pub KnowsGivers : List Giver → List (List ℕ) → Type 0
+KnowsGivers givers giving = (k c : ℕ) → GivesOn giving k c → MayBe (slice_get givers c) k

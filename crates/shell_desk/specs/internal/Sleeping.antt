@@ -11,8 +11,10 @@ use Rattle.runs.specs.Steps.{State}
 use Rattle.runs.specs.declared.event.Event.{Event}
 use Rattle.local_actions.specs.Actions.{Offered}
 use Rattle.local_actions.specs.declared.action.LocalAction.{LocalAction}
+use Rattle.idle_branches.specs.Glance.{IsFaced, Tells}
 use Rattle.idle_branches.specs.Idle.{AreEnds, IdleIn, Passes, given_on}
 use Rattle.idle_branches.specs.declared.ends.Ends.{Ends}
+use Rattle.idle_branches.specs.declared.glance.Glance.{Glance}
 use Rattle.idle_branches.specs.internal.Known.{list_at}
 use Rattle.machine.specs.AtMachine.{AtMachine, object}
 use Rattle.locked_execution.specs.AtDesk.{execution}
@@ -41,11 +43,14 @@ abbrev pub PassesNow : Ends → AtMachine → Event → ℕ → Type 0
 PassesNow ends h e i =
     AreEnds h.checked ends → (T : State) → Reaches (object h) T → Passes h.checked ends T e i
 
--- who sleeps behind the reply to branch k: only who slept before and to whom the step brought none, or k, where it has
--- none
+-- branch i has no step at the machine, where the ends are those of its system
+abbrev pub RestsNow : Ends → AtMachine → ℕ → Type 0
+RestsNow ends h i = AreEnds h.checked ends → (T : State) → Reaches (object h) T → IdleIn h.checked T i
+
+-- who sleeps behind the reply to branch k: only who slept before and to whom the step brought none, and who has none
 abbrev pub SleepsBehind : Ends → AtMachine → ℕ → Reply → List ℕ → List ℕ → Type 0
 SleepsBehind ends h k (Reply.Stepped t e) before after =
-    (i : ℕ) → IsAsleep after i → IsAsleep before i × PassesNow ends h e i
+    (i : ℕ) → IsAsleep after i → (IsAsleep before i × PassesNow ends h e i) ⊎ RestsNow ends h i
 SleepsBehind ends h k Reply.Idle before after = (i : ℕ) → IsAsleep after i → IsAsleep before i ⊎ (i ≡ k)
 SleepsBehind ends h k _ before after = (i : ℕ) → IsAsleep after i → IsAsleep before i
 
@@ -138,12 +143,27 @@ pub record PassesAt (ends : Ends) (h : AtMachine) (a : Place) (i : ℕ) : Type 0
   pub elsewhere : branch_at h.checked a ≡ Some i → ⊥
   pub faced_by_none : AreEnds h.checked ends → FacedAt ends h a i → ⊥
 
--- only who slept before sleeps, and to whom a step at these places brought none
+-- only who slept before sleeps, and to whom a step at these places brought none, and who has none
 abbrev pub SleepBehindPlaces : Ends → AtMachine → List Place → List ℕ → List ℕ → Type 0
 SleepBehindPlaces ends h reached before after =
-    (i : ℕ) → IsAsleep after i → IsAsleep before i × ((a : Place) → In a reached → PassesAt ends h a i)
+    (i : ℕ) → IsAsleep after i
+    → (IsAsleep before i × ((a : Place) → In a reached → PassesAt ends h a i)) ⊎ RestsNow ends h i
 
 -- the same behind an event
 abbrev pub SleepBehindEvent : Ends → AtMachine → Event → List ℕ → List ℕ → Type 0
 SleepBehindEvent ends h e before after =
-    (i : ℕ) → IsAsleep after i → IsAsleep before i × PassesNow ends h e i
+    (i : ℕ) → IsAsleep after i → (IsAsleep before i × PassesNow ends h e i) ⊎ RestsNow ends h i
+
+-- what a look at branch k tells holds at the machine, where the ends are those of its system
+abbrev pub TellsNow : Glance → Ends → AtMachine → ℕ → Type 0
+TellsNow told ends h k = AreEnds h.checked ends → (T : State) → Reaches (object h) T → Tells told h.checked T k
+
+-- what is offered behind the place now is as it tells
+abbrev pub FacesNow : Glance → AtMachine → Place → Type 0
+FacesNow told h a =
+    (T : State) (x : LocalAction) → Reaches (object h) T → Offered T x → Before a x.place → IsFaced told x.action
+
+-- only who slept before sleeps, but for those that act on this channel, if on any, and branch k
+abbrev pub RestsBut : Ends → ℕ → Option ℕ → List ℕ → List ℕ → Type 0
+RestsBut ends k faced before after =
+    (i : ℕ) → IsAsleep after i → (IsAsleep before i × (In i (acting_on ends faced) → ⊥)) ⊎ (i ≡ k)

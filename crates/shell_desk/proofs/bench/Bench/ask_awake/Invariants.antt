@@ -9,8 +9,8 @@ abbrev pub invariant-loop-next : goal.invariant-loop-next
 invariant-loop-next g l =
     (l.branch ≤ l.to)
     × ((told : Option Reply) (b' : AtBench) (asleep' : List ℕ)
-    → AsksBetween l.ends l.branch l.to l.self l.sleepers.asleep.items told b' asleep'
-    → AsksBetween l.ends l.from l.to l.initial.self l.initial.sleepers.asleep.items told b' asleep')
+    → AsksBetween l.ends l.branch l.to l.self l.sleepers.asleep told b' asleep'
+    → AsksBetween l.ends l.from l.to l.initial.self l.initial.sleepers.asleep told b' asleep')
 
 abbrev pub decreases-loop-next : goal.decreases-loop-next
 decreases-loop-next g l = l.to - l.branch

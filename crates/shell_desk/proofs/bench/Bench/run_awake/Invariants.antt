@@ -8,5 +8,5 @@ use Rattle.shell_desk.proofs.bench.Bench.run_awake.Given as goal
 -- who sleeps has no step; and however the steps that are left go, so does the whole run
 abbrev pub invariant-loop-taken : goal.invariant-loop-taken
 invariant-loop-taken g l =
-    Resting l.ends l.self l.sleepers.asleep.items
+    Resting l.ends l.self l.sleepers.asleep
     × ((end : End) (b' : AtBench) → Runs l.self (l.limit - l.taken) end b' → Runs l.initial.self l.limit end b')

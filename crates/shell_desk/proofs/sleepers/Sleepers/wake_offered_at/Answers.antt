@@ -12,14 +12,14 @@ returns-in-Ok c =
     let S = state_of c.state.result.0.now c.state.result.1.now in
     let sound = c.is_sound.ensures.sound in
     let here = c.state.ensures.reaches in
-    faced-woken c.args.ends.now c.args.machine.now c.args.place.now S c.in-Ok.offers c.args.self.now.asleep.items
-    c.wake_faced.new.self.asleep.items sound here
+    faced-woken c.args.ends.now c.args.machine.now c.args.place.now S c.in-Ok.offers c.args.self.now.asleep
+    c.wake_faced.new.self.asleep sound here
     (subst (λ (a : Place). HasBehind S a c.in-Ok.offers) c.entries.ensures
     (c.in-Ok.ensures c.state.ensures.tidy (state-formed c.args.machine.now S sound here)))
-    (subst (λ (offers : List LocalAction). SleepButFaced c.args.ends.now offers c.args.self.now.asleep.items
-    c.wake_faced.new.self.asleep.items) c.as_slice.ensures c.wake_faced.ensures)
+    (subst (λ (offers : List LocalAction). SleepButFaced c.args.ends.now offers c.args.self.now.asleep
+    c.wake_faced.new.self.asleep) c.as_slice.ensures c.wake_faced.ensures)
 
 pub returns-in-Err : goal.returns-in-Err
 returns-in-Err c =
-    faced-all-woken c.args.ends.now c.args.machine.now c.args.place.now c.args.self.now.asleep.items
-    c.wake_all.new.self.asleep.items c.wake_all.ensures
+    faced-all-woken c.args.ends.now c.args.machine.now c.args.place.now c.args.self.now.asleep
+    c.wake_all.new.self c.wake_all.ensures

@@ -4,5 +4,5 @@ use Rattle.shell_desk.proofs.sleepers.Sleepers.wake_on.Goals as goal
 
 pub returns : goal.returns
 returns c =
-    subst (λ (woken : List ℕ). SleepButThese woken c.args.self.now.asleep.items c.wake_each.new.self.asleep.items) c.acting_on.ensures
+    subst (λ (woken : List ℕ). SleepButThese woken c.args.self.now.asleep c.wake_each.new.self.asleep) c.acting_on.ensures
     c.wake_each.ensures
