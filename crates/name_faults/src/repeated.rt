@@ -3,7 +3,7 @@ ghost use Rattle.std.specs.Prelude.{◌≡◌, ◌≢◌, ◌<◌, ◌≤◌, If
 ghost use Rattle.written_names.specs.Texts.{text_of};
 
 use crate::kinds::kind_text;
-use crate::names::{Context, site_text};
+use crate::names::{Context, role_at, site_text};
 use findings::{Finding, short, text_between};
 use std::alloc::AllocError;
 use written_names::{Declared, Kind, Role, Site, find as declaration_of, text_at, width_of_number};
@@ -180,20 +180,45 @@ fn enclosing(context: Context<'_>, name: &[u8]) -> Option<Site>
     None
 }
 
+/// Whether a name is that of a sync or a sync port, which carry no value.
+fn is_sync(context: Context<'_>, name: &[u8]) -> bool {
+    match declaration_of(context.source, context.visible, name) {
+        Some(found) => matches!(found.kind, Kind::Sync | Kind::SyncPort),
+        None => false,
+    }
+}
+
 /// A channel that is used in an arm that is open on it.
 pub fn find_enclosed(context: Context<'_>, finding: &mut Finding) -> Result<(), AllocError> {
     let name = text_between(context.source, finding.start, finding.stop);
-    finding.say(&[
-        "`",
-        name,
-        "` is open around this place, where its name is the value that was received",
-    ])?;
+    let without_value = is_sync(context, name.as_bytes());
+    let what = if without_value {
+        "and a sync carries no value"
+    } else {
+        "where its name is the value that was received"
+    };
+    finding.say(&["`", name, "` is open around this place, ", what])?;
     if let Some(arm) = enclosing(context, name.as_bytes()) {
         finding.add_beside(arm.span, "opened here")?;
+    }
+    if without_value {
+        return advise_sync(context, name, finding);
     }
     finding.advise(&[
         "read the value by the name itself, as in `x := ",
         name,
         "`, and use the channel again behind the `end`",
     ])
+}
+
+/// What helps where a sync is used in an arm that is open on it.
+fn advise_sync(context: Context<'_>, name: &str, finding: &mut Finding) -> Result<(), AllocError> {
+    if matches!(role_at(context.sites, context.offset), Some(Role::Read)) {
+        return finding.advise(&[
+            "take `",
+            name,
+            "` out of the expression, or declare a channel with data in its place",
+        ]);
+    }
+    finding.advise(&["use the sync again behind the `end`"])
 }

@@ -23,9 +23,13 @@ pub static HISTORY_FULL: Page = Page {
     field: "",
     name: "full",
     meaning: "65,536 steps are live. Undo or roll back to make room.",
-    source: "",
-    told: "",
-    causes: "",
+    source: "procedure p is begin loop continue end end",
+    told: "\
+> branch 0
+step 65536 turn /0.131070
+> branch 0
+refused 22",
+    causes: "a `loop` that is left to run on.",
 };
 
 pub static NO_SUCH_EVENT: Page = Page {
@@ -37,8 +41,12 @@ No live step has this ticket: it was taken back, or never given. Tickets are
 not used again. Where `balsadbg why` ends with 23, or `balsadbg picture` with
 `--event`, the trace has no step of this number.",
     source: "",
-    told: "",
-    causes: "",
+    told: "\
+> undo 1
+refused 23",
+    causes: "\
+a ticket that was kept over an undo, where the step that is
+taken once more has a new one, or the ticket of another run.",
 };
 
 pub static NEEDED_BY: Page = Page {
@@ -68,8 +76,12 @@ No live step wrote this variable, so there is nothing to blame or to roll
 back. Where `balsadbg why` ends with 25, no step of the trace wrote it, or no
 variable has the name.",
     source: "",
-    told: "",
-    causes: "",
+    told: "\
+> blame x
+refused 25",
+    causes: "\
+asking before the first write, or behind its undo. A variable
+begins as 0, which no step wrote.",
 };
 
 pub static SPENT: Page = Page {
@@ -78,11 +90,14 @@ pub static SPENT: Page = Page {
     name: "spent",
     meaning: "\
 2^63 tickets are given out, or 2^63 calls of a shared execution are recorded.
-A call of a shared execution that is refused so is not recorded. No run that
-anyone can wait for gets there.",
+A call of a shared execution that is refused so is not recorded.",
     source: "",
-    told: "",
-    causes: "",
+    told: "\
+> step /0.0
+refused 26",
+    causes: "\
+none that anyone can wait for: at a million steps in a second the
+tickets last for 290,000 years.",
 };
 
 pub static BREAKS_FULL: Page = Page {
@@ -93,8 +108,12 @@ pub static BREAKS_FULL: Page = Page {
 The session has 64 breakpoints, and this line is none of these. Clear one, or
 set it in another session; `view` shows them with `*`.",
     source: "",
-    told: "",
-    causes: "",
+    told: "\
+> break 65
+refused 27",
+    causes: "\
+a script that sets one on each line, or breakpoints of an earlier
+question that were not cleared.",
 };
 
 pub static NO_SUCH_LINE: Page = Page {

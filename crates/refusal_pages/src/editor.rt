@@ -10,10 +10,12 @@ pub static UNKNOWN_REQUEST: Page = Page {
 The adapter of `balsadbg dap` does not know a request of this name. Nothing has
 changed, and the session goes on.",
     source: "",
-    told: "",
+    told: "\
+> Next {\"threadId\":1}
+refused 101: balsadbg does not know this request",
     causes: "\
-a client that asks for what the answer to `initialize` does not offer, or a
-name that is written otherwise: capital letters count.",
+a client that asks for what the answer to `initialize` does not
+offer, or a name that is written otherwise: capital letters count.",
 };
 
 pub static NOT_INITIALIZED: Page = Page {
@@ -23,7 +25,9 @@ pub static NOT_INITIALIZED: Page = Page {
     meaning: "\
 Before `initialize` only `disconnect` is answered. Nothing has changed.",
     source: "",
-    told: "",
+    told: "\
+> launch {\"program\":\"one.balsa\"}
+refused 102: `initialize` comes first",
     causes: "a client of one's own that begins with `launch`.",
 };
 
@@ -35,7 +39,9 @@ pub static NOTHING_LAUNCHED: Page = Page {
 The request asks about a run, and no source was launched, or its launch was
 refused. Nothing has changed.",
     source: "",
-    told: "",
+    told: "\
+> next {\"threadId\":1}
+refused 103: nothing is launched yet",
     causes: "a `launch` that was refused: its own answer says why.",
 };
 
@@ -48,7 +54,9 @@ The request needs the argument that the answer names, as `threadId`, `frameId`,
 `variablesReference` or `line`, and it is missing or no whole number from 0.
 Nothing has changed.",
     source: "",
-    told: "",
+    told: "\
+> next
+refused 104: `threadId` is missing or no number",
     causes: "a client of one's own.",
 };
 
@@ -60,7 +68,9 @@ pub static NO_THREAD: Page = Page {
 A thread is a branch. The answer to `threads` has the numbers of all. Nothing
 has changed.",
     source: "",
-    told: "",
+    told: "\
+> next {\"threadId\":9}
+refused 105: there is no such thread",
     causes: "a number that was kept from a session on another source.",
 };
 
@@ -72,7 +82,9 @@ pub static ONLY_PATHS: Page = Page {
 `pathFormat` of `initialize` is `path`, or is left out. The client can ask once
 more.",
     source: "",
-    told: "",
+    told: "\
+> initialize {\"pathFormat\":\"uri\"}
+refused 106: only paths are understood, no URIs",
     causes: "a client that names files by URIs alone.",
 };
 
@@ -84,7 +96,9 @@ pub static LAUNCHED_ALREADY: Page = Page {
 A session debugs one source. What was launched goes on, and has not changed. For
 another source begin another session.",
     source: "",
-    told: "",
+    told: "\
+> launch {\"program\":\"one.balsa\"}
+refused 107: a program is launched already",
     causes: "a client of one's own that sends `launch` twice.",
 };
 
@@ -95,9 +109,12 @@ pub static NO_PROGRAM: Page = Page {
     meaning: "\
 `launch` needs `program`, the path of a Balsa source. Nothing is launched.",
     source: "",
-    told: "",
+    told: "\
+> launch {\"stimulus\":\"one.stimulus\"}
+refused 108: `program` is missing: the path of a Balsa source",
     causes: "\
-settings of the editor without `program`, or with another name for it.",
+settings of the editor without `program`, or with another name for
+it.",
 };
 
 pub static NO_FRAME: Page = Page {
@@ -108,7 +125,9 @@ pub static NO_FRAME: Page = Page {
 A frame is a call in which a branch stands. After each step that an editor asks
 for, frames are to be asked for anew. Nothing has changed.",
     source: "",
-    told: "",
+    told: "\
+> scopes {\"frameId\":32770}
+refused 109: there is no such frame any more",
     causes: "a frame from before a step, or of another thread.",
 };
 
@@ -120,7 +139,9 @@ pub static NO_VARIABLES: Page = Page {
 The answers to `scopes` and `variables` have the references. Nothing has
 changed.",
     source: "",
-    told: "",
+    told: "\
+> variables {\"variablesReference\":9}
+refused 110: there are no variables with this reference",
     causes: "a reference that was kept from a session on another source.",
 };
 
@@ -132,7 +153,9 @@ pub static NOTHING_REFUSED: Page = Page {
 `exceptionInfo` tells of the last refusal at which the session stopped, and it
 has stopped at none. Nothing has changed.",
     source: "",
-    told: "",
+    told: "\
+> exceptionInfo {\"threadId\":1}
+refused 111: nothing was refused",
     causes: "a client that asks where the reason of `stopped` was another one.",
 };
 
@@ -144,6 +167,8 @@ pub static NO_ATTACHING: Page = Page {
 A run lives in the debugger alone, so there is nothing to attach to. Use
 `launch`.",
     source: "",
-    told: "",
+    told: "\
+> attach {\"program\":\"one.balsa\"}
+refused 113: there is nothing to attach to: `launch` starts the debugger on a source",
     causes: "settings of the editor with `\"request\": \"attach\"`.",
 };

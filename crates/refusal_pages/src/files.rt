@@ -10,7 +10,9 @@ pub static BAD_HEADER: Page = Page {
 The first line of the trace is not `balsadbg trace 2` or, of an older trace,
 `balsadbg trace 1`.",
     source: "",
-    told: "",
+    told: "\
+balsadbg trace 3
+^                                refused 31",
     causes: "\
 another file, line ends from Windows, or what stood before
 `balsadbg trace 2` in a transcript.",
@@ -22,7 +24,10 @@ pub static BAD_LINE: Page = Page {
     name: "a bad line of a trace",
     meaning: "The line has another form than a step, or no end.",
     source: "",
-    told: "",
+    told: "\
+balsadbg trace 2
+step /0.0/0
+^                                refused 32 2: write step /0.0/0 0",
     causes: "\
 a file that is cut off inside a line (a cut between two lines is
 not seen), line ends from Windows where the first line alone is right, an empty
@@ -36,7 +41,10 @@ pub static NOT_A_STEP: Page = Page {
     meaning: "\
 The step of this line cannot be taken once those of the lines before are.",
     source: "",
-    told: "",
+    told: "\
+balsadbg trace 2
+step /3.0 0
+^                                refused 33 2",
     causes: "\
 the trace of another description or stimulus, or lines that were
 taken out or exchanged.",
@@ -54,7 +62,11 @@ canonical order. That a trace loads does not show that it is as it was saved:
 a step that is moved past one with which it races for a shared variable may
 make another run that loads. `debug` never ends with 34.",
     source: "",
-    told: "",
+    told: "\
+balsadbg trace 2
+step /0.0/1 0
+^                                refused 34 2
+step /0.0/0 0",
     causes: "steps put in or moved by hand.",
 };
 
@@ -69,7 +81,9 @@ before the text of either is looked at, and TRACE once both are accepted. With
 answers out it was the script. `work` reads FILE and STIMULUS likewise, and
 prints nothing before its workers are done.",
     source: "",
-    told: "",
+    told: "\
+$ balsadbg check no-such.balsa
+balsadbg: refused 41",
     causes: "a path that is meant from another folder.",
 };
 
@@ -79,7 +93,9 @@ pub static WRITE_FAILED: Page = Page {
     name: "writing failed",
     meaning: "Standard output took no more; a beginning of the answers is out.",
     source: "",
-    told: "",
+    told: "\
+$ balsadbg check one.balsa > /dev/full
+balsadbg: refused 42",
     causes: "a full disk, or a pipe that the other side has closed.",
 };
 
@@ -114,7 +130,9 @@ The line has another form, a number that is too great for what it counts, or
 the name of no variable (a port or a channel is none). The answers before it
 are out; the run ends.",
     source: "",
-    told: "",
+    told: "\
+> step 0.0
+balsadbg: refused 61 1",
     causes: "\
 two blanks, a blank or a tab in front or at the end, capital
 letters, a comment, `help` or `quit`, an arrow key, a place without its first

@@ -13,8 +13,12 @@ session in a thread of its own: there the 1 may come after the call, where
 there was no memory for the bytes of the answer, and what the call did stays
 done.",
     source: "",
-    told: "",
-    causes: "",
+    told: "\
+> branch 0
+refused 1",
+    causes: "\
+a limit on memory (`ulimit -v`, a container), a long run, or other
+programs that have taken what there was.",
 };
 
 pub static BAD_CHARACTER: Page = Page {
@@ -80,8 +84,10 @@ pub static TOO_DEEP: Page = Page {
 This word would open level 65. Brackets, `loop`, `if`, `case`, `select`,
 `arbitrate`, `then` behind `->`, `(` in an expression and `not` open a level
 each, and so does each operator until its expression ends.",
-    source: "",
-    told: "",
+    source: "\
+procedure p is begin [[[[[[[[[[[[[[[[[[[[[[[[[[[[[[[[
+\x20 [[[[[[[[[[[[[[[[[[[[[[[[[[[[[[[[[",
+    told: "                                  ^   refused 6 88",
     causes: "\
 generated text, or a sum of more than 65 parts; a variable in
 between helps.",

@@ -101,12 +101,13 @@ pub static ENCLOSED_TWICE: Page = Page {
     name: "enclosed twice",
     meaning: "\
 Inside an arm that is open on a channel, its name is the value that was
-received; any other use of it is refused.",
+received; any other use of it is refused. A sync carries no value, so inside
+its arm each use is.",
     source: "\
 procedure p (input i : 8 bits) is variable x : 8 bits begin i -> then i -> x end end",
     told: "\
 \x20                                                                     ^   refused 17 70",
     causes: "\
 receiving once more inside the arm, where the name itself is
-meant.",
+meant, or reading a sync as a value.",
 };

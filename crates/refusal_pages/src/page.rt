@@ -11,9 +11,9 @@ pub struct Page {
     pub field: &'static str,
     pub name: &'static str,
     pub meaning: &'static str,
-    /// A source that is refused so. Empty where the example is none.
+    /// A source that is refused so. Empty where the example needs none of its own.
     pub source: &'static str,
-    /// What is told, under the source where there is one. Empty where there is no example.
+    /// What is told, under the source where there is one, or a session. Empty where there is no example.
     pub told: &'static str,
     /// What it mostly comes from. Empty where nothing is to be said.
     pub causes: &'static str,

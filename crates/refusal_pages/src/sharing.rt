@@ -10,8 +10,12 @@ pub static TOO_MANY_NODES: Page = Page {
 Once each call is replaced by the body of its procedure there are more than
 16,384 nodes, or a command inside more than 1,024 others. The number does not
 tell which.",
-    source: "",
-    told: "",
+    source: "\
+procedure a is begin halt;halt;halt;halt;halt;halt;halt;halt;halt;halt end
+procedure b is begin a();a();a();a();a();a();a();a();a();a();a();a() end
+procedure c is begin b();b();b();b();b();b();b();b();b();b();b();b() end
+procedure d is begin c();c();c();c();c();c();c();c();c();c();c();c() end",
+    told: "refused 14",
     causes: "\
 procedures that call others twice, over many levels; a stimulus
 with more than 16,000 values; a long text: `x := (x + 1 as byte)` is 5 nodes,
