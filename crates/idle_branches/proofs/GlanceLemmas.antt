@@ -56,14 +56,18 @@ abbrev pub Still : Sight → State → Type 0
 Still Sight.Nothing S = Unit {0}
 Still (Sight.Gives c) S = Unit {0}
 Still (Sight.Takes c) S = NoneGives S c
-Still Sight.Open S = ⊥
+Still Sight.Acts S = ⊥
+Still (Sight.Syncs c) S = ⊥
+Still Sight.Unknown S = ⊥
 
 -- it does not act alone
 alone : (sight : Sight) (S : State) (a : ActionKind) → waits_on a ≡ None → takes_on a ≡ None → IsSeen sight a → Still sight S → ⊥
 alone Sight.Nothing S a w t seen still = seen
 alone (Sight.Gives c) S a w t seen still = none-some c (sym w ∙ seen)
 alone (Sight.Takes c) S a w t seen still = none-some c (sym t ∙ seen)
-alone Sight.Open S a w t seen still = still
+alone Sight.Acts S a w t seen still = still
+alone (Sight.Syncs c) S a w t seen still = still
+alone Sight.Unknown S a w t seen still = still
 
 -- nor with another
 with-other : (sight : Sight) (S : State) (a : ActionKind) (d : ℕ) (y : LocalAction) → takes_on a ≡ Some d → waits_on a ≡ None
@@ -71,7 +75,9 @@ with-other : (sight : Sight) (S : State) (a : ActionKind) (d : ℕ) (y : LocalAc
 with-other Sight.Nothing S a d y t w offer given seen still = seen
 with-other (Sight.Gives c) S a d y t w offer given seen still = none-some c (sym w ∙ seen)
 with-other (Sight.Takes c) S a d y t w offer given seen still = still y offer (given ∙ (sym t ∙ seen))
-with-other Sight.Open S a d y t w offer given seen still = still
+with-other Sight.Acts S a d y t w offer given seen still = still
+with-other (Sight.Syncs c) S a d y t w offer given seen still = still
+with-other Sight.Unknown S a d y t w offer given seen still = still
 
 -- the number of a branch of the system
 within-there : (o : Option (List Command)) (way : Place) (k : ℕ) → branch_within o way ≡ Some k → number_within o way ≡ Some k

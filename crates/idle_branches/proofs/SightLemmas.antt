@@ -31,7 +31,7 @@ use Rattle.process_tree.specs.declared.proc.Tested.{Tested}
 use Rattle.local_actions.specs.Actions.{Offered}
 use Rattle.local_actions.specs.Walk.{action_at}
 use Rattle.local_actions.specs.declared.action.LocalAction.{LocalAction}
-use Rattle.local_actions.specs.internal.Listed.{Listing, at_work, behind, listed, listed_parallel, nothing, one_after}
+use Rattle.local_actions.specs.internal.Listed.{Listing, at_work, behind, listed, listed_parallel, nothing, one_after, open_actions}
 use Rattle.local_actions.proofs.public.Endings.{CameTo}
 use Rattle.local_actions.proofs.public.Exactly.{behind-in}
 use Rattle.local_actions.proofs.public.OneByOne.{step-here}
@@ -41,12 +41,17 @@ use Rattle.idle_branches.specs.internal.Sights.{AreSeen, IsBranch, IsChild, IsSe
 
 -- ---- lists of actions
 -- nothing is known
-pub all-open : (rs : List LocalAction) → AreSeen Sight.Open rs
-all-open [] = tt
-all-open (r ∷ rs) = (tt, all-open rs)
+pub all-unknown : (rs : List LocalAction) → AreSeen Sight.Unknown rs
+all-unknown [] = tt
+all-unknown (r ∷ rs) = (tt, all-unknown rs)
 
-pub sees-open : (p : Proc) → Sees Sight.Open p
-sees-open p s env = all-open (listed s env p).actions
+pub sees-unknown : (p : Proc) → Sees Sight.Unknown p
+sees-unknown p s env = all-unknown (listed s env p).actions
+
+-- arms that wait
+pub opens-act : (k : ℕ) (cs : List ℕ) → AreSeen Sight.Acts (open_actions k cs)
+opens-act k [] = tt
+opens-act k (c ∷ cs) = (refl, opens-act (suc k) cs)
 
 -- one entry further out
 pub seen-behind : (sight : Sight) (x : Entry) (rs : List LocalAction) → AreSeen sight rs → AreSeen sight (behind x rs)
@@ -201,13 +206,6 @@ beside-port body ports count k j sight has more off none sees system children is
     parts-seen system (Some children) body ports k sight is
     (λ s env y among at. absurd (none off s env y among at))
     (λ i q there number. let same : i ≡ j = omega (arith, number, size, more) in sees q (sym (ap (proc_at ports) same) ∙ there))
-
--- nothing is told of a branch
-pub branch-open : (system : System) (ps : Procs) (k : ℕ) → IsBranch system ps k Sight.Open
-branch-open system ps k s env x among at = tt
-
-pub child-open : (body : Proc) (k : ℕ) → IsChild body k Sight.Open
-child-open body k s env x among at = tt
 
 -- a child of a parallel
 pub child-seen : (ps : Procs) (k : ℕ) (sight : Sight) → ((p : Proc) → proc_at ps k ≡ Some p → Sees sight p) → IsChild (parallel ps) k sight

@@ -1,10 +1,9 @@
 -- Branches that have no step.
-use Rattle.std.specs.Prelude.{◌≡◌, ◌⊎◌, ℕ, List, Option, None, Some, true}
+use Rattle.std.specs.Prelude.{◌≡◌, ℕ, List, Option, None, Some, true}
 use Rattle.address.specs.Places.{Before}
 use Rattle.syntax.specs.Lists.{In}
 use Rattle.system.specs.declared.system.System.{System}
 use Rattle.system_places.specs.SystemBranches.{branch_at}
-use Rattle.sharing_check.specs.Rule.{is_shared, SharesWell}
 use Rattle.runs.specs.Moves.{Place}
 use Rattle.runs.specs.Events.{acting, places}
 use Rattle.runs.specs.Steps.{State, Run, Step, Allowed, opening}
@@ -45,31 +44,22 @@ Faces ends T e k =
 abbrev pub HasBehind : State → Place → List LocalAction → Type 0
 HasBehind S a found = (x : LocalAction) → Offered S x → Before a x.place → In x found
 
--- the event reads or writes the variable
-abbrev pub Touches : Event → ℕ → Type 0
-Touches e x = (e.written ≡ Some x) ⊎ In x e.read
-
--- the event touches no variable that branches may share
-abbrev pub TouchesNoShared : System → Event → Type 0
-TouchesNoShared system e = (x : ℕ) → is_shared system x ≡ true → Touches e x → ⊥
-
 -- the event, which led to T, cannot have brought branch k a step
 pub record Passes (system : System) (ends : Ends) (T : State) (e : Event) (k : ℕ) : Type 0 where
   pub apart : TakesPart system e k → ⊥
   pub faces_none : Faces ends T e k → ⊥
-  pub unshared : TouchesNoShared system e
 
--- all channels on which the branches act or give are known, and who gives on each
+-- all channels on which the branches act or give are known, and all who may give on each
 pub record AreEnds (system : System) (ends : Ends) : Type 0 where
   pub fit : FitEach (known_at ends.used.acting.items ends.used.giving.items) 0 (parts system)
   pub givers : KnowsGivers ends.givers.items ends.used.giving.items
 
--- a branch that has no step has none behind an event that cannot bring it one
+-- a branch that has no step has none behind an event that cannot bring it one; that the event writes a variable brings
+-- none, since a test has a step whatever comes out
 abbrev pub StaysIdle : Type 0
 StaysIdle =
-    (system : System) (ends : Ends) (h : List Event) (S T : State) (e : Event) (k : ℕ) → SharesWell system →
-    AreEnds system ends → Run (opening system) h S → Step S e T → Passes system ends T e k → IdleIn system S k →
-    IdleIn system T k
+    (system : System) (ends : Ends) (h : List Event) (S T : State) (e : Event) (k : ℕ) → AreEnds system ends →
+    Run (opening system) h S → Step S e T → Passes system ends T e k → IdleIn system S k → IdleIn system T k
 
 -- what a branch offers behind a place, at the other side of a channel, is on a channel on which it gives
 abbrev pub GivesWhatIsKnown : Type 0

@@ -1,17 +1,14 @@
 // The channels on which the branches of a system act, and those on which they give.
-ghost use Rattle.std.specs.Prelude.{◌≡◌, ℕ, ◌∷◌, [], map, true, Some, IfOk, MatchBool, OnOk, slice_get};
-ghost use Rattle.syntax.specs.Lists.{In};
+ghost use Rattle.std.specs.Prelude.{◌≡◌, ℕ, ◌∷◌, [], map, Some, IfOk, OnOk, slice_get};
 ghost use Rattle.std.specs.Option.{option_copied};
 ghost use Rattle.system.specs.Translation.{residual_of, branch_of};
-ghost use Rattle.sharing_check.specs.Rule as rule;
 ghost use Rattle.system_places.specs.SystemBranches as places;
-ghost use Rattle.idle_branches.specs.Idle.{AreEnds, TouchesNoShared};
+ghost use Rattle.idle_branches.specs.Idle.{AreEnds};
 ghost use Rattle.idle_branches.specs.internal.Gathered.{AddsParts};
 ghost use Rattle.idle_branches.specs.internal.Known.{MayBe, list_at, parts_of};
 
 use crate::givers::{Giver, giver_on, givers_of};
 use crate::used::{Used, add_command};
-use runs::Event;
 use sharing_check::Checked;
 use std::alloc::{AllocError, Global};
 use syntax::Items;
@@ -154,45 +151,6 @@ fn empty_lists(alloc: Global, count: usize) -> Result<Vec<Items<u32>>, AllocErro
         lists.push(Items::new(alloc))?;
     }
     Ok(lists)
-}
-
-/// Whether the event reads or writes a variable that branches may share.
-pub fn touches_shared(system: &System, event: &Event) -> bool
-    ensures { MatchBool result (Unit {0}) (TouchesNoShared system.now event.now) }
-{
-    writes_shared(system, event.written) || reads_shared(system, event.read.as_slice())
-}
-
-/// Whether branches may share the variable, if there is one.
-fn writes_shared(system: &System, written: Option<u32>) -> bool
-    ensures { MatchBool result (Unit {0}) ((x : ℕ) → rule.is_shared system.now x ≡ true → written ≡ Some x → ⊥) }
-{
-    match written {
-        Some(variable) => is_shared(system, variable),
-        None => false,
-    }
-}
-
-/// Whether branches may share one of these variables.
-fn reads_shared(system: &System, read: &[u32]) -> bool
-    ensures { MatchBool result (Unit {0}) ((x : ℕ) → rule.is_shared system.now x ≡ true → In x read.now → ⊥) }
-{
-    for variable in read {
-        if is_shared(system, *variable) {
-            return true;
-        }
-    }
-    false
-}
-
-/// Whether branches may share the variable.
-fn is_shared(system: &System, variable: u32) -> bool
-    ensures { result ≡ rule.is_shared system.now variable }
-{
-    match system.variables.get(variable as usize) {
-        Some(found) => found.shared,
-        None => false,
-    }
 }
 
 /// The children of a command that is a parallel.

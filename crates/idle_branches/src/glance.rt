@@ -29,15 +29,15 @@ use system::System;
 pub enum Glance {
     /// it has no step, and it is at the other side of this channel alone, if of any
     Rests(Option<u32>),
-    /// it may have a step, and it is at the other side of no channel
-    Acts,
+    /// it may have a step, and it is at the other side of this channel alone, if of any
+    Acts(Option<u32>),
     /// it is not known
-    Open,
+    Unknown,
 }
 
 /// What a look at the branch tells, and one at the branch that gives on the channel on which it acts, where the ends are
 /// those of the system and the tree stands for one of its runs. It follows each branch to the one place where it is at
-/// work; where that is a parallel, a test or the like, nothing is known.
+/// work; where that is a parallel, nothing is known.
 pub fn glance_of(ends: &Ends, system: &System, tree: &Tree, branch: u32) -> Glance
     ensures rests { Tidy (tree_view tree.now) → (h : List any_event.Event) (values : Store) → AreEnds system.now ends.now →
         Run (opening system.now) h (state_of tree.now values) →
@@ -50,18 +50,20 @@ pub fn glance_of(ends: &Ends, system: &System, tree: &Tree, branch: u32) -> Glan
         Sight::Nothing => Glance::Rests(None),
         Sight::Gives(channel) => Glance::Rests(Some(channel)),
         Sight::Takes(channel) => taker(ends, system, tree, channel),
-        Sight::Open => Glance::Open,
+        Sight::Acts => Glance::Acts(None),
+        Sight::Syncs(channel) => Glance::Acts(Some(channel)),
+        Sight::Unknown => Glance::Unknown,
     }
 }
 
 /// What is told of a branch that takes on this channel, and does nothing else.
 fn taker(ends: &Ends, system: &System, tree: &Tree, channel: u32) -> Glance
-    ensures { (result ≡ Glance.Acts) ⊎ ((result ≡ Glance.Rests None) × (Tidy (tree_view tree.now) →
+    ensures { (result ≡ Glance.Acts None) ⊎ ((result ≡ Glance.Rests None) × (Tidy (tree_view tree.now) →
         (h : List any_event.Event) (values : Store) → AreEnds system.now ends.now →
         Run (opening system.now) h (state_of tree.now values) → NoneGives (state_of tree.now values) channel)) }
 {
     if is_given(ends, system, tree, channel) {
-        Glance::Acts
+        Glance::Acts(None)
     } else {
         Glance::Rests(None)
     }
@@ -75,7 +77,7 @@ fn is_given(ends: &Ends, system: &System, tree: &Tree, channel: u32) -> bool
 {
     match ends.giver_on(channel) {
         Giver::Nobody => false,
-        Giver::One(branch) => !sight_of_branch(system, tree, branch).is_beside(channel),
+        Giver::One(branch) => !sight_of_branch(system, tree, branch).gives_none_on(channel),
         Giver::Several => true,
     }
 }
@@ -86,7 +88,7 @@ fn sight_of_branch(system: &System, tree: &Tree, branch: u32) -> Sight
 {
     match tree.root() {
         Proc::Parallel(parts) => sight_among(system, parts.as_slice(), branch),
-        _ => Sight::Open,
+        _ => Sight::Unknown,
     }
 }
 
@@ -95,7 +97,7 @@ fn sight_among(system: &System, parts: &[Proc], branch: u32) -> Sight
     ensures { IsBranch system.now (procs_of (map proc_view parts.now)) branch result }
 {
     let Some((body, ports)) = parts.split_first() else {
-        return Sight::Open;
+        return Sight::Unknown;
     };
     match parallel_of(&system.main) {
         Some(children) => sight_beside(children.len(), body, ports, branch),
@@ -123,7 +125,7 @@ fn sight_beside(count: usize, body: &Proc, ports: &[Proc], branch: u32) -> Sight
     if (branch as usize) < count {
         sight_of_child(body, branch)
     } else if has_child(body, branch) {
-        Sight::Open
+        Sight::Unknown
     } else {
         sight_at(ports, branch - count as u32)
     }
@@ -135,7 +137,7 @@ fn sight_of_child(body: &Proc, number: u32) -> Sight
 {
     match body {
         Proc::Parallel(children) => sight_at(children.as_slice(), number),
-        _ => Sight::Open,
+        _ => Sight::Unknown,
     }
 }
 

@@ -2,7 +2,7 @@
 ghost use Rattle.idle_branches.specs.Idle.{GivesWhatIsKnown, StaysIdle};
 
 /// A branch that has no step has none behind a step of others, where it acts on no channel whose other side is offered
-/// behind that, and the step is on no shared variable.
+/// behind that.
 pub fn stays_idle()
     ensures { StaysIdle }
 {}

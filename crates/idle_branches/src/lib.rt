@@ -12,6 +12,6 @@ mod sight;
 mod used;
 
 pub use behind::{given_on, offers_behind};
-pub use ends::{Ends, touches_shared};
+pub use ends::Ends;
 pub use glance::{Glance, glance_of};
 pub use laws::{gives_what_is_known, stays_idle};

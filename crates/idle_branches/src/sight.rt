@@ -26,19 +26,24 @@ pub(crate) enum Sight {
     Gives(u32),
     /// on this channel a receive, the open of an arm or its close, and nothing else
     Takes(u32),
+    /// what may act, and is at the other side of no channel
+    Acts,
+    /// a handshake without data on this channel, which may act and is at its other side too
+    Syncs(u32),
     /// perhaps something else
-    Open,
+    Unknown,
 }
 
 impl Sight {
     /// Whether none of what is seen is at the other side of the channel.
-    pub(crate) fn is_beside(self, channel: u32) -> bool
+    pub(crate) fn gives_none_on(self, channel: u32) -> bool
         ensures { result ≡ true → (a : any.ActionKind) → IsSeen self a → given_on a ≡ Some channel → ⊥ }
     {
         match self {
-            Sight::Nothing | Sight::Takes(_) => true,
+            Sight::Nothing | Sight::Takes(_) | Sight::Acts => true,
             Sight::Gives(given) => given != channel,
-            Sight::Open => false,
+            Sight::Syncs(given) => given != channel,
+            Sight::Unknown => false,
         }
     }
 }
@@ -56,7 +61,7 @@ pub(crate) fn sight_of(process: &Proc) -> Sight
         Proc::Test(_, tested) => sight_of_test(tested),
         Proc::Arms(waiting, gate) => sight_of_arms(gate, waiting.get()),
         Proc::Sequence(row, begun) => sight_of_sequence(begun.as_slice(), row.get()),
-        Proc::Parallel(_) => Sight::Open,
+        Proc::Parallel(_) => Sight::Unknown,
         Proc::Drained(channel, _) => Sight::Takes(*channel),
     }
 }
@@ -69,7 +74,7 @@ fn sight_of_once(once: &Once, made: bool) -> Sight
         return Sight::Nothing;
     }
     match once {
-        Once::Assign(_, _, _) => Sight::Open,
+        Once::Assign(_, _, _) => Sight::Acts,
         Once::Receive(channel, _) => Sight::Takes(*channel),
     }
 }
@@ -85,13 +90,13 @@ fn sight_of_sender(sender: &Sender, phase: Phase) -> Sight
     }
 }
 
-/// What is offered by a send or sync that waits for its partner. A sync may act itself.
+/// What is offered by a send or sync that waits for its partner.
 fn sight_of_waiting(sender: &Sender) -> Sight
     ensures { Sees result (model.sender (sender_view sender.now) model.waiting) }
 {
     match sender {
         Sender::Send(channel, _, _) => Sight::Gives(*channel),
-        Sender::Sync(_) => Sight::Open,
+        Sender::Sync(channel) => Sight::Syncs(*channel),
     }
 }
 
@@ -110,7 +115,7 @@ fn sight_of_loop(turns: &Turns) -> Sight
     ensures { (g : Option model_expression.Expression) (c : model_code.Code) → Sees result (turns_view turns.now g c) }
 {
     match turns {
-        Turns::Fresh => Sight::Open,
+        Turns::Fresh => Sight::Acts,
         Turns::EndedAtOnce => Sight::Nothing,
         Turns::Turn(_, over, body) => sight_of_turn(body, *over),
     }
@@ -126,7 +131,7 @@ fn sight_of_turn(body: &Proc, over: bool) -> Sight
         return Sight::Nothing;
     }
     if is_over(body) {
-        return Sight::Open;
+        return Sight::Acts;
     }
     sight_of(body)
 }
@@ -137,7 +142,7 @@ fn sight_of_test(tested: &Tested) -> Sight
     ensures { (d : model_expression.Decision) (cs : model_code.Codes) → Sees result (tested_view tested.now d cs) }
 {
     match tested {
-        Tested::Untested => Sight::Open,
+        Tested::Untested => Sight::Acts,
         Tested::Skipped => Sight::Nothing,
         Tested::Took(_, body) => sight_of(body),
     }
@@ -158,10 +163,10 @@ fn sight_of_arms(gate: &Gate, waiting: &Await) -> Sight
 fn sight_of_channels(channels: &[u32]) -> Sight
     ensures { (cs : model_code.Codes) → Sees result (model.unopened channels.now cs) }
 {
-    match channels {
-        [channel] => Sight::Takes(*channel),
-        _ => Sight::Open,
+    if let [channel] = channels {
+        return Sight::Takes(*channel);
     }
+    Sight::Acts
 }
 
 /// What an arm offers that opened on this channel, whether it was closed.
@@ -222,6 +227,7 @@ fn sight_of_code(code: &Code) -> Sight
         Code::Sender(sender) => sight_of_waiting(sender.get()),
         Code::Await(waiting) => sight_of_channels(waiting.get().channels.as_slice()),
         Code::Drain(channel) => Sight::Takes(*channel),
-        _ => Sight::Open,
+        Code::Repeat(_) | Code::Decide(_) => Sight::Acts,
+        _ => Sight::Unknown,
     }
 }

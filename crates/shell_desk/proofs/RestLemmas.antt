@@ -5,7 +5,6 @@ use Rattle.std.specs.Bool.{MatchBool}
 use Rattle.std.specs.Prelude.{filter}
 use Rattle.syntax.specs.Lists.{In}
 use Rattle.system_places.specs.SystemBranches.{branch_at, branch_count}
-use Rattle.sharing_check.specs.Rule.{SharesWell}
 use Rattle.runs.specs.Events.{acting}
 use Rattle.runs.specs.Live.{events}
 use Rattle.runs.specs.Object.{Object, Reaches, with_event}
@@ -67,14 +66,14 @@ is-in k o is = ap (is_branch k) is ∙ same k
 -- ---- a branch without a step
 -- what is known of a bench at every moment
 abbrev pub Good : AtBench → Type 0
-Good b = Sound (execution b.desk) × SharesWell b.desk.machine.checked
+Good b = Sound (execution b.desk)
 
 -- it is idle when it is asked
 pub asked-idle : (b : AtBench) (k : ℕ) → Good b → Rests b k → Asked b (Command.Branch k) Reply.Idle b
 asked-idle b k good rests =
-    let T : State = good.0.runs.0 in
-    let reaches : Reaches (execution b.desk) T = good.0.runs.1 in
-    let formed = run-formed (execution b.desk).opening T (events b.desk.machine.live) (sound-formed (execution b.desk) good.0) reaches in
+    let T : State = good.runs.0 in
+    let reaches : Reaches (execution b.desk) T = good.runs.1 in
+    let formed = run-formed (execution b.desk).opening T (events b.desk.machine.live) (sound-formed (execution b.desk) good) reaches in
     let ready = ready-list T formed in
     let none : in_branch b.desk.machine k ready.0 ≡ [] =
     filter-none (acts_in b.desk.machine k) ready.0
@@ -106,7 +105,7 @@ rests-stepped law ends b h' e k good are system more passes rests T reaches =
     let parts = run-part (execution b.desk).opening T (events b.desk.machine.live) (e ∷ []) joined in
     let step : Step parts.middle e T = subst (λ (S : State). Step parts.middle e S) parts.second.2 parts.second.1 in
     subst (λ s. IdleIn s T k) (sym system)
-    (law b.desk.machine.checked ends (events b.desk.machine.live) parts.middle T e k good.1 are parts.first step
+    (law b.desk.machine.checked ends (events b.desk.machine.live) parts.middle T e k are parts.first step
     (subst (λ s. Passes s ends T e k) system (passes (subst (λ s. AreEnds s ends) (sym system) are) T reaches))
     (rests parts.middle parts.first))
 
@@ -138,7 +137,7 @@ module _ (law : StaysIdle) (ends : Ends) where
     λ i sleeps. elim (behind i sleeps) [
       | inl old ↦ rests-same b m i same (rests i old)
       | inr is ↦ rests-same b m i same
-          (subst (λ (n : ℕ). Rests b n) (sym is) (rests-asked b k m.desk.machine good.0 (T, es, reaches, ready, (none, same))))
+          (subst (λ (n : ℕ). Rests b n) (sym is) (rests-asked b k m.desk.machine good (T, es, reaches, ready, (none, same))))
     ],
   )
   rests-behind b m k (BranchReply.Refused why) asleep s good (T, es, reaches, ready, (first, same)) system behind resting =
@@ -169,7 +168,7 @@ module _ (law : StaysIdle) (ends : Ends) where
 
   good-same : (b m : AtBench) → m.desk.machine ≡ b.desk.machine → Good b → Good m
   good-same b m same good =
-      subst (λ (h : AtMachine). Sound (object h) × SharesWell h.checked) (sym same) good
+      subst (λ (h : AtMachine). Sound (object h)) (sym same) good
 
   -- a turn of those that are awake is one of all
   in-turn : (count left k : ℕ) (b b' : AtBench) (asleep asleep' : List ℕ) (reply : Reply) → Good b → Resting ends b asleep

@@ -23,13 +23,13 @@ use Rattle.runs.proofs.public.StateLaws.{reaches-one}
 use Rattle.local_actions.specs.Actions.{Offered}
 use Rattle.local_actions.specs.declared.action.LocalAction.{LocalAction}
 use Rattle.idle_branches.specs.Glance.{IsFaced, Tells}
-use Rattle.idle_branches.specs.Idle.{AreEnds, Faces, GivesWhatIsKnown, HasBehind, IdleIn, TouchesNoShared, given_on}
+use Rattle.idle_branches.specs.Idle.{AreEnds, Faces, GivesWhatIsKnown, HasBehind, IdleIn, given_on}
 use Rattle.idle_branches.specs.declared.ends.Ends.{Ends}
 use Rattle.idle_branches.specs.declared.glance.Glance.{Glance}
 use Rattle.idle_branches.specs.internal.Known.{list_at}
 use Rattle.machine.specs.AtMachine.{AtMachine, object}
 use Rattle.locked_execution.specs.declared.command.Reply.{Reply}
-use Rattle.shell_desk.specs.internal.Sleeping.{ActsOnOne, AllSleep, AreGiven, FacedAt, FacedBy, FacesNow, IsAsleep, NoneSleeps, PassesAt, PassesNow, RestsBut, RestsNow, SleepBehindEvent, SleepBehindPlaces, SleepBut, SleepButActing, SleepButAt, SleepButFaced, SleepButFacedAt, SleepButThese, SleepsBehind, TellsNow, acting_on, faced_by}
+use Rattle.shell_desk.specs.internal.Sleeping.{ActsOnOne, AllSleep, AreGiven, FacedAt, FacedBy, FacesNow, IsAsleep, NoneSleeps, PassesAt, PassesNow, RestsNow, SleepBehindEvent, SleepBehindPlaces, SleepBut, SleepButActing, SleepButAt, SleepButFaced, SleepButFacedAt, SleepButThese, SleepsBehind, TellsNow, acting_on, faced_by}
 
 -- nothing is something
 none-some : {X : Type 0} (x : X) → None ≡ Some x → ⊥
@@ -270,29 +270,33 @@ passes-other ends h a k i at other none = record {
     unfaced : FacedAt ends h a i → ⊥
     unfaced (T, x, reaches, offered, behind, acts) = none T x reaches offered behind acts
 
--- a branch that faces no other
-pub acts-at : (ends : Ends) (h : AtMachine) (a : Place) (k : ℕ) (before after : List ℕ) → branch_at h.checked a ≡ Some k
-    → FacesNow Glance.Acts h a → SleepBut k before after → SleepBehindPlaces ends h (a ∷ []) before after
-acts-at ends h a k before after at faces but i sleeps =
+-- a branch that may have a step, and faces those on one channel at most
+pub acts-at : (ends : Ends) (h : AtMachine) (a : Place) (k : ℕ) (faced : Option ℕ) (before between after : List ℕ)
+    → branch_at h.checked a ≡ Some k → FacesNow (Glance.Acts faced) h a → SleepButThese (acting_on ends faced) before between
+    → SleepBut k between after → SleepBehindPlaces ends h (a ∷ []) before after
+acts-at ends h a k faced before between after at faces woken but i sleeps =
     let one = but i sleeps in
+    let old = woken i one.0 in
     inl (
-      one.0,
-      at-one ends h a i (passes-other ends h a k i at one.1
-          (λ T x reaches offered behind acts. subst (λ (o : Option ℕ). In i (acting_on ends o)) (faces T x reaches offered behind) acts)),
-    )
-
--- one that has no step, and faces those on one channel at most
-pub rests-at : (ends : Ends) (h : AtMachine) (a : Place) (k : ℕ) (faced : Option ℕ) (before after : List ℕ) → branch_at h.checked a ≡ Some k
-    → TellsNow (Glance.Rests faced) ends h k → FacesNow (Glance.Rests faced) h a → RestsBut ends k faced before after
-    → SleepBehindPlaces ends h (a ∷ []) before after
-rests-at ends h a k faced before after at tells faces but i sleeps = elim (cases_order i k) [
-  | inl same ↦ inr (rests same)
-  | inr order ↦ elim (but i sleeps) [
-    | inl old ↦ inl (
       old.0,
-      at-one ends h a i (passes-other ends h a k i at (apart order)
+      at-one ends h a i (passes-other ends h a k i at one.1
           (λ T x reaches offered behind acts.
           old.1 (subst (λ (o : Option ℕ). In i (acting_on ends o)) (faces T x reaches offered behind) acts))),
+    )
+
+-- one that has no step
+pub rests-at : (ends : Ends) (h : AtMachine) (a : Place) (k : ℕ) (faced : Option ℕ) (before between after : List ℕ)
+    → branch_at h.checked a ≡ Some k → TellsNow (Glance.Rests faced) ends h k → FacesNow (Glance.Rests faced) h a
+    → SleepButThese (acting_on ends faced) before between → ((i : ℕ) → IsAsleep after i → IsAsleep between i ⊎ (i ≡ k))
+    → SleepBehindPlaces ends h (a ∷ []) before after
+rests-at ends h a k faced before between after at tells faces woken lulls i sleeps = elim (cases_order i k) [
+  | inl same ↦ inr (rests same)
+  | inr order ↦ elim (lulls i sleeps) [
+    | inl kept ↦ inl (
+      (woken i kept).0,
+      at-one ends h a i (passes-other ends h a k i at (apart order)
+          (λ T x reaches offered behind acts.
+          (woken i kept).1 (subst (λ (o : Option ℕ). In i (acting_on ends o)) (faces T x reaches offered behind) acts))),
     )
     | inr same ↦ inr (rests same)
   ]
@@ -305,16 +309,8 @@ rests-at ends h a k faced before after at tells faces but i sleeps = elim (cases
     apart (inl less) same = omega arith
     apart (inr more) same = omega arith
 
--- a branch falls asleep, and those on a channel are woken
-pub rests-but : (ends : Ends) (k : ℕ) (faced : Option ℕ) (before between after : List ℕ)
-    → ((i : ℕ) → IsAsleep between i → IsAsleep before i × (In i (acting_on ends faced) → ⊥))
-    → ((i : ℕ) → IsAsleep after i → IsAsleep between i ⊎ (i ≡ k)) → RestsBut ends k faced before after
-rests-but ends k faced before between after woken lulls i sleeps = elim (lulls i sleeps) [
-  | inl old ↦ inl (woken i old)
-  | inr same ↦ inr same
-]
-
-pub nobody-faced : (ends : Ends) (asleep : List ℕ) (i : ℕ) → IsAsleep asleep i → IsAsleep asleep i × (In i (acting_on ends None) → ⊥)
+-- no channel is faced
+pub nobody-faced : (ends : Ends) (asleep : List ℕ) → SleepButThese (acting_on ends None) asleep asleep
 nobody-faced ends asleep i sleeps = (sleeps, λ none. none)
 
 -- what a look tells of the state of a machine
@@ -328,10 +324,6 @@ pub faces-now : (told : Glance) (h : AtMachine) (a : Place) (S : State) → Soun
 faces-now told h a S sound here faces T x reaches offered behind =
     faces x (subst (λ (U : State). Offered U x) (reaches-one (object h) T S sound reaches here) offered) behind
 
-pub event-all-woken : (ends : Ends) (h : AtMachine) (e : Event) (before after : List ℕ) → NoneSleeps after
-    → SleepBehindEvent ends h e before after
-event-all-woken ends h e before after none i sleeps = absurd (none i sleeps)
-
 pub place-all-woken : (ends : Ends) (h : AtMachine) (a : Place) (before after : List ℕ) → NoneSleeps after
     → SleepBehindPlaces ends h (a ∷ []) before after
 place-all-woken ends h a before after none i sleeps = absurd (none i sleeps)
@@ -342,8 +334,8 @@ no-place ends h asleep i sleeps = inl (sleeps, λ a among. absurd among)
 -- both sides of a step
 pub wakes-event : (ends : Ends) (h : AtMachine) (e : Event) (before between after : List ℕ)
     → SleepBehindPlaces ends h (e.first ∷ []) before between → SleepBehindPlaces ends h (places_of e.second) between after
-    → TouchesNoShared h.checked e → SleepBehindEvent ends h e before after
-wakes-event ends h e before between after one other unshared i sleeps = elim (other i sleeps) [
+    → SleepBehindEvent ends h e before after
+wakes-event ends h e before between after one other i sleeps = elim (other i sleeps) [
   | inr rests ↦ inr rests
   | inl later ↦ elim (one i later.0) [
     | inr rests ↦ inr rests
@@ -358,7 +350,6 @@ wakes-event ends h e before between after one other unshared i sleeps = elim (ot
     passes at are T reaches = record {
       apart = λ part. (at part.0 part.1).elsewhere part.2;
       faces_none = λ faced. faces at are T reaches faced;
-      unshared = unshared;
     }
       where
         faces : ((a : Place) → In a (places e) → PassesAt ends h a i) → AreEnds h.checked ends → (T : State) → Reaches (object h) T

@@ -46,7 +46,8 @@ impl Marks {
         *self.bytes.allocator()
     }
 
-    /// How many branches are asleep from this one on, one behind the other.
+    /// So many branches are asleep from this one on, one behind the other, and perhaps more. Where none is awake any more,
+    /// that is kept in mind.
     pub(crate) fn asleep_from(&mut self, branch: u32) -> usize
         ensures asleep { AllSleep self.new branch (branch + result) }
         ensures same { self.new ≡ self.old }
@@ -111,7 +112,7 @@ fn all_awake(alloc: Global, count: u32) -> Result<Vec<u8>, AllocError>
     Ok(vec![in alloc; AWAKE; count as usize]?)
 }
 
-/// How many of the branches with these marks are asleep from this one on, one behind the other.
+/// So many of the branches with these marks are asleep from this one on, one behind the other.
 fn asleep_at(marks: &[u8], from: usize) -> usize
     ensures { AllSleep marks.now from (from + result) }
 {

@@ -1,7 +1,6 @@
 // Runs in which the branches step in turn.
 ghost use Rattle.std.specs.Prelude.{◌≡◌, ◌≤◌, IfOk};
 ghost use Rattle.system_places.specs.SystemBranches.{branch_count as count_of};
-ghost use Rattle.sharing_check.specs.Rule.{SharesWell};
 ghost use Rattle.idle_branches.specs.Idle.{AreEnds};
 ghost use Rattle.locked_execution.specs.declared.command.Command.{Command as CommandAt};
 ghost use Rattle.shell_desk.specs.AtBench.{AtBench};
@@ -131,7 +130,6 @@ impl Bench {
     {
         stays_idle();
         self.is_sound();
-        self.shares_well();
         let count = self.branch_count();
         let start = self.first(count);
         if let Some(reply) = self.ask_awake(ends, sleepers, start, count, watch) {
@@ -141,13 +139,6 @@ impl Bench {
             return reply;
         }
         Reply::Idle
-    }
-
-    /// The system keeps the rule on sharing: nothing is done, the contract says it.
-    fn shares_well(&self)
-        ensures { SharesWell self.now.desk.machine.checked }
-    {
-        self.desk.is_sound();
     }
 
     /// Asks the branches from one up to another that are awake for a step, up to the first that is not idle.

@@ -4,21 +4,19 @@ ghost use Rattle.system_places.specs.SystemBranches.{branch_at};
 ghost use Rattle.runs.specs.Events.{places_of};
 ghost use Rattle.runs.specs.Moves.{Place};
 ghost use Rattle.idle_branches.specs.internal.Known.{list_at};
-ghost use Rattle.shell_desk.specs.internal.Sleeping.{AllSleep, AreGiven, FacesNow, NoneSleeps, RestsBut, SleepBehindEvent, SleepBehindPlaces, SleepButActing, SleepButFaced, SleepButFacedAt, SleepButThese, SleepsBehind, TellsNow, faced_by};
+ghost use Rattle.shell_desk.specs.internal.Sleeping.{AllSleep, AreGiven, FacesNow, NoneSleeps, SleepBehindEvent, SleepBehindPlaces, SleepButActing, SleepButFaced, SleepButFacedAt, SleepButThese, SleepsBehind, TellsNow, acting_on, faced_by};
 
 use crate::marks::Marks;
 use address::Address;
-use idle_branches::{
-    Ends, Glance, given_on, gives_what_is_known, glance_of, offers_behind, touches_shared,
-};
+use idle_branches::{Ends, Glance, given_on, gives_what_is_known, glance_of, offers_behind};
 use local_actions::LocalAction;
 use locked_execution::{Event, Machine, Reply};
 use std::alloc::Global;
 use system::System;
 use system_places::branch_at;
 
-/// Where a branch gives on so many channels at most, all that act on them are woken behind its steps, and what it offers
-/// is not looked at.
+/// Where a look at a branch tells nothing, and it gives on so many channels at most, all that act on them are woken behind
+/// its steps, and what it offers is not listed.
 const FEW_CHANNELS: usize = 16;
 
 /// Who sleeps in a run.
@@ -52,7 +50,8 @@ impl Sleepers {
     }
 
     /// Keeps in mind who sleeps behind this reply to a branch, which the machine gave last: the branch, where it has no
-    /// step; no more those to whom a step may have brought one.
+    /// step; behind a step no more those to whom it may have brought one, and who took part, where a look tells that it
+    /// has none.
     pub(crate) fn note(&mut self, machine: &Machine, ends: &Ends, branch: u32, reply: &Reply)
         ensures { SleepsBehind ends.now machine.now branch reply.now self.old.asleep self.new.asleep }
     {
@@ -63,20 +62,15 @@ impl Sleepers {
         }
     }
 
-    /// Wakes those to whom the event may have brought a step: who took part in it and may have one, who acts on a channel
-    /// whose other side is offered behind it, and all where it is on a shared variable.
+    /// Keeps in mind who sleeps behind the event: both branches that took part are looked at.
     fn settle(&mut self, machine: &Machine, ends: &Ends, event: &Event)
         ensures { SleepBehindEvent ends.now machine.now event.now self.old.asleep self.new.asleep }
     {
-        if touches_shared(machine.checked().system(), event) {
-            self.asleep.wake_all();
-        } else {
-            self.settle_at(machine, ends, &event.first);
-            self.settle_second(machine, ends, &event.second);
-        }
+        self.settle_at(machine, ends, &event.first);
+        self.settle_second(machine, ends, &event.second);
     }
 
-    /// Wakes those to whom a step at the place may have brought one, if there is one.
+    /// The same of a step at the place, if there is one.
     fn settle_second(&mut self, machine: &Machine, ends: &Ends, second: &Option<Address>)
         ensures { SleepBehindPlaces ends.now machine.now (places_of second.now) self.old.asleep self.new.asleep }
     {
@@ -86,7 +80,7 @@ impl Sleepers {
         }
     }
 
-    /// Wakes those to whom a step at the place may have brought one.
+    /// The same of a step at the place.
     fn settle_at(&mut self, machine: &Machine, ends: &Ends, place: &Address)
         ensures { SleepBehindPlaces ends.now machine.now (place.now ∷ []) self.old.asleep self.new.asleep }
     {
@@ -96,32 +90,35 @@ impl Sleepers {
         }
     }
 
-    /// The same, where the place lies in this branch. Where a look at it tells that it has no step, it falls asleep, and
-    /// only those are woken that it faces.
+    /// The same, where the place lies in this branch. Where a look at the branch tells that it has no step, it falls
+    /// asleep, else it is woken; and so are those that it faces: those that the look tells, or all that it may face.
     fn settle_branch(&mut self, machine: &Machine, ends: &Ends, branch: u32, place: &Address)
         requires { branch_at machine.now.checked place.now ≡ Some branch }
         ensures { SleepBehindPlaces ends.now machine.now (place.now ∷ []) self.old.asleep self.new.asleep }
     {
         match glance_at(machine, ends, branch) {
-            Glance::Rests(faced) => self.rest(ends, branch, faced),
-            Glance::Acts => self.asleep.wake(branch),
-            Glance::Open => {
+            Glance::Rests(faced) => {
+                self.wake_faced_on(ends, faced);
+                self.asleep.lull(branch);
+            }
+            Glance::Acts(faced) => {
+                self.wake_faced_on(ends, faced);
+                self.asleep.wake(branch);
+            }
+            Glance::Unknown => {
                 self.asleep.wake(branch);
                 self.wake_faced_at(machine, ends, place);
             }
         }
     }
 
-    /// Lets a branch fall asleep, and wakes who acts on the channel that it faces, if any.
-    fn rest(&mut self, ends: &Ends, branch: u32, faced: Option<u32>)
-        ensures { RestsBut ends.now branch faced self.old.asleep self.new.asleep }
+    /// Wakes who acts on this channel, if there is one.
+    fn wake_faced_on(&mut self, ends: &Ends, faced: Option<u32>)
+        ensures { SleepButThese (acting_on ends.now faced) self.old.asleep self.new.asleep }
     {
         match faced {
-            Some(channel) => {
-                self.wake_on(ends, channel);
-                self.asleep.lull(branch);
-            }
-            None => self.asleep.lull(branch),
+            Some(channel) => self.wake_on(ends, channel),
+            None => {}
         }
     }
 

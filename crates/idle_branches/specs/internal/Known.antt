@@ -96,13 +96,13 @@ abbrev pub FitEach : (ℕ → Known) → ℕ → List Residual → Type 0
 FitEach known k [] = Unit {0}
 FitEach known k (r ∷ rs) = Fits (known k) r × FitEach known (k + 1) rs
 
--- branch k may be the giver, of which nothing is known where there is none
+-- branch k may give on the channel of this entry; where the table has none, any may
 abbrev pub MayBe : Option Giver → ℕ → Type 0
 MayBe None k = Unit {0}
 MayBe (Some Giver.Nobody) k = ⊥
 MayBe (Some (Giver.One j)) k = j ≡ k
 MayBe (Some Giver.Several) k = Unit {0}
 
--- whoever gives on a channel, by this table, may be its giver
+-- whoever gives on a channel, by the second table, may do so by the first
 abbrev pub KnowsGivers : List Giver → List (List ℕ) → Type 0
 KnowsGivers givers giving = (k c : ℕ) → GivesOn giving k c → MayBe (slice_get givers c) k

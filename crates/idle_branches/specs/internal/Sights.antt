@@ -37,7 +37,9 @@ abbrev pub IsSeen : Sight → ActionKind → Type 0
 IsSeen Sight.Nothing action = ⊥
 IsSeen (Sight.Gives c) action = waits_on action ≡ Some c
 IsSeen (Sight.Takes c) action = takes_on action ≡ Some c
-IsSeen Sight.Open action = Unit {0}
+IsSeen Sight.Acts action = given_on action ≡ None
+IsSeen (Sight.Syncs c) action = given_on action ≡ Some c
+IsSeen Sight.Unknown action = Unit {0}
 
 abbrev pub AreSeen : Sight → List LocalAction → Type 0
 AreSeen sight actions = Every (λ x. IsSeen sight x.action) actions

@@ -162,8 +162,3 @@ TellsNow told ends h k = AreEnds h.checked ends → (T : State) → Reaches (obj
 abbrev pub FacesNow : Glance → AtMachine → Place → Type 0
 FacesNow told h a =
     (T : State) (x : LocalAction) → Reaches (object h) T → Offered T x → Before a x.place → IsFaced told x.action
-
--- only who slept before sleeps, but for those that act on this channel, if on any, and branch k
-abbrev pub RestsBut : Ends → ℕ → Option ℕ → List ℕ → List ℕ → Type 0
-RestsBut ends k faced before after =
-    (i : ℕ) → IsAsleep after i → (IsAsleep before i × (In i (acting_on ends faced) → ⊥)) ⊎ (i ≡ k)

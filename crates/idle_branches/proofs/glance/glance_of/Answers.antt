@@ -57,3 +57,17 @@ returns-in-Takes-clause-faced c tidy values a x offer before is =
       | inl acts ↦ subst (λ (g : Glance). IsFaced g x.action) (sym acts) none
       | inr rests ↦ subst (λ (g : Glance). IsFaced g x.action) (sym rests.0) none
     ]
+
+pub returns-in-Syncs-clause-faced : goal.returns-in-Syncs-clause-faced
+returns-in-Syncs-clause-faced c tidy values a x offer before is =
+    let S = state_of c.args.tree.now values in
+    seen-behind-place c.args.system.now S c.args.branch (Sight.Syncs c.in-Syncs.channel) a x
+    (subst (λ (g : Sight). SeenIn c.args.system.now S c.args.branch g) c.in-Syncs.is (c.sight_of_branch.ensures tidy values))
+    offer before is
+
+pub returns-in-Acts-clause-faced : goal.returns-in-Acts-clause-faced
+returns-in-Acts-clause-faced c tidy values a x offer before is =
+    let S = state_of c.args.tree.now values in
+    seen-behind-place c.args.system.now S c.args.branch Sight.Acts a x
+    (subst (λ (g : Sight). SeenIn c.args.system.now S c.args.branch g) c.in-Acts.is (c.sight_of_branch.ensures tidy values))
+    offer before is

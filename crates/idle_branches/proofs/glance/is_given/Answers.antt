@@ -17,5 +17,5 @@ returns-in-One c off tidy h values are run =
     none-gives c.args.system.now c.args.ends.now h (state_of c.args.tree.now values) c.args.channel are run
     (λ g gives x offer at given.
     let same = c.in-One.ensures g (are.givers g c.args.channel gives) in
-    c.is_beside.ensures (is-on c.is_beside.result off) x.action
+    c.gives_none_on.ensures (is-on c.gives_none_on.result off) x.action
     (c.sight_of_branch.ensures tidy values x offer (at ∙ ap (λ (k : ℕ). Some k) (sym same))) given)

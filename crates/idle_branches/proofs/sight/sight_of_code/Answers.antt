@@ -6,7 +6,7 @@ use Rattle.process_tree.specs.View.{code_view}
 use Rattle.process_tree.specs.declared.code.Await.{Await}
 use Rattle.process_tree.proofs.public.Views.{code_await}
 use Rattle.idle_branches.specs.internal.Sights.{Sees}
-use Rattle.idle_branches.proofs.SightLemmas.{sees-open}
+use Rattle.idle_branches.proofs.SightLemmas.{sees-unknown}
 use Rattle.idle_branches.proofs.sight.sight_of_code.Goals as goal
 
 pub returns-in-Await : goal.returns-in-Await
@@ -17,4 +17,4 @@ returns-in-Await c =
     (c.as_slice.ensures ∙ ap (λ (a : Await). a.channels) c.get-in-Await.ensures) (c.sight_of_channels.ensures cs))
 
 pub returns-in_default : goal.returns-in_default
-returns-in_default c = sees-open (started (code_view c.args.code.now))
+returns-in_default c = sees-unknown (started (code_view c.args.code.now))
