@@ -1,13 +1,13 @@
 -- Bytes of one line have as many lines before them.
-use Rattle.std.proofs.Common.{◌≡◌, ◌≢◌, ◌⊎◌, inl, inr, ℕ, zero, suc, ◌+◌, ◌-◌, ◌<◌, ◌≤◌, Bool, false, true, List, length, Some, refl, sym, ◌∙◌, ap, subst, arith}
+use Rattle.std.proofs.Common.{◌≡◌, ◌≢◌, inl, inr, ℕ, zero, suc, ◌+◌, ◌-◌, ◌<◌, ◌≤◌, false, true, List, length, Some, ◌∙◌, ap, subst, arith}
 use Rattle.std.specs.Prelude.{◌==◌, IfOk, Result, Ok, Err, slice_index}
 use Rattle.std.proofs.lemmas.Bool.Decides.{eqb_tells}
 use Rattle.std.proofs.lemmas.List.Sums.{count_by_more_no}
-use Rattle.source_places.specs.Places.{HasNoLine, ends_before, line_end, within}
+use Rattle.source_places.specs.Places.{HasNoLine, ends_before, line_end}
 use Rattle.findings.specs.Marking.{TellsMarked}
 use Rattle.findings.specs.declared.finding.Finding.{Finding}
 use Rattle.findings.specs.declared.finding.Input.{Input}
-use Rattle.diagnosis.specs.Told.{TellsLine, TellsOffset}
+use Rattle.diagnosis.specs.Told.{TellsLine}
 
 is_other : (byte : ℕ) → byte ≢ line_end → (byte == line_end) ≡ false
 is_other byte other = elim (eqb_tells byte line_end) [
@@ -56,11 +56,6 @@ told_in_line input start stop finding told tells from below fits inside some few
   ap (λ n. n + 1) (same_line input.bytes.now start finding.start stop from below fits inside),
   (finding, omega (arith, below, fits), tells),
 )
-
-pub told_at : (input : Input) (keeps : Bool) (offset : ℕ) (finding : Finding) (told : List ℕ)
-    → TellsMarked input.name.now input.bytes.now keeps finding told → finding.start ≡ within input.bytes.now offset
-    → TellsOffset input keeps offset told
-told_at input keeps offset finding told tells is = (finding, is, tells)
 
 -- what is told of whatever comes
 pub whatever : {X E : Type 0} (r : Result X E) (P : X → Type 0) → ((x : X) → P x) → IfOk r P

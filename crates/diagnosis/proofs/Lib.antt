@@ -1,3 +1,4 @@
 mod Clashed
 mod Greater
 mod InLine
+mod Marked

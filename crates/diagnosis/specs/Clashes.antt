@@ -44,8 +44,14 @@ abbrev pub place_of : Option OtherUse → List ℕ
 place_of None = []
 place_of (Some other) = other.offset ∷ []
 
--- beside what it marks, the finding marks the use that clashes with the one at its place, if one is told
-abbrev pub MarksClash : List ℕ → Finding → Finding → Type 0
-MarksClash source old new =
+-- the finding marks beside it the use that clashes with the one at its place, if one is told, and nothing else
+abbrev pub MarksClash : List ℕ → Finding → Type 0
+MarksClash source finding =
+    (found : Option OtherUse) × TellsClash source finding.start found
+    × (marked_at finding.beside.items ≡ place_of found)
+
+-- that use is marked beside what was marked before
+abbrev pub AddsClash : List ℕ → Finding → Finding → Type 0
+AddsClash source old new =
     (found : Option OtherUse) × TellsClash source old.start found
     × (marked_at new.beside.items ≡ marked_at old.beside.items ++ place_of found)

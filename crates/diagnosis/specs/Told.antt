@@ -5,6 +5,7 @@ use Rattle.findings.specs.Marking.{TellsMarked}
 use Rattle.findings.specs.declared.finding.Finding.{Finding}
 use Rattle.findings.specs.declared.finding.Input.{Input}
 use Rattle.source_places.specs.Places.{ends_before, within}
+use Rattle.diagnosis.specs.Clashes.{MarksClash}
 use Rattle.diagnosis.specs.declared.told.Inputs.{Inputs}
 
 -- refusals at an offset of the source
@@ -28,6 +29,13 @@ TellsOffset source keeps offset told =
     (finding : Finding) × (finding.start ≡ within source.bytes.now offset)
     × TellsMarked source.name.now source.bytes.now keeps finding told
 
+-- so it is of a refusal of the source; that of two branches that share a variable marks the use that clashes
+abbrev pub TellsSource : ℕ → Input → ℕ → List ℕ → Type 0
+TellsSource number source offset told =
+    (finding : Finding) × (finding.start ≡ within source.bytes.now offset)
+    × TellsMarked source.name.now source.bytes.now false finding told
+    × (number ≡ 15 → MarksClash source.bytes.now finding)
+
 -- where there is such a line, the text is that of a finding at a byte of it
 abbrev pub TellsLine : Option Input → ℕ → List ℕ → Type 0
 TellsLine None line told = Unit {0}
@@ -36,11 +44,11 @@ TellsLine (Some input) line told =
     (offset : ℕ) × (ends_before input.bytes.now offset + 1 ≡ line) × TellsOffset input true offset told
 
 -- what is told of a refusal of a line, of the first one where none is named, and of one at an offset of the source
-abbrev pub TellsAt : Option ℕ → Inputs → List ℕ → Type 0
-TellsAt None inputs told = Unit {0}
-TellsAt (Some offset) inputs told = TellsOffset inputs.source false offset told
+abbrev pub TellsAt : ℕ → Option ℕ → Inputs → List ℕ → Type 0
+TellsAt number None inputs told = Unit {0}
+TellsAt number (Some offset) inputs told = TellsSource number inputs.source offset told
 
 abbrev pub TellsFault : ℕ → Option ℕ → Inputs → List ℕ → Type 0
 TellsFault number field inputs told =
     MatchBool (is_of_line number) (TellsLine (input_of number inputs) (unwrap_or field 1) told)
-    (IsTrue (is_at_offset number) → TellsAt field inputs told)
+    (IsTrue (is_at_offset number) → TellsAt number field inputs told)

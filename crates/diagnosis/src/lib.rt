@@ -1,10 +1,12 @@
 //! What people are told of a fault: where it is, the line with a mark under it, what is wrong and what helps.
 //!
 //! A fault is a number and what stands behind it, as the fault line has them. That the text begins with the place of the
-//! fault, and shows the lines with marks, is proved of `explain`; its words are tested.
+//! fault, shows the lines with marks, and marks the use that clashes with one of a variable, is proved of `explain`; its
+//! words are tested.
 #![tactic(auto)]
 
-ghost use Rattle.std.specs.Prelude.{◌≡◌, false, IfOk, IsTrue, string_bytes};
+ghost use Rattle.std.specs.Prelude.{◌≡◌, IfOk, IsTrue, OnOk, string_bytes};
+ghost use Rattle.diagnosis.specs.Clashes.{AddsClash};
 ghost use Rattle.diagnosis.specs.Told as model;
 
 mod clash;
@@ -29,8 +31,9 @@ use std::alloc::{AllocError, Global};
 pub use told::{Inputs, Unread, UnreadFile};
 
 /// What is told of a fault behind its line: nothing, or lines that each have their end. `number` and `field` are those
-/// of the fault. The first line has the place of the fault, and behind it come lines of the text with marks. Where the text in which it is is not at hand, the page of
-/// the refusal alone is named. It is an error if there is no memory.
+/// of the fault. The first line has the place of the fault, and behind it come lines of the text with marks: of two
+/// branches that share a variable, the use that clashes with the one at the place is marked beside it. Where the text in
+/// which it is is not at hand, the page of the refusal alone is named. It is an error if there is no memory.
 pub fn explain(
     alloc: Global,
     number: u32,
@@ -52,7 +55,7 @@ fn explain_at(
     field: Option<u64>,
     inputs: &Inputs<'_>,
 ) -> Result<String, AllocError>
-    ensures { IfOk result (λ told. IsTrue (model.is_at_offset number) → model.TellsAt field inputs.now
+    ensures { IfOk result (λ told. IsTrue (model.is_at_offset number) → model.TellsAt number field inputs.now
         (string_bytes told)) }
 {
     match field {
@@ -88,15 +91,22 @@ fn explain_source(
     offset: u64,
     source: Input<'_>,
 ) -> Result<String, AllocError>
-    ensures { IfOk result (λ told. model.TellsOffset source.entry false offset (string_bytes told)) }
+    ensures { IfOk result (λ told. model.TellsSource number source.entry offset (string_bytes told)) }
 {
     let offset = offset.min(source.bytes.len() as u64);
     let mut finding = Finding::new(alloc, offset, offset);
-    match number {
-        2..=4 => words::find(source.bytes, number, &mut finding)?,
-        5 | 6 => grammar::find(source.bytes, number, &mut finding)?,
-        _ => described::find(source.bytes, number, &mut finding)?,
-    }
+    find(source.bytes, number, &mut finding)?;
     finding.start = offset;
     finding.text(source, false)
+}
+
+/// What was found about a fault of the source at the finding's place.
+fn find(source: &[u8], number: u32, finding: &mut Finding) -> Result<(), AllocError>
+    ensures { number ≡ 15 → OnOk result (AddsClash source.now finding.old finding.new) }
+{
+    match number {
+        2..=4 => words::find(source, number, finding),
+        5 | 6 => grammar::find(source, number, finding),
+        _ => described::find(source, number, finding),
+    }
 }

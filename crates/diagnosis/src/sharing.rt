@@ -1,6 +1,6 @@
 // Refusals 15 and 16: what branches share.
-ghost use Rattle.std.specs.Prelude.{◌≡◌, IfOk};
-ghost use Rattle.diagnosis.specs.Clashes.{MarksClash};
+ghost use Rattle.std.specs.Prelude.{◌≡◌, OnOk};
+ghost use Rattle.diagnosis.specs.Clashes.{AddsClash};
 
 use crate::clash::clashing_use;
 use branch_uses::{ChannelUses, Side, channel_uses};
@@ -18,7 +18,9 @@ pub fn find(
     description: &Description,
     number: u32,
     finding: &mut Finding,
-) -> Result<(), AllocError> {
+) -> Result<(), AllocError>
+    ensures { number ≡ 15 → OnOk result (AddsClash source.now finding.old finding.new) }
+{
     finding.stop = token_at(tokens, finding.start).stop;
     if number == 15 {
         return find_variable(source, tokens, finding);
@@ -43,7 +45,9 @@ fn token_at(tokens: &[Token], offset: u64) -> Span
 }
 
 /// A variable that is written in one branch and used in another.
-fn find_variable(source: &[u8], tokens: &[Token], finding: &mut Finding) -> Result<(), AllocError> {
+fn find_variable(source: &[u8], tokens: &[Token], finding: &mut Finding) -> Result<(), AllocError>
+    ensures { OnOk result (AddsClash source.now finding.old finding.new) }
+{
     let name = text_between(source, finding.start, finding.stop);
     finding.say(&[
         "two branches that run side by side use `",
@@ -60,7 +64,7 @@ fn find_variable(source: &[u8], tokens: &[Token], finding: &mut Finding) -> Resu
 
 /// Marks the use that clashes with the one at the finding's place.
 fn mark_clash(source: &[u8], tokens: &[Token], finding: &mut Finding) -> Result<(), AllocError>
-    ensures { IfOk result (λ _. MarksClash source.now finding.old finding.new) }
+    ensures { OnOk result (AddsClash source.now finding.old finding.new) }
 {
     match clashing_use(finding.alloc, source, finding.start)? {
         Some(other) => finding.add_beside(token_at(tokens, other.offset), clash_text(other)),

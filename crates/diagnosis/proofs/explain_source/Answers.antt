@@ -1,9 +1,10 @@
-use Rattle.std.proofs.Common.{◌≡◌, false, rules, arith}
+use Rattle.std.proofs.Common.{string_bytes, rules, arith}
 use Rattle.std.proofs.lemmas.Result.{IfOk-weaker}
-use Rattle.diagnosis.proofs.InLine.{starts_at, told_at}
+use Rattle.diagnosis.proofs.Marked.{told_source}
 use Rattle.diagnosis.proofs.explain_source.Goals as goal
 
 pub returns : goal.returns
 returns c = IfOk-weaker c.text.result _ _
-    (λ told tells. told_at c.args.source false c.args.offset (starts_at c.min-offset.result c.if-number-lt2.finding) _
-    tells (first_of (omega arith, cc, search rules))) c.text.ensures.marks
+    (λ told tells. told_source c.args.number c.args.source c.args.offset c.min-offset.result (string_bytes told)
+    c.new-finding.result c.find.new.finding c.new-finding.ensures.place.0 c.new-finding.ensures.bare
+    c.in_ok-find.ensures (first_of (omega arith, cc, search rules)) tells) c.text.ensures.marks
