@@ -1,5 +1,5 @@
 -- A branch that has no step has none behind an event that cannot bring it one.
-use Rattle.std.proofs.Common.{◌≡◌, ◌⊎◌, inl, inr, ℕ, List, [], ◌∷◌, ◌++◌, Bool, true, false, Option, Some, None, if◌then◌else◌, length, refl, sym, ap, ◌∙◌, subst}
+use Rattle.std.proofs.Common.{◌≡◌, ◌⊎◌, inl, inr, ℕ, List, [], ◌∷◌, Bool, true, false, Option, Some, None, if◌then◌else◌, length, refl, sym, ap, ◌∙◌, subst}
 use Rattle.std.specs.Prelude.{nat_lt, ◌==◌, ◌+◌, ◌*◌, cond}
 use Rattle.address.specs.Places.{Apart, Before}
 use Rattle.address.specs.declared.Entry.TheVariants.{Ordered, Branch}
@@ -12,7 +12,7 @@ use Rattle.system_places.specs.SystemBranches.{parallel_of, branch_at, branch_of
 use Rattle.runs.specs.Moves.{Place, Move, Local, assigns, tests, turns, sends, receives, syncs, opens, releases, closes}
 use Rattle.runs.specs.Dependence.{SomeBefore}
 use Rattle.runs.specs.Events.{Located, at, Makes, assigning, testing, turning, meeting, opening as opens_with_data, opening_without_data, shutting, syncing, acting, places, sent, store_after}
-use Rattle.runs.specs.Steps.{Allowed, Moves, State, Run, opening}
+use Rattle.runs.specs.Steps.{Allowed, Moves, State, opening}
 use Rattle.runs.specs.WellFormed.{WellFormed}
 use Rattle.runs.specs.declared.event.Event.{Event}
 use Rattle.runs.proofs.public.AtOnce.{Offers, OffersAll, offered, offered_before}

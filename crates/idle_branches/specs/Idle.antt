@@ -1,5 +1,5 @@
 -- Branches that have no step.
-use Rattle.std.specs.Prelude.{◌≡◌, ℕ, List, Option, None, Some, true}
+use Rattle.std.specs.Prelude.{◌≡◌, ℕ, List, Option, None, Some}
 use Rattle.address.specs.Places.{Before}
 use Rattle.syntax.specs.Lists.{In}
 use Rattle.system.specs.declared.system.System.{System}
