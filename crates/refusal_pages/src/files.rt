@@ -27,7 +27,7 @@ pub static BAD_LINE: Page = Page {
     told: "\
 balsadbg trace 2
 step /0.0/0
-^                                refused 32 2: write step /0.0/0 0",
+\x20          ^                      refused 32 2",
     causes: "\
 a file that is cut off inside a line (a cut between two lines is
 not seen), line ends from Windows where the first line alone is right, an empty
@@ -111,7 +111,7 @@ for its port.",
     told: "\
 i = 5
 i = 7
-^                                refused 51 2: write i = 5 7",
+^                                refused 51 2",
     causes: "\
 a second line for one port, where all its values belong on one
 (`i = 5 7`); a name that is that of a port in another procedure than the last;

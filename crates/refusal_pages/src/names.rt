@@ -87,9 +87,10 @@ pub static PORT_MISMATCH: Page = Page {
 The arguments differ from the ports in number, direction or width, or one
 channel stands twice. The byte is that of the called name.",
     source: "\
-procedure q (sync s) is begin sync s end procedure p is begin q () end",
+procedure q (sync s) is begin sync s end
+procedure p is begin q () end",
     told: "\
-\x20                                                             ^   refused 13 62",
+\x20                    ^            refused 13 62",
     causes: "\
 an argument that was left out, two arguments that were exchanged,
 or a channel that is a bit wider than the port.",
@@ -104,9 +105,10 @@ Inside an arm that is open on a channel, its name is the value that was
 received; any other use of it is refused. A sync carries no value, so inside
 its arm each use is.",
     source: "\
-procedure p (input i : 8 bits) is variable x : 8 bits begin i -> then i -> x end end",
+procedure p (input i : 8 bits) is variable x : 8 bits begin
+i -> then i -> x end end",
     told: "\
-\x20                                                                     ^   refused 17 70",
+\x20         ^                       refused 17 70",
     causes: "\
 receiving once more inside the arm, where the name itself is
 meant, or reading a sync as a value.",
