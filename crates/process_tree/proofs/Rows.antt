@@ -1,4 +1,4 @@
--- The rows of the examples of docs/semantics.md, on the tree.
+-- The rows of the examples of docs/theory/examples.md, on the tree.
 use Rattle.std.proofs.Common.{◌≡◌, true, false, List, [], ◌∷◌, Option, Some, None, refl}
 use Rattle.std.specs.Option.{option_and_then}
 use Rattle.address.specs.declared.Entry.TheVariants.{Ordered, Branch}
