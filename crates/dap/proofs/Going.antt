@@ -1,6 +1,8 @@
 -- What a session keeps.
 use Rattle.std.proofs.Common.{ℕ, codes, ◌≡◌, ◌⊎◌, ◌||◌, ◌&&◌, List, Bool, true, false, Option, None, Some, inl, inr, refl, sym, ◌∙◌, ap, subst}
+use Rattle.serde_json.specs.Data.{Data}
 use Rattle.serde_json.specs.View.{view}
+use Rattle.system.specs.declared.command.Command.{Command}
 use Rattle.system_places.specs.SystemBranches.{branch_count}
 use Rattle.runs.specs.Choices.{choice_of}
 use Rattle.runs.specs.declared.event.Choice.{Choice}
@@ -21,6 +23,7 @@ use Rattle.dap_moves.specs.declared.run.Ended.{Ended}
 use Rattle.dap_moves.proofs.public.Leading.{led_nowhere}
 use Rattle.dap_requests.specs.Forth.{Going, RunsBy, stop_at}
 use Rattle.dap_requests.specs.Said.{Runs, TellsStop}
+use Rattle.dap_requests.specs.Sets.{PlacesAsked, Stays, is_own, items_named, lines_asked, path_in}
 use Rattle.dap_requests.specs.Typed.{Evaluates, KeepsSome, is_typed}
 use Rattle.dap_requests.proofs.public.Saying.{runs_after, runs_weaker}
 use Rattle.dap_server.specs.Kinds.{moves}
@@ -29,11 +32,13 @@ use Rattle.dap_views.specs.Kept.{unseen}
 use Rattle.dap_views.specs.declared.program.Memo.{Memo}
 use Rattle.dap_views.specs.declared.program.Program.{Program}
 use Rattle.dap_views.specs.declared.sight.Sight.{Sight}
+use Rattle.dap.specs.Anew.{excepting}
+use Rattle.dap.specs.Asking.{Asks, IsAsked}
 use Rattle.dap.specs.Begins.{Begins, EndsFree}
-use Rattle.dap.specs.Goes.{Goes, IsSound, LaunchedGoes, Restarts}
+use Rattle.dap.specs.Goes.{Goes, GoesOn, IsSound, LaunchedGoes, Restarts}
 use Rattle.dap.specs.Kinds.{asks, changes}
 use Rattle.dap.specs.Launching.{IsBegun}
-use Rattle.dap.specs.Sets.{Sets}
+use Rattle.dap.specs.Sets.{Sets, SetsBy}
 use Rattle.dap.specs.Steps.{Forward, Steps, thread_of}
 use Rattle.dap.specs.declared.launch.Launched.{Launched}
 
@@ -71,10 +76,10 @@ steps_forward a b program before after d d' kind request one two three four h =
     (λ (stop : Stop) it. forward-as program before after d d' kind request stop one two three four it) h
 
 -- one that only stops
-pub pauses : (a b : Answer) (d : AtDesk) → Runs a b d d (λ (stop : Stop). stop ≡ Stop.Stands) →
-    Runs a b d d (λ (stop : Stop). (stop ≡ Stop.Stands) × (d ≡ d))
+pub pauses : (a b : Answer) (d : AtDesk) → Runs a b d d (λ (stop : Stop). stop ≡ Stop.Pause) →
+    Runs a b d d (λ (stop : Stop). (stop ≡ Stop.Pause) × (d ≡ d))
 pauses a b d h =
-    runs_weaker a b d d (λ (stop : Stop). stop ≡ Stop.Stands) (λ (stop : Stop). (stop ≡ Stop.Stands) × (d ≡ d)) (λ stop is. (is, refl)) h
+    runs_weaker a b d d (λ (stop : Stop). stop ≡ Stop.Pause) (λ (stop : Stop). (stop ≡ Stop.Pause) × (d ≡ d)) (λ stop is. (is, refl)) h
 
 -- what is kept in mind
 pub keeps_same : (b : Answer) (before : List Choice) → KeepsSome b before before
@@ -97,25 +102,31 @@ pub keeps_run : (going : Going) (k : Option ℕ) (d d' : AtDesk) (before after :
 keeps_run going k d d' before after a b h = keeps-ended going.excepts going.lines d' b before after h.0 h.2.ended h.1.effect h.2.told h.2.keeps
 
 -- a request to move sets nothing
-sets-moving : (kind : Kind) (p : Program) → moves kind ≡ true → Sets kind p p
-sets-moving Kind.SetBreakpoints p is = absurd (cc)
-sets-moving Kind.SetDataBreakpoints p is = absurd (cc)
-sets-moving Kind.SetExceptionBreakpoints p is = absurd (cc)
-sets-moving Kind.Terminate p is = absurd (cc)
-sets-moving Kind.ConfigurationDone p is = absurd (cc)
-sets-moving _ p is = refl
+moves-none : (kind : Kind) (d : Data) (c : Command) (p : Program) (b : Answer) → moves kind ≡ true → SetsBy kind d c p b p
+moves-none Kind.SetBreakpoints d c p b is = absurd (cc)
+moves-none Kind.SetDataBreakpoints d c p b is = absurd (cc)
+moves-none Kind.SetExceptionBreakpoints d c p b is = absurd (cc)
+moves-none Kind.Terminate d c p b is = absurd (cc)
+moves-none Kind.ConfigurationDone d c p b is = absurd (cc)
+moves-none _ d c p b is = refl
+
+sets-moving : (request : Request) (c : Command) (p : Program) (b : Answer) → moves request.kind ≡ true → Sets request c p b p
+sets-moving request c p b is = inl (moves-none request.kind (view request.arguments) c p b is)
 
 pub ends_same : (p : Program) → EndsFree p p
 ends_same p = record { same = refl; debugged = λ free. refl }
 
 -- nor does one that asks, where it is not done
-sets-asking : (kind : Kind) (p : Program) → asks kind ≡ true → Sets kind p p
-sets-asking Kind.SetBreakpoints p is = absurd (cc)
-sets-asking Kind.SetDataBreakpoints p is = absurd (cc)
-sets-asking Kind.SetExceptionBreakpoints p is = absurd (cc)
-sets-asking Kind.Terminate p is = absurd (cc)
-sets-asking Kind.ConfigurationDone p is = ends_same p
-sets-asking _ p is = refl
+asks-none : (kind : Kind) (d : Data) (c : Command) (p : Program) (b : Answer) → asks kind ≡ true → SetsBy kind d c p b p
+asks-none Kind.SetBreakpoints d c p b is = absurd (cc)
+asks-none Kind.SetDataBreakpoints d c p b is = absurd (cc)
+asks-none Kind.SetExceptionBreakpoints d c p b is = absurd (cc)
+asks-none Kind.Terminate d c p b is = absurd (cc)
+asks-none Kind.ConfigurationDone d c p b is = ends_same p
+asks-none _ d c p b is = refl
+
+sets-asking : (request : Request) (c : Command) (p : Program) (b : Answer) → asks request.kind ≡ true → Sets request c p b p
+sets-asking request c p b is = inl (asks-none request.kind (view request.arguments) c p b is)
 
 -- where nobody debugs it, it is over
 pub ends_free : (p : Program) → p.launch.free ≡ true → EndsFree p (record p { begun = true; ended = true })
@@ -125,18 +136,24 @@ pub begins_only : (p : Program) → EndsFree p (record p { begun = true })
 begins_only p = record { same = refl; debugged = λ not. refl }
 
 -- what only shows sets nothing
-pub sets_none : (kind : Kind) (p : Program) → (kind ≡ Kind.SetBreakpoints → ⊥) → (kind ≡ Kind.SetDataBreakpoints → ⊥) →
-    (kind ≡ Kind.SetExceptionBreakpoints → ⊥) → (kind ≡ Kind.Terminate → ⊥) → Sets kind p p
-sets_none Kind.SetBreakpoints p one two three four = absurd (one refl)
-sets_none Kind.SetDataBreakpoints p one two three four = absurd (two refl)
-sets_none Kind.SetExceptionBreakpoints p one two three four = absurd (three refl)
-sets_none Kind.Terminate p one two three four = absurd (four refl)
-sets_none Kind.ConfigurationDone p one two three four = ends_same p
-sets_none _ p one two three four = refl
+shows-none : (kind : Kind) (d : Data) (c : Command) (p : Program) (b : Answer) → (kind ≡ Kind.SetBreakpoints → ⊥) → (kind ≡ Kind.SetDataBreakpoints → ⊥) →
+    (kind ≡ Kind.SetExceptionBreakpoints → ⊥) → (kind ≡ Kind.Terminate → ⊥) → SetsBy kind d c p b p
+shows-none Kind.SetBreakpoints d c p b one two three four = absurd (one refl)
+shows-none Kind.SetDataBreakpoints d c p b one two three four = absurd (two refl)
+shows-none Kind.SetExceptionBreakpoints d c p b one two three four = absurd (three refl)
+shows-none Kind.Terminate d c p b one two three four = absurd (four refl)
+shows-none Kind.ConfigurationDone d c p b one two three four = ends_same p
+shows-none _ d c p b one two three four = refl
+
+pub sets_none : (request : Request) (c : Command) (p : Program) (b : Answer) → (request.kind ≡ Kind.SetBreakpoints → ⊥) →
+    (request.kind ≡ Kind.SetDataBreakpoints → ⊥) → (request.kind ≡ Kind.SetExceptionBreakpoints → ⊥) → (request.kind ≡ Kind.Terminate → ⊥) →
+    Sets request c p b p
+sets_none request c p b one two three four = inl (shows-none request.kind (view request.arguments) c p b one two three four)
 
 -- a request of a known kind sets what that does
-pub sets_as : (kind known : Kind) (p q : Program) → kind ≡ known → Sets known p q → Sets kind p q
-sets_as kind known p q is h = subst (λ (k : Kind). Sets k p q) (sym is) h
+pub sets_as : (request : Request) (known : Kind) (c : Command) (p q : Program) (b : Answer) → request.kind ≡ known →
+    SetsBy known (view request.arguments) c p b q → Sets request c p b q
+sets_as request known c p q b is h = inl (subst (λ (k : Kind). SetsBy k (view request.arguments) c p b q) (sym is) h)
 
 -- what is held back where it is over
 pub held_is : (over moving asking : Bool) → (over && (moving || asking)) ≡ true → (moving ≡ true) ⊎ (asking ≡ true)
@@ -159,13 +176,44 @@ asks_still Kind.Evaluate is = refl
 asks_still _ is = absurd (cc)
 
 -- what is shown does not matter
-sets-unseen : (kind : Kind) (p q : Program) → Sets kind p q → Sets kind (unseen p) (unseen q)
-sets-unseen Kind.SetBreakpoints p q h = ap unseen h
-sets-unseen Kind.SetDataBreakpoints p q h = ap unseen h
-sets-unseen Kind.SetExceptionBreakpoints p q h = ap unseen h
-sets-unseen Kind.Terminate p q h = elim h [ inl ended ↦ inl (ap unseen ended) | inr same ↦ inr (ap unseen same) ]
-sets-unseen Kind.ConfigurationDone p q h = record { same = ap unseen h.same; debugged = h.debugged }
-sets-unseen _ p q h = ap unseen h
+stays-unseen : {A : Type 0} (asked : Option A) (p q : Program) (b : Answer) → Stays asked p b q → Stays asked (unseen p) b (unseen q)
+stays-unseen asked p q b h = (ap unseen h.0, h.1)
+
+lines-unseen : (d : Data) (c : Command) (p q : Program) (b : Answer) (own : Bool) → PlacesAsked own c d p b q →
+    PlacesAsked own c d (unseen p) b (unseen q)
+lines-unseen d c p q b own h = elim h [
+  | inl still ↦ inl (stays-unseen (lines_asked d) p q b still)
+  | inr anew ↦ inr (
+    anew.0,
+    anew.1,
+    record {
+      placed = anew.2.placed;
+      last = anew.2.last;
+      elsewhere = anew.2.elsewhere;
+      same = ap unseen anew.2.same;
+    },
+  )
+]
+
+by-unseen : (kind : Kind) (d : Data) (c : Command) (p q : Program) (b : Answer) → SetsBy kind d c p b q → SetsBy kind d c (unseen p) b (unseen q)
+by-unseen Kind.SetBreakpoints d c p q b h = elim h [
+  | inl other ↦ inl (other.0, ap unseen other.1)
+  | inr set ↦ inr (set.0, lines-unseen d c p q b (is_own p (path_in d)) set.1)
+]
+by-unseen Kind.SetDataBreakpoints d c p q b h = elim h [
+  | inl still ↦ inl (stays-unseen (items_named (codes "breakpoints") d) p q b still)
+  | inr only ↦ inr (only.0, only.1, (only.2.0, ap unseen only.2.1))
+]
+by-unseen Kind.SetExceptionBreakpoints d c p q b h = ap unseen h
+by-unseen Kind.Terminate d c p q b h = elim h [ inl ended ↦ inl (ap unseen ended) | inr same ↦ inr (ap unseen same) ]
+by-unseen Kind.ConfigurationDone d c p q b h = record { same = ap unseen h.same; debugged = h.debugged }
+by-unseen _ d c p q b h = ap unseen h
+
+sets-unseen : (request : Request) (c : Command) (p q : Program) (b : Answer) → Sets request c p b q → Sets request c (unseen p) b (unseen q)
+sets-unseen request c p q b h = elim h [
+  | inl set ↦ inl (by-unseen request.kind (view request.arguments) c p q b set)
+  | inr refused ↦ inr (refused.0, ap unseen refused.1)
+]
 
 -- a kind that moves is no other
 not-both : (kind known : Kind) → moves kind ≡ true → moves known ≡ false → kind ≡ known → ⊥
@@ -202,13 +250,13 @@ moves_goes l request a b d' memo is over led goes keeps = record {
   moved = λ it. goes;
   begins = λ same. absurd (not-both request.kind Kind.ConfigurationDone is refl same);
   evaluates = λ same. absurd (not-both request.kind Kind.Evaluate is refl same);
-  sets = sets-moving request.kind (unseen l.program) is;
+  sets = sets-moving request l.desk.machine.checked.main (unseen l.program) b is;
   keeps = keeps;
 }
 
 -- one that only reads the desk
 pub look_goes : (l : Launched) (request : Request) (a b : Answer) (q : Program) → moves request.kind ≡ false → asks request.kind ≡ false →
-    Sets request.kind l.program q → LaunchedGoes l request a b (record { program = q; memo = l.memo; desk = l.desk })
+    Sets request l.desk.machine.checked.main l.program b q → LaunchedGoes l request a b (record { program = q; memo = l.memo; desk = l.desk })
 look_goes l request a b q still none sets = record {
   led = led_nowhere l.desk;
   reads = λ reads. refl;
@@ -217,8 +265,8 @@ look_goes l request a b q still none sets = record {
   looks = λ same typed. refl;
   moved = λ is. let no : true ≡ false = sym is ∙ still in absurd (cc);
   begins = λ same. absurd (not-asked request.kind Kind.ConfigurationDone none refl same);
-  evaluates = λ same. inl refl;
-  sets = sets-unseen request.kind l.program q sets;
+  evaluates = λ same. absurd (not-asked request.kind Kind.Evaluate none refl same);
+  sets = sets-unseen request l.desk.machine.checked.main l.program q b sets;
   keeps = keeps_same b l.memo.seen.items;
 }
 
@@ -233,15 +281,15 @@ over_goes l request a b is refused same = record {
   looks = λ same typed. refl;
   moved = λ it. inl (refused, same, refl);
   begins = λ it. inl (refused, same, refl);
-  evaluates = λ it. inl refl;
-  sets = elim is [ inl moving ↦ sets-moving request.kind (unseen l.program) moving | inr asking ↦ sets-asking request.kind (unseen l.program) asking ];
+  evaluates = λ it. inl (refl, same);
+  sets = inr (refused, refl);
   keeps = keeps_same b l.memo.seen.items;
 }
 
 -- an expression
 pub typed_goes : (l : Launched) (request : Request) (a b : Answer) (d' : AtDesk) (memo : Memo) → asks request.kind ≡ true →
     (request.kind ≡ Kind.ConfigurationDone → ⊥) → l.program.ended ≡ false → moves request.kind ≡ false → Led l.desk d' →
-    (is_typed request ≡ false → d' ≡ l.desk) → Evaluates l.desk d' → (d' ≡ l.desk) ⊎ (IsDone a.outcome → IsDone b.outcome) →
+    (is_typed request ≡ false → d' ≡ l.desk) → Evaluates l.program request l.desk a b d' → (d' ≡ l.desk) ⊎ (IsDone a.outcome → IsDone b.outcome) →
     KeepsSome b l.memo.seen.items memo.seen.items → LaunchedGoes l request a b (record { program = l.program; memo = memo; desk = d' })
 typed_goes l request a b d' memo asking other running still led looks does refused keeps = record {
   led = led;
@@ -254,7 +302,7 @@ typed_goes l request a b d' memo asking other running still led looks does refus
   moved = λ is. let no : true ≡ false = sym is ∙ still in absurd (cc);
   begins = λ same. absurd (other same);
   evaluates = λ same. does;
-  sets = sets-asking request.kind (unseen l.program) asking;
+  sets = sets-asking request l.desk.machine.checked.main (unseen l.program) b asking;
   keeps = keeps;
 }
 
@@ -288,8 +336,8 @@ begins_goes l m request a b is running led begins sets keeps = record {
   begins = λ it. begun-refused l m a b begins;
   evaluates = λ same. let no : Kind.ConfigurationDone ≡ Kind.Evaluate = sym is ∙ same in absurd (cc);
   sets =
-      subst (λ (k : Kind). Sets k (unseen l.program) (unseen m.program)) (sym is)
-      (sets-unseen Kind.ConfigurationDone l.program m.program sets);
+      sets-unseen request l.desk.machine.checked.main l.program m.program b
+      (sets_as request Kind.ConfigurationDone l.desk.machine.checked.main l.program m.program b is sets);
   keeps = keeps;
 }
 
@@ -341,60 +389,73 @@ runs_in_thread a m b d d' machine request found k goes same is some answer h =
 
 -- what comes of a request that is no move where nothing changes
 same : (x : Option Launched) (request : Request) (a b : Answer) → moves request.kind ≡ false → asks request.kind ≡ false →
-    ((l : Launched) → x ≡ Some l → Sets request.kind l.program l.program) → Goes x request a b x
+    ((l : Launched) → x ≡ Some l → Sets request l.desk.machine.checked.main l.program b l.program) → GoesOn x request a b x
 same None request a b still none sets = tt
-same (Some l) request a b still none sets = inr (look_goes l request a b l.program still none (sets l refl))
+same (Some l) request a b still none sets = look_goes l request a b l.program still none (sets l refl)
 
 -- what is launched goes on
 pub goes_on : (x y : Option Launched) (l m : Launched) (request : Request) (a b : Answer) → x ≡ Some l → y ≡ Some m → LaunchedGoes l request a b m →
-    Goes x request a b y
+    GoesOn x request a b y
 goes_on x y l m request a b is there h =
-    let to : Goes (Some l) request a b (Some m) = inr h in
-    subst (λ (z : Option Launched). Goes z request a b y) (sym is) (subst (λ (z : Option Launched). Goes (Some l) request a b z) (sym there) to)
+    let to : GoesOn (Some l) request a b (Some m) = h in
+    subst (λ (z : Option Launched). GoesOn z request a b y) (sym is) (subst (λ (z : Option Launched). GoesOn (Some l) request a b z) (sym there) to)
 
 -- it goes on, or is begun anew
-pub goes_anew : (x y : Option Launched) (l m : Launched) (request : Request) (a b : Answer) → x ≡ Some l → y ≡ Some m →
-    ((request.kind ≡ Kind.Restart) × Restarts l b m) ⊎ LaunchedGoes l request a b m → Goes x request a b y
-goes_anew x y l m request a b is there h =
-    let to : Goes (Some l) request a b (Some m) = h in
-    subst (λ (z : Option Launched). Goes z request a b y) (sym is) (subst (λ (z : Option Launched). Goes (Some l) request a b z) (sym there) to)
+pub goes_anew : (reads : List ℕ → Option (List ℕ) → Type 0) (x y : Option Launched) (l m : Launched) (request : Request) (a b : Answer) →
+    x ≡ Some l → y ≡ Some m → ((request.kind ≡ Kind.Restart) × Restarts reads l request b m) ⊎ LaunchedGoes l request a b m →
+    Goes reads x request a b y
+goes_anew reads x y l m request a b is there h =
+    let to : Goes reads (Some l) request a b (Some m) = elim h [ inl anew ↦ inr anew | inr on ↦ inl on ] in
+    subst (λ (z : Option Launched). Goes reads z request a b y) (sym is)
+    (subst (λ (z : Option Launched). Goes reads (Some l) request a b z) (sym there) to)
 
 -- nothing was launched, and still nothing is
-pub goes_none : (x y : Option Launched) (request : Request) (a b : Answer) → x ≡ None → y ≡ None → Goes x request a b y
-goes_none x y request a b is there =
-    let to : Goes None request a b None = tt in
-    subst (λ (z : Option Launched). Goes z request a b y) (sym is) (subst (λ (z : Option Launched). Goes None request a b z) (sym there) to)
+pub goes_none : (x y : Option Launched) (request : Request) (a b : Answer) → x ≡ None → y ≡ x → GoesOn x request a b y
+goes_none x y request a b is same =
+    let to : GoesOn None request a b None = tt in
+    subst (λ (z : Option Launched). GoesOn z request a b y) (sym is)
+    (subst (λ (z : Option Launched). GoesOn None request a b z) (sym (same ∙ is)) to)
 
--- the same by what was launched before
-pub goes_none_on : (x y : Option Launched) (request : Request) (a b : Answer) → x ≡ None → y ≡ x → Goes x request a b y
-goes_none_on x y request a b is same = goes_none x y request a b is (same ∙ is)
+-- what is begun is so too where refusals stop as exceptions or not
+begun-excepting : (reads : List ℕ → Option (List ℕ) → Type 0) (asked : Asks) (excepts : Bool) (l : Launched) → IsBegun reads asked l →
+    IsBegun reads asked (excepting excepts l)
+begun-excepting reads asked excepts l h = record {
+  source = h.source;
+  stimulus = h.stimulus;
+  trace = h.trace;
+  read = h.read;
+  machine = h.machine;
+  begins = h.begins;
+  fresh = record {
+    unset = record {
+      launch = h.fresh.unset.launch;
+      text = h.fresh.unset.text;
+      lines = h.fresh.unset.lines;
+      stops = h.fresh.unset.stops;
+      watched = h.fresh.unset.watched;
+      waits = h.fresh.unset.waits;
+      lasts = h.fresh.unset.lasts;
+    };
+    seen = h.fresh.seen;
+    desk = h.fresh.desk;
+  };
+}
 
 -- something is launched
-pub goes_new : (x y : Option Launched) (m : Launched) (request : Request) (a b : Answer) → x ≡ None → y ≡ Some m → request.kind ≡ Kind.Launch →
-    IsBegun m.desk → Goes x request a b y
-goes_new x y m request a b is there launches begun =
-    let to : Goes None request a b (Some m) = (launches, begun) in
-    subst (λ (z : Option Launched). Goes z request a b y) (sym is) (subst (λ (z : Option Launched). Goes None request a b z) (sym there) to)
-
--- the same by what keeps it
-pub goes_launched : (x y : Option Launched) (request : Request) (a b : Answer) (desk : AtDesk) → x ≡ None → request.kind ≡ Kind.Launch → IsBegun desk →
-    (kept : Launched) × (y ≡ Some kept) × (kept.desk ≡ desk) → Goes x request a b y
-goes_launched x y request a b desk none launches begun h =
-    goes_new x y h.0 request a b none h.1 launches (subst (λ (d : AtDesk). IsBegun d) (sym h.2) begun)
+pub goes_launched : (reads : List ℕ → Option (List ℕ) → Type 0) (x y : Option Launched) (request : Request) (a b : Answer) (excepts : Bool)
+    (l : Launched) (arguments : Data) → arguments ≡ view request.arguments → x ≡ None → request.kind ≡ Kind.Launch →
+    (asked : Asks) × IsAsked arguments asked × IsBegun reads asked l → y ≡ Some (excepting excepts l) → Goes reads x request a b y
+goes_launched reads x y request a b excepts l arguments same none launches h there =
+    let to : Goes reads None request a b (Some (excepting excepts l)) =
+    inr (launches, (h.0, subst (λ (d : Data). IsAsked d h.0) same h.1, begun-excepting reads h.0 excepts l h.2)) in
+    subst (λ (z : Option Launched). Goes reads z request a b y) (sym none)
+    (subst (λ (z : Option Launched). Goes reads None request a b z) (sym there) to)
 
 -- what is refused changes nothing
-sets-still : (kind : Kind) (p : Program) → Sets kind p p
-sets-still Kind.SetBreakpoints p = refl
-sets-still Kind.SetDataBreakpoints p = refl
-sets-still Kind.SetExceptionBreakpoints p = refl
-sets-still Kind.Terminate p = inr refl
-sets-still Kind.ConfigurationDone p = ends_same p
-sets-still _ p = refl
-
 pub refused_goes : (x : Option Launched) (request : Request) (a b : Answer) → moves request.kind ≡ false → IsRefusal b.outcome → b.notes ≡ a.notes →
-    Goes x request a b x
+    GoesOn x request a b x
 refused_goes None request a b still refused notes = tt
-refused_goes (Some l) request a b still refused notes = inr (record {
+refused_goes (Some l) request a b still refused notes = record {
   led = led_nowhere l.desk;
   reads = λ reads. refl;
   stays = λ ended. refl;
@@ -402,18 +463,19 @@ refused_goes (Some l) request a b still refused notes = inr (record {
   looks = λ same typed. refl;
   moved = λ is. let no : true ≡ false = sym is ∙ still in absurd (cc);
   begins = λ same. inl (refused, notes, refl);
-  evaluates = λ same. inl refl;
-  sets = sets-still request.kind (unseen l.program);
+  evaluates = λ same. inl (refl, notes);
+  sets = inr (refused, refl);
   keeps = keeps_same b l.memo.seen.items;
-})
+}
 
 -- nothing changes by a request of this kind
 pub goes_nowhere : (x y : Option Launched) (request : Request) (a b : Answer) (known : Kind) → request.kind ≡ known → moves known ≡ false →
-    asks known ≡ false → ((p : Program) → Sets known p p) → y ≡ x → Goes x request a b y
+    asks known ≡ false → ((d : Data) (c : Command) (p : Program) → SetsBy known d c p b p) → y ≡ x → GoesOn x request a b y
 goes_nowhere x y request a b known is still none sets there =
-    subst (λ (z : Option Launched). Goes x request a b z) (sym there)
+    subst (λ (z : Option Launched). GoesOn x request a b z) (sym there)
     (same x request a b (ap (λ (k : Kind). moves k) is ∙ still) (ap (λ (k : Kind). asks k) is ∙ none)
-    (λ l at. subst (λ (k : Kind). Sets k l.program l.program) (sym is) (sets l.program)))
+    (λ l at. sets_as request known l.desk.machine.checked.main l.program l.program b is
+    (sets (view request.arguments) l.desk.machine.checked.main l.program)))
 
 -- what is launched is sound
 pub sound_of : (x : Option Launched) (l : Launched) → x ≡ Some l → Headline (execution l.desk) → IsSound x
@@ -421,5 +483,3 @@ sound_of x l is h = let to : IsSound (Some l) = h in subst (λ (z : Option Launc
 
 pub sound_none : (x : Option Launched) → x ≡ None → IsSound x
 sound_none x is = let to : IsSound None = tt in subst (λ (z : Option Launched). IsSound z) (sym is) to
-
-pub ruleset launched_goes = (goes_on, goes_anew, goes_none_on, goes_new)

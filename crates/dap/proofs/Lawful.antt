@@ -6,37 +6,50 @@ use Rattle.dap_messages.specs.declared.answer.Answer.{Answer}
 use Rattle.dap_messages.specs.declared.request.Request.{Request}
 use Rattle.dap_moves.proofs.public.Leading.{led_nowhere, led_on}
 use Rattle.dap_server.specs.Session.{Serves, Session}
-use Rattle.dap.specs.Goes.{Comes, Goes, is_over}
+use Rattle.dap.specs.Goes.{Comes, Goes, GoesNew, GoesOn, is_over}
 use Rattle.dap.specs.Laws.{IsLed, SessionIsLed}
 use Rattle.dap.specs.declared.face.Face.{Face}
 use Rattle.dap.specs.declared.launch.Launched.{Launched}
 
--- one request
-led-one : (x y : Option Launched) (request : Request) (a b : Answer) → IsLed x → Goes x request a b y → IsLed y
-led-one None None request a b led goes = tt
-led-one None (Some m) request a b led goes = (m.desk, goes.1, led_nowhere m.desk)
-led-one (Some l) None request a b led goes = absurd goes
-led-one (Some l) (Some m) request a b led goes = elim goes [
-  | inl anew ↦ elim anew.1 [
-    | inl begun ↦ begun.0
-    | inr still ↦ subst (λ (n : Launched). IsLed (Some n)) (sym still.0) led
-  ]
-  | inr on ↦ (led.0, led.1, led_on led.0 l.desk m.desk led.2 on.led)
+-- one request that goes on
+led-on : (reads : List ℕ → Option (List ℕ) → Type 0) (x y : Option Launched) (request : Request) (a b : Answer) → IsLed reads x →
+    GoesOn x request a b y → IsLed reads y
+led-on reads None None request a b led goes = tt
+led-on reads None (Some m) request a b led goes = absurd goes
+led-on reads (Some l) None request a b led goes = absurd goes
+led-on reads (Some l) (Some m) request a b led goes = (led.0, led.1, led.2, led_on led.1.desk l.desk m.desk led.3 goes.led)
+
+-- one that begins anew
+led-new : (reads : List ℕ → Option (List ℕ) → Type 0) (x y : Option Launched) (request : Request) (b : Answer) → IsLed reads x →
+    GoesNew reads x request b y → IsLed reads y
+led-new reads None None request b led goes = absurd goes
+led-new reads (Some l) None request b led goes = absurd goes
+led-new reads None (Some m) request b led goes = (goes.1.0, m, goes.1.2, led_nowhere m.desk)
+led-new reads (Some l) (Some m) request b led goes = elim goes.1 [
+  | inl anew ↦ (anew.0, anew.1, anew.3, anew.4.led)
+  | inr still ↦ subst (λ (n : Launched). IsLed reads (Some n)) (sym still.0) led
+]
+
+led-one : (reads : List ℕ → Option (List ℕ) → Type 0) (x y : Option Launched) (request : Request) (a b : Answer) → IsLed reads x →
+    Goes reads x request a b y → IsLed reads y
+led-one reads x y request a b led goes = elim goes [
+  | inl on ↦ led-on reads x y request a b led on
+  | inr anew ↦ led-new reads x y request b led anew
 ]
 
 -- all of them
-pub session-is-led : SessionIsLed
-session-is-led a b next [] sent led session = subst (λ (f : Face). IsLed f.launched) (sym session.1) led
-session-is-led a b next (Some request ∷ heard) sent led session =
-    session-is-led session.0 b (next + length session.1) heard session.2
-    (led-one a.launched session.0.launched request session.4.answered.empty session.4.answer led session.4.answered.goes) session.5
-session-is-led a b next (None ∷ heard) sent led session = session-is-led a b (next + 1) heard session.1 led session.3
+pub session-is-led : (reads : List ℕ → Option (List ℕ) → Type 0) → SessionIsLed reads
+session-is-led reads a b next [] sent led session = subst (λ (f : Face). IsLed reads f.launched) (sym session.1) led
+session-is-led reads a b next (Some request ∷ heard) sent led session =
+    session-is-led reads session.0 b (next + length session.1) heard session.2
+    (led-one reads a.launched session.0.launched request session.4.answered.empty session.4.answer led session.4.answered.goes) session.5
+session-is-led reads a b next (None ∷ heard) sent led session = session-is-led reads a b (next + 1) heard session.1 led session.3
 
 -- a session with a client that has just come, which ends well
-pub served : {X E : Type 0} (r : Result X E) (a b : Face) (came left u v : Option (List ℕ)) → a.launched ≡ None → a.over ≡ false →
-    OnOk r ((after : ℕ) × Serves Comes is_over a 1 b after came left u v) → OnOk r ((b.over ≡ true) ⊎ IsAtEnd left) →
+pub served : {X E : Type 0} (reads : List ℕ → Option (List ℕ) → Type 0) (r : Result X E) (a b : Face) (came left u v : Option (List ℕ)) → a.launched ≡ None → a.over ≡ false →
+    OnOk r ((after : ℕ) × Serves (Comes reads) is_over a 1 b after came left u v) → OnOk r ((b.over ≡ true) ⊎ IsAtEnd left) →
     OnOk r
     ((first : Face) × (last : Face) × (after : ℕ) × (first.launched ≡ None) × (first.over ≡ false)
-    × Serves Comes is_over first 1 last after came left u v × ((last.over ≡ true) ⊎ IsAtEnd left))
-served (Ok x) a b came left u v none running h k = (a, b, h.0, none, running, h.1, k)
-served (Err e) a b came left u v none running h k = tt
+    × Serves (Comes reads) is_over first 1 last after came left u v × ((last.over ≡ true) ⊎ IsAtEnd left))
+served reads (Ok x) a b came left u v none running h k = (a, b, h.0, none, running, h.1, k)
+served reads (Err e) a b came left u v none running h k = tt

@@ -1,4 +1,6 @@
+mod Folders
 mod Going
+mod Keeping
 mod Lawful
 mod Machines
 mod Stopping

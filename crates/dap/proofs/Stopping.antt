@@ -1,5 +1,5 @@
 -- How a run ends that begins with an empty answer.
-use Rattle.std.proofs.Common.{◌≡◌, ◌⊎◌, ◌||◌, Bool, List, [], ◌∷◌, ◌++◌, inl, inr, ◌∙◌, ap, sym, refl, append_assoc, Option, None, Some, true, false}
+use Rattle.std.proofs.Common.{ℕ, ◌≡◌, ◌⊎◌, ◌||◌, Bool, List, [], ◌∷◌, ◌++◌, inl, inr, ◌∙◌, ap, sym, refl, append_assoc, Option, None, Some, true, false}
 use Rattle.locked_execution.specs.AtDesk.{AtDesk}
 use Rattle.dap_messages.specs.Notes.{IsDone, IsRefusal, told_by}
 use Rattle.dap_messages.specs.declared.answer.Answer.{Answer}
@@ -10,7 +10,7 @@ use Rattle.dap_messages.specs.declared.told.Stop.{Stop}
 use Rattle.dap_messages.specs.declared.told.Told.{Told}
 use Rattle.dap_requests.specs.Said.{Runs, TellsEnd, TellsStop}
 use Rattle.dap_server.specs.Kinds.{moves}
-use Rattle.dap.specs.Goes.{Goes}
+use Rattle.dap.specs.Goes.{Goes, GoesNew, GoesOn}
 use Rattle.dap.specs.Kinds.{ends}
 use Rattle.dap.specs.Steps.{Steps}
 use Rattle.dap.specs.Stops.{BeginsOnce, StopsOnce}
@@ -26,17 +26,20 @@ stops_once a b d d' goes empty done h = elim h [
       stop.0,
       stop.1.effect,
       λ full. (
-        stop.1.outputs,
-        stop.1.are,
-        (stop.1.told full).1 ∙ ap (λ (ns : List Note). told_by ns ++ (stop.1.outputs ++ Told.Stopped stop.0 ∷ [])) empty,
+        (
+          stop.1.outputs,
+          stop.1.are,
+          (stop.1.told full).1 ∙ ap (λ (ns : List Note). told_by ns ++ (stop.1.outputs ++ Told.Stopped stop.0 ∷ [])) empty,
+        ),
+        stop.1.says full,
       ),
     ),
   )
 ]
 
 -- a program has begun
-pub begins_once : (F : Type 0) (Q : Stop → Type 0) (a b : Answer) → ((stop : Stop) × TellsStop a stop b × Q stop) ⊎ (F × TellsEnd a b) → BeginsOnce b
-begins_once F Q a b h = elim h [
+pub begins_once : (F G : Type 0) (Q : Stop → Type 0) (a b : Answer) → ((stop : Stop) × TellsStop a stop b × Q stop) ⊎ (F × TellsEnd a b × G) → BeginsOnce b
+begins_once F G Q a b h = elim h [
   | inl stops ↦ inl (
     stops.0,
     record {
@@ -63,17 +66,30 @@ no-move : (kind known : Kind) → moves kind ≡ true → moves known ≡ false 
 no-move kind known is none same =
     let no : true ≡ false = sym is ∙ ap (λ (k : Kind). moves k) same ∙ none in absurd (cc)
 
--- a request to move stops once
-pub moves_stop : (x y : Option Launched) (request : Request) (a b : Answer) → a.notes.items ≡ [] → IsDone a.outcome → moves request.kind ≡ true →
-    Goes x request a b y → (x ≡ None → IsRefusal b.outcome × (b.notes ≡ a.notes)) → StopsOnce b
-moves_stop None y request a b empty done is goes early =
+-- a request to move launches nothing
+no-new : (reads : List ℕ → Option (List ℕ) → Type 0) (x y : Option Launched) (request : Request) (b : Answer) → moves request.kind ≡ true →
+    GoesNew reads x request b y → ⊥
+no-new reads None None request b is goes = goes
+no-new reads (Some l) None request b is goes = goes
+no-new reads None (Some m) request b is goes = no-move request.kind Kind.Launch is refl goes.0
+no-new reads (Some l) (Some m) request b is goes = no-move request.kind Kind.Restart is refl goes.0
+
+-- and stops once
+moves-on : (x y : Option Launched) (request : Request) (a b : Answer) → a.notes.items ≡ [] → IsDone a.outcome → moves request.kind ≡ true →
+    GoesOn x request a b y → (x ≡ None → IsRefusal b.outcome × (b.notes ≡ a.notes)) → StopsOnce b
+moves-on None y request a b empty done is goes early =
     let it = early refl in inl (it.0, ap (λ (ns : List Note). told_by ns) (ap (λ n. n.items) it.1 ∙ empty))
-moves_stop (Some l) None request a b empty done is goes early = absurd goes
-moves_stop (Some l) (Some m) request a b empty done is goes early = elim goes [
-  | inl anew ↦ absurd (no-move request.kind Kind.Restart is refl anew.0)
-  | inr on ↦
-      stops_once a b l.desk m.desk
-      (λ (stop : Stop). Steps l.program l.memo.seen.items m.memo.seen.items l.desk request.kind request stop m.desk) empty done (on.moved is)
+moves-on (Some l) None request a b empty done is goes early = absurd goes
+moves-on (Some l) (Some m) request a b empty done is goes early =
+    stops_once a b l.desk m.desk
+    (λ (stop : Stop). Steps l.program l.memo.seen.items m.memo.seen.items l.desk request.kind request stop m.desk) empty done (goes.moved is)
+
+pub moves_stop : (reads : List ℕ → Option (List ℕ) → Type 0) (x y : Option Launched) (request : Request) (a b : Answer) → a.notes.items ≡ [] →
+    IsDone a.outcome → moves request.kind ≡ true → Goes reads x request a b y →
+    (x ≡ None → IsRefusal b.outcome × (b.notes ≡ a.notes)) → StopsOnce b
+moves_stop reads x y request a b empty done is goes early = elim goes [
+  | inl on ↦ moves-on x y request a b empty done is on early
+  | inr anew ↦ absurd (no-new reads x y request b is anew)
 ]
 
 -- a request to move does not end the session

@@ -4,7 +4,7 @@ use Rattle.runs.specs.declared.event.Choice.{Choice}
 use Rattle.locked_execution.specs.AtDesk.{AtDesk}
 use Rattle.dap_messages.specs.declared.answer.Answer.{Answer}
 use Rattle.dap_messages.specs.declared.told.Stop.{Stop}
-use Rattle.dap_requests.specs.Forth.{RunsBy, going_of}
+use Rattle.dap_requests.specs.Forth.{RunsBy, RunsFree, going_of}
 use Rattle.dap_requests.specs.Said.{TellsEnd, TellsStop}
 use Rattle.dap_views.specs.Kept.{SameButBegun}
 use Rattle.dap_views.specs.declared.program.Program.{Program}
@@ -14,14 +14,15 @@ use Rattle.dap.specs.declared.launch.Launched.{Launched}
 -- program is set. `before` are the steps before which a run has stood, and `after` those that are kept in mind
 abbrev pub Starts : Program → List Choice → List Choice → AtDesk → Stop → AtDesk → Type 0
 Starts program before after d stop d' =
-    ((program.launch.stops ≡ true) × (stop ≡ Stop.Stands) × (d' ≡ d))
+    ((program.launch.stops ≡ true) × (stop ≡ Stop.Entry) × (d' ≡ d))
     ⊎ ((program.launch.stops ≡ false) × RunsBy (going_of program None) None d before stop d' after)
 
--- one `stopped` is told, behind texts, which tells how it has started; or where nobody debugs it, that it has ended
+-- one `stopped` is told, behind texts, which tells how it has started; or where nobody debugs it, it runs until it
+-- ends, and that is told
 abbrev pub Begins : Launched → Launched → Answer → Answer → Type 0
 Begins l m a b =
     ((stop : Stop) × TellsStop a stop b × Starts l.program l.memo.seen.items m.memo.seen.items l.desk stop m.desk)
-    ⊎ ((l.program.launch.free ≡ true) × TellsEnd a b)
+    ⊎ ((l.program.launch.free ≡ true) × TellsEnd a b × RunsFree l.program.launch.most l.desk m.desk)
 
 -- it is over where nobody debugs it, and else as before
 pub record EndsFree (p q : Program) : Type 0 where

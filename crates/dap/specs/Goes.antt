@@ -1,5 +1,6 @@
 -- What a request does to what is launched.
 use Rattle.std.specs.Prelude.{◌≡◌, ◌⊎◌, ◌||◌, Bool, false, true, Option, None, Some, []}
+use Rattle.serde_json.specs.View.{view}
 use Rattle.machine.specs.Headline.{Headline}
 use Rattle.locked_execution.specs.AtDesk.{execution}
 use Rattle.dap_messages.specs.Notes.{IsDone, IsRefusal}
@@ -11,18 +12,22 @@ use Rattle.dap_requests.specs.Said.{Runs}
 use Rattle.dap_requests.specs.Typed.{Evaluates, KeepsSome, is_typed}
 use Rattle.dap_server.specs.Kinds.{moves}
 use Rattle.dap_views.specs.Kept.{unseen}
+use Rattle.dap.specs.Anew.{GoesAnew, IsMeant, brought}
+use Rattle.dap.specs.Asking.{Asks, IsAsked, asked_by}
 use Rattle.dap.specs.Begins.{Begins}
+use Rattle.dap.specs.Files.{Reads}
 use Rattle.dap.specs.Kinds.{changes, ends}
-use Rattle.dap.specs.Launching.{IsBegun, Stands}
+use Rattle.dap.specs.Launching.{IsBegun}
 use Rattle.dap.specs.Sets.{Sets}
 use Rattle.dap.specs.Steps.{Steps}
-use Rattle.dap.specs.Stops.{BeginsOnce, NotDone, StopsOnce}
+use Rattle.dap.specs.Stops.{NotDone, StopsOnce}
 use Rattle.dap.specs.declared.face.Face.{Face}
 use Rattle.dap.specs.declared.launch.Launched.{Launched}
 
 -- what a request that is answered so, from a to b, does to what is launched: the desk is what some commands of sessions
 -- leave, and the same where the request only reads, where it is refused, where words are only looked at, or where the
--- client was told that it is over; a request to run moves it as it should; and each sets what it is for alone
+-- client was told that it is over; a request to run moves it as it should; a line that is typed does what it asks for;
+-- and each sets what it asks for alone
 pub record LaunchedGoes (l : Launched) (request : Request) (a b : Answer) (m : Launched) : Type 0 where
   pub led : Led l.desk m.desk
   pub reads : changes request.kind ≡ false → m.desk ≡ l.desk
@@ -34,22 +39,35 @@ pub record LaunchedGoes (l : Launched) (request : Request) (a b : Answer) (m : L
       (λ stop. Steps l.program l.memo.seen.items m.memo.seen.items l.desk request.kind request stop m.desk)
   pub begins : request.kind ≡ Kind.ConfigurationDone →
       (IsRefusal b.outcome × (b.notes ≡ a.notes) × (m.desk ≡ l.desk)) ⊎ Begins l m a b
-  pub evaluates : request.kind ≡ Kind.Evaluate → Evaluates l.desk m.desk
-  pub sets : Sets request.kind (unseen l.program) (unseen m.program)
+  pub evaluates : request.kind ≡ Kind.Evaluate → Evaluates l.program request l.desk a b m.desk
+  pub sets : Sets request l.desk.machine.checked.main (unseen l.program) b (unseen m.program)
   pub keeps : KeepsSome b l.memo.seen.items m.memo.seen.items
 
--- a restart begins anew, or all is as it was
-abbrev pub Restarts : Launched → Answer → Launched → Type 0
-Restarts l b m = (Stands m.desk × BeginsOnce b) ⊎ ((m ≡ l) × NotDone b)
+-- a restart launches what its arguments name, where they name a program, and else the same again, from the files as
+-- they are now; what the client had set is kept, and it begins; or all is as it was
+abbrev pub Restarts : Reads → Launched → Request → Answer → Launched → Type 0
+Restarts reads l request b m =
+    ((asked : Asks) × (anew : Launched) × IsMeant (brought request) (asked_by l.program.launch) asked
+    × IsBegun reads asked anew × GoesAnew l anew b m)
+    ⊎ ((m ≡ l) × NotDone b)
 
--- nothing is launched but by a launch; and what is launched stays so: it goes on as the request says, or a restart has
--- begun anew, or was refused
-abbrev pub Goes : Option Launched → Request → Answer → Answer → Option Launched → Type 0
-Goes None request a b None = Unit {0}
-Goes None request a b (Some m) = (request.kind ≡ Kind.Launch) × IsBegun m.desk
-Goes (Some l) request a b None = ⊥
-Goes (Some l) request a b (Some m) =
-    ((request.kind ≡ Kind.Restart) × Restarts l b m) ⊎ LaunchedGoes l request a b m
+-- what is launched goes on as a request says, and nothing else is launched
+abbrev pub GoesOn : Option Launched → Request → Answer → Answer → Option Launched → Type 0
+GoesOn None request a b None = Unit {0}
+GoesOn (Some l) request a b (Some m) = LaunchedGoes l request a b m
+GoesOn _ request a b _ = ⊥
+
+-- nothing was launched, and a launch begins what its arguments ask for; or a restart begins anew, or was refused
+abbrev pub GoesNew : Reads → Option Launched → Request → Answer → Option Launched → Type 0
+GoesNew reads None request b (Some m) =
+    (request.kind ≡ Kind.Launch)
+    × ((asked : Asks) × IsAsked (view request.arguments) asked × IsBegun reads asked m)
+GoesNew reads (Some l) request b (Some m) = (request.kind ≡ Kind.Restart) × Restarts reads l request b m
+GoesNew reads _ request b None = ⊥
+
+-- what is launched goes on, or begins anew
+abbrev pub Goes : Reads → Option Launched → Request → Answer → Answer → Option Launched → Type 0
+Goes reads x request a b y = GoesOn x request a b y ⊎ GoesNew reads x request b y
 
 -- what holds of an execution at every moment holds of the one that is launched
 abbrev pub IsSound : Option Launched → Type 0
@@ -66,11 +84,11 @@ RefusedEarly x request answer y =
 abbrev pub is_over : Face → Bool
 is_over x = x.over
 
--- what comes of a request in a session; the answer begins done and empty
-pub record Comes (x : Face) (request : Request) (answer : Answer) (y : Face) : Type 0 where
+-- what comes of a request in a session over these files; the answer begins done and empty
+pub record Comes (reads : Reads) (x : Face) (request : Request) (answer : Answer) (y : Face) : Type 0 where
   pub empty : Answer
   pub begins : IsDone empty.outcome × (empty.notes.items ≡ []) × (empty.lacks ≡ false)
-  pub goes : Goes x.launched request empty answer y.launched
+  pub goes : Goes reads x.launched request empty answer y.launched
   pub sound : IsSound y.launched
   pub stops : moves request.kind ≡ true → StopsOnce answer
   pub early : RefusedEarly x request answer y

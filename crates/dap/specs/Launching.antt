@@ -1,11 +1,15 @@
--- With which desk a session on a program begins.
-use Rattle.std.specs.Prelude.{ℕ, ◌≡◌, List, [], Option, None, Some, Vec}
+-- With which program and which desk a session begins.
+use Rattle.std.specs.Prelude.{ℕ, ◌≡◌, List, [], Option, None, Some, false}
 use Rattle.system.specs.declared.system.System.{System}
 use Rattle.front_end.specs.Accepting.{AcceptedAs}
 use Rattle.machine.specs.AtMachine.{AtMachine}
 use Rattle.trace_file.specs.Loading.{IsLoaded}
 use Rattle.locked_execution.specs.AtDesk.{AtDesk, new_desk}
 use Rattle.dap_moves.specs.Led.{Led}
+use Rattle.dap_views.specs.declared.program.Program.{Program}
+use Rattle.dap.specs.Asking.{Asks, asked_by}
+use Rattle.dap.specs.Files.{AreRead, Reads}
+use Rattle.dap.specs.declared.launch.Launched.{Launched}
 
 -- the machine of a system, behind this trace if there is one
 abbrev pub BeginsOn : System → Option (List ℕ) → AtMachine → Type 0
@@ -16,17 +20,32 @@ BeginsOn system (Some trace) m = IsLoaded system trace m
 abbrev pub BeginsAt : List ℕ → List ℕ → Option (List ℕ) → AtMachine → Type 0
 BeginsAt source stimulus trace m = (system : System) × AcceptedAs source stimulus system × BeginsOn system trace m
 
--- the text that was read, if one was
-abbrev pub text_of : {A : Type 0} → Option (Vec ℕ A) → Option (List ℕ)
-text_of None = None
-text_of (Some text) = Some text.items
+-- the program of this launch over this source, on which nothing is set, and which has not begun
+pub record IsUnset (asked : Asks) (source : List ℕ) (p : Program) : Type 0 where
+  pub launch : asked_by p.launch ≡ asked
+  pub text : p.source.items ≡ source
+  pub lines : p.asked.items ≡ []
+  pub stops : p.stops.items ≡ []
+  pub watched : p.watched.items ≡ []
+  pub waits : p.begun ≡ false
+  pub lasts : p.ended ≡ false
 
--- a desk with which a program is launched: new, on the machine of some texts
-abbrev pub IsBegun : AtDesk → Type 0
-IsBegun d =
-    (source : List ℕ) × (stimulus : List ℕ) × (trace : Option (List ℕ)) × (m : AtMachine)
-    × BeginsAt source stimulus trace m × (d ≡ new_desk m)
+-- such a program with a new desk on this machine
+pub record IsNew (asked : Asks) (source : List ℕ) (m : AtMachine) (l : Launched) : Type 0 where
+  pub unset : IsUnset asked source l.program
+  pub seen : l.memo.seen.items ≡ []
+  pub desk : l.desk ≡ new_desk m
 
--- a desk that some commands of sessions leave of such a one
-abbrev pub Stands : AtDesk → Type 0
-Stands d = (begun : AtDesk) × IsBegun begun × Led begun d
+-- it is launched as is asked for, new, from the texts that were read of the files
+pub record IsBegun (reads : Reads) (asked : Asks) (l : Launched) : Type 0 where
+  pub source : List ℕ
+  pub stimulus : List ℕ
+  pub trace : Option (List ℕ)
+  pub read : AreRead reads asked source stimulus trace
+  pub machine : AtMachine
+  pub begins : BeginsAt source stimulus trace machine
+  pub fresh : IsNew asked source machine l
+
+-- a desk that some commands of sessions leave of the one with which a program is launched
+abbrev pub Stands : Reads → AtDesk → Type 0
+Stands reads d = (asked : Asks) × (begun : Launched) × IsBegun reads asked begun × Led begun.desk d

@@ -1,4 +1,7 @@
+pub mod Anew
+pub mod Asking
 pub mod Begins
+pub mod Files
 pub mod Goes
 pub mod Kinds
 pub mod Launching

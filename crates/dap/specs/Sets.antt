@@ -1,15 +1,26 @@
 -- What requests set.
 use Rattle.std.specs.Prelude.{◌≡◌, ◌⊎◌, true}
+use Rattle.serde_json.specs.Data.{Data}
+use Rattle.serde_json.specs.View.{view}
+use Rattle.system.specs.declared.command.Command.{Command}
+use Rattle.dap_messages.specs.Notes.{IsRefusal}
+use Rattle.dap_messages.specs.declared.answer.Answer.{Answer}
 use Rattle.dap_messages.specs.declared.kind.Kind.{Kind}
-use Rattle.dap_views.specs.Kept.{SameButExcepts, SameButLines, SameButWatched}
+use Rattle.dap_messages.specs.declared.request.Request.{Request}
+use Rattle.dap_requests.specs.Sets.{SetsExcepts, SetsLines, SetsWatched}
 use Rattle.dap_views.specs.declared.program.Program.{Program}
 use Rattle.dap.specs.Begins.{EndsFree}
 
--- each request sets what it is for, and nothing else; one that is refused sets nothing
-abbrev pub Sets : Kind → Program → Program → Type 0
-Sets Kind.SetBreakpoints p q = SameButLines p q
-Sets Kind.SetDataBreakpoints p q = SameButWatched p q
-Sets Kind.SetExceptionBreakpoints p q = SameButExcepts p q
-Sets Kind.Terminate p q = (q ≡ record p { ended = true }) ⊎ (q ≡ p)
-Sets Kind.ConfigurationDone p q = EndsFree p q
-Sets _ p q = q ≡ p
+-- what a request of this kind with these arguments sets, where c is what runs: what it is for, and nothing else
+abbrev pub SetsBy : Kind → Data → Command → Program → Answer → Program → Type 0
+SetsBy Kind.SetBreakpoints d c p b q = SetsLines c d p b q
+SetsBy Kind.SetDataBreakpoints d c p b q = SetsWatched d p b q
+SetsBy Kind.SetExceptionBreakpoints d c p b q = SetsExcepts d p q
+SetsBy Kind.Terminate d c p b q = (q ≡ record p { ended = true }) ⊎ (q ≡ p)
+SetsBy Kind.ConfigurationDone d c p b q = EndsFree p q
+SetsBy _ d c p b q = q ≡ p
+
+-- a request sets this; or it is refused, and sets nothing
+abbrev pub Sets : Request → Command → Program → Answer → Program → Type 0
+Sets request c p b q =
+    SetsBy request.kind (view request.arguments) c p b q ⊎ (IsRefusal b.outcome × (q ≡ p))

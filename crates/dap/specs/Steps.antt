@@ -53,6 +53,6 @@ Steps program before after d Kind.StepOut request stop d' =
 Steps program before after d Kind.Continue request stop d' =
     GoesOn program before after d request (thread_of d request) stop d'
 Steps program before after d Kind.ReverseContinue request stop d' =
-    ReversesFor program.excepts d request stop d'
-Steps program before after d Kind.Pause request stop d' = (stop ≡ Stop.Stands) × (d' ≡ d)
+    ReversesFor program d request stop d' after
+Steps program before after d Kind.Pause request stop d' = (stop ≡ Stop.Pause) × (d' ≡ d)
 Steps program before after d _ request stop d' = Unit {0}

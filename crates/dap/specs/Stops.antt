@@ -5,19 +5,19 @@ use Rattle.dap_messages.specs.declared.answer.Answer.{Answer}
 use Rattle.dap_messages.specs.declared.answer.Effect.{Effect}
 use Rattle.dap_messages.specs.declared.told.Stop.{Stop}
 use Rattle.dap_messages.specs.declared.told.Told.{Told}
-use Rattle.dap_requests.specs.Said.{AreOutputs}
+use Rattle.dap_requests.specs.Said.{AreOutputs, SaysStop}
 
 -- texts, and behind them one `stopped`
 abbrev pub EndsInStop : Stop → List Told → Type 0
 EndsInStop stop told = (outputs : List Told) × AreOutputs outputs × (told ≡ outputs ++ Told.Stopped stop ∷ [])
 
 -- it is a refusal and tells nothing, or it is done, and a `stopped` comes whatever memory there is; where there is
--- memory for the whole answer, that is the last that it tells, and no other is told
+-- memory for the whole answer, that is the last that it tells, with the reason, and no other is told
 abbrev pub StopsOnce : Answer → Type 0
 StopsOnce a =
     (IsRefusal a.outcome × (told_by a.notes.items ≡ []))
     ⊎ (IsDone a.outcome × ((stop : Stop) × (a.effect ≡ Effect.Due (Told.Stopped stop))
-    × (a.lacks ≡ false → EndsInStop stop (told_by a.notes.items))))
+    × (a.lacks ≡ false → EndsInStop stop (told_by a.notes.items) × SaysStop stop a)))
 
 -- this event comes whatever memory there is; where there is memory for the whole answer, it is the last that it tells
 pub record EndsWith (a : Answer) (told : Told) : Type 0 where

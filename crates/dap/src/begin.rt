@@ -2,14 +2,15 @@
 ghost use Rattle.std.specs.Prelude.{◌≡◌, ◌⊎◌, true};
 ghost use Rattle.dap_messages.specs.Notes.{IsRefusal};
 ghost use Rattle.dap_moves.specs.Led.{Led};
-ghost use Rattle.dap_messages.specs.declared.told.Stop.{Stop as Stands};
+ghost use Rattle.dap_messages.specs.declared.told.Stop.{Stop as Stopped};
+ghost use Rattle.dap_requests.specs.Forth.{RunsFree};
 ghost use Rattle.dap_requests.specs.Said.{TellsEnd, TellsStop};
 ghost use Rattle.dap_requests.specs.Typed.{KeepsSome};
 ghost use Rattle.dap_views.specs.Kept.{SameButBegun};
 ghost use Rattle.dap.specs.Begins.{Begins, EndsFree, Starts};
 
 use crate::launch::Launched;
-use dap_messages::{Answer, Members, Told};
+use dap_messages::{Answer, Members, Stop, Told};
 use dap_moves::{Desk, Machine};
 use dap_requests::{run, run_free, stop};
 use dap_views::{Memo, Program};
@@ -64,12 +65,12 @@ fn begin_stopping(
     answer: &mut Answer,
 )
     ensures led { Led desk.old desk.new }
-    ensures begins { (stop : Stands) × TellsStop answer.old stop answer.new
+    ensures begins { (stop : Stopped) × TellsStop answer.old stop answer.new
         × Starts program.now memo.old.seen.items memo.new.seen.items desk.old stop desk.new }
     ensures keeps { KeepsSome answer.new memo.old.seen.items memo.new.seen.items }
 {
     if program.launch.stops {
-        stop(alloc, answer, "entry", 0, entry_text(desk.machine()));
+        stop(alloc, answer, Stop::Entry, 0, entry_text(desk.machine()));
     } else {
         run(alloc, desk, program, memo, None, None, answer);
     }
@@ -87,6 +88,7 @@ fn entry_text(machine: &Machine) -> &'static str {
 /// Runs to the end, and tells that it is over.
 fn begin_free(alloc: Global, desk: &mut Desk, program: &Program, answer: &mut Answer)
     ensures led { Led desk.old desk.new }
+    ensures runs { RunsFree program.now.launch.most desk.old desk.new }
     ensures ends { TellsEnd answer.old answer.new }
 {
     run_free(alloc, desk, program, answer);

@@ -1,7 +1,6 @@
 // What is asked of a program that is launched.
 ghost use Rattle.std.specs.Prelude.{◌≡◌, ◌&&◌, ◌||◌, true, false};
 ghost use Rattle.dap_messages.specs.Notes.{IsRefusal};
-ghost use Rattle.dap_messages.specs.declared.kind.Kind as asked;
 ghost use Rattle.dap_requests.specs.Typed.{is_typed};
 ghost use Rattle.dap_server.specs.Kinds.{moves};
 ghost use Rattle.dap_views.specs.Kept.{unseen};
@@ -149,7 +148,7 @@ fn look(
     request: &Request,
     answer: &mut Answer,
 )
-    ensures { Sets request.now.kind program.old program.new }
+    ensures { Sets request.now machine.now.checked.main program.old answer.new program.new }
 {
     match request.kind {
         Kind::SetBreakpoints => set_lines(alloc, machine, program, request, answer),
@@ -183,7 +182,7 @@ fn show(
 
 /// Answers `terminate`: nothing moves any more, unless a `restart` begins again.
 fn terminate(program: &mut Program, answer: &mut Answer)
-    ensures { Sets asked.Kind.Terminate program.old program.new }
+    ensures { program.new ≡ record program.old { ended = true } }
 {
     program.ended = true;
     answer.tell(Told::Terminated);

@@ -3,9 +3,9 @@ ghost use Rattle.std.specs.Prelude.{◌≡◌, ◌⊎◌, ◌||◌, None, Some, 
 ghost use Rattle.dap_messages.specs.Notes.{IsRefusal};
 ghost use Rattle.dap_messages.specs.declared.kind.Kind.{Kind as Asks};
 ghost use Rattle.dap_server.specs.Kinds.{moves};
-ghost use Rattle.dap.specs.Goes.{Comes, Goes, IsSound, LaunchedGoes, Restarts};
+ghost use Rattle.dap.specs.Anew.{excepting};
+ghost use Rattle.dap.specs.Goes.{Comes, Goes, GoesOn, IsSound, LaunchedGoes, Restarts};
 ghost use Rattle.dap.specs.Kinds.{ends};
-ghost use Rattle.dap.specs.declared.launch.Launched.{Launched as Started};
 
 use crate::dispatch::perform;
 use crate::launch::{Launched, start};
@@ -47,7 +47,7 @@ impl Face {
 
     /// Answers a request. Files are read where it names some.
     pub fn respond<F: Sources>(&mut self, files: &F, request: &Request) -> Answer
-        ensures { Comes self.old request.now result self.new }
+        ensures { Comes (F.reads files.now) self.old request.now result self.new }
     {
         let over = self.is_over_behind(request.kind);
         let mut answer = Answer::new(self.alloc);
@@ -78,7 +78,7 @@ impl Face {
 
     /// Answers a request in this answer.
     fn hear<F: Sources>(&mut self, files: &F, request: &Request, answer: &mut Answer)
-        ensures goes { Goes self.old.launched request.now answer.old answer.new self.new.launched }
+        ensures goes { Goes (F.reads files.now) self.old.launched request.now answer.old answer.new self.new.launched }
         ensures early { self.old.launched ≡ None → moves request.now.kind ≡ true
             → IsRefusal answer.new.outcome × (answer.new.notes ≡ answer.old.notes) × (self.new ≡ self.old) }
     {
@@ -90,9 +90,9 @@ impl Face {
     }
 
     /// Answers a request that asks a thread to move, or to stand.
-    #[tactic(auto, using(crate::proofs::Going::launched_goes))]
+    #[tactic(auto, using(crate::proofs::Going::goes_on))]
     fn make_move(&mut self, request: &Request, answer: &mut Answer)
-        ensures goes { Goes self.old.launched request.now answer.old answer.new self.new.launched }
+        ensures goes { GoesOn self.old.launched request.now answer.old answer.new self.new.launched }
         ensures early { self.old.launched ≡ None
             → IsRefusal answer.new.outcome × (answer.new.notes ≡ answer.old.notes) × (self.new ≡ self.old) }
     {
@@ -116,7 +116,7 @@ impl Face {
     /// Answers another request.
     fn serve<F: Sources>(&mut self, files: &F, request: &Request, answer: &mut Answer)
         requires { moves request.now.kind ≡ false }
-        ensures { Goes self.old.launched request.now answer.old answer.new self.new.launched }
+        ensures { Goes (F.reads files.now) self.old.launched request.now answer.old answer.new self.new.launched }
     {
         match self.client {
             Some(counting) => self.serve_client(files, counting, request, answer),
@@ -125,7 +125,6 @@ impl Face {
     }
 
     /// Answers another request of a client that has said how it counts.
-    #[tactic(auto, using(crate::proofs::Going::launched_goes))]
     fn serve_client<F: Sources>(
         &mut self,
         files: &F,
@@ -134,7 +133,7 @@ impl Face {
         answer: &mut Answer,
     )
         requires { moves request.now.kind ≡ false }
-        ensures { Goes self.old.launched request.now answer.old answer.new self.new.launched }
+        ensures { Goes (F.reads files.now) self.old.launched request.now answer.old answer.new self.new.launched }
     {
         match request.kind {
             Kind::Initialize => self.initialize(request, answer),
@@ -145,10 +144,9 @@ impl Face {
     }
 
     /// Answers another request before the client has said how it counts.
-    #[tactic(auto, using(crate::proofs::Going::launched_goes))]
     fn meet(&mut self, request: &Request, answer: &mut Answer)
         requires { moves request.now.kind ≡ false }
-        ensures { Goes self.old.launched request.now answer.old answer.new self.new.launched }
+        ensures { GoesOn self.old.launched request.now answer.old answer.new self.new.launched }
     {
         match request.kind {
             Kind::Initialize => self.initialize(request, answer),
@@ -174,7 +172,6 @@ impl Face {
     }
 
     /// Answers `launch`.
-    #[tactic(auto, using(crate::proofs::Going::launched_goes))]
     fn launch<F: Sources>(
         &mut self,
         files: &F,
@@ -184,7 +181,7 @@ impl Face {
     )
         requires launches { request.now.kind ≡ Asks.Launch }
         requires stands { moves request.now.kind ≡ false }
-        ensures { Goes self.old.launched request.now answer.old answer.new self.new.launched }
+        ensures { Goes (F.reads files.now) self.old.launched request.now answer.old answer.new self.new.launched }
     {
         match &self.launched {
             Some(_) => answer.refuse(107, "a program is launched already"),
@@ -193,7 +190,6 @@ impl Face {
     }
 
     /// Answers `launch` where nothing is launched.
-    #[tactic(auto, using(crate::proofs::Going::launched_goes))]
     fn launch_first<F: Sources>(
         &mut self,
         files: &F,
@@ -203,7 +199,7 @@ impl Face {
     )
         requires launches { request.now.kind ≡ Asks.Launch }
         requires none { self.old.launched ≡ None }
-        ensures { Goes self.old.launched request.now answer.old answer.new self.new.launched }
+        ensures { Goes (F.reads files.now) self.old.launched request.now answer.old answer.new self.new.launched }
     {
         match start(self.alloc, files, counting, request.arguments(), answer) {
             Some(found) => self.keep(found, answer),
@@ -213,7 +209,7 @@ impl Face {
 
     /// Keeps what was launched. Breakpoints can be judged only now, so `initialized` is told.
     fn keep(&mut self, mut found: Launched, answer: &mut Answer)
-        ensures { (kept : Started) × (self.new.launched ≡ Some kept) × (kept.desk ≡ found.desk) }
+        ensures { self.new.launched ≡ Some (excepting self.old.excepts found) }
     {
         found.program.excepts = self.excepts;
         self.launched = Some(found);
@@ -221,10 +217,10 @@ impl Face {
     }
 
     /// Answers what may be asked of a program, where one is launched.
-    #[tactic(auto, using(crate::proofs::Going::launched_goes))]
+    #[tactic(auto, using(crate::proofs::Going::goes_anew))]
     fn ask<F: Sources>(&mut self, files: &F, request: &Request, answer: &mut Answer)
         requires { moves request.now.kind ≡ false }
-        ensures { Goes self.old.launched request.now answer.old answer.new self.new.launched }
+        ensures { Goes (F.reads files.now) self.old.launched request.now answer.old answer.new self.new.launched }
     {
         let alloc = self.alloc;
         match &mut self.launched {
@@ -261,7 +257,8 @@ fn ask_of<F: Sources>(
     request: &Request,
     answer: &mut Answer,
 )
-    ensures { ((request.now.kind ≡ Asks.Restart) × Restarts launched.old answer.new launched.new)
+    ensures { ((request.now.kind ≡ Asks.Restart)
+        × Restarts (F.reads files.now) launched.old request.now answer.new launched.new)
         ⊎ LaunchedGoes launched.old request.now answer.old answer.new launched.new }
 {
     match request.kind {

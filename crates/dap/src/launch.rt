@@ -2,16 +2,20 @@
 ghost use Rattle.std.specs.Prelude.{◌≡◌, None, IfOk, IfSome};
 ghost use Rattle.front_end.specs.Accepting.{AcceptedAs};
 ghost use Rattle.trace_file.specs.Loading.{IsLoaded};
-ghost use Rattle.locked_execution.specs.AtDesk.{new_desk};
-ghost use Rattle.dap.specs.Launching.{BeginsAt, BeginsOn, IsBegun, text_of};
+ghost use Rattle.serde_json.specs.View.{view};
+ghost use Rattle.machine.specs.AtMachine.{AtMachine};
+ghost use Rattle.dap.specs.Asking.{Asks, IsAsked, asked_by};
+ghost use Rattle.dap.specs.Files.{text_of};
+ghost use Rattle.dap.specs.Launching.{BeginsAt, BeginsOn, IsBegun, IsNew, IsUnset};
 
+use crate::asked::launch_of;
+use crate::paths::beside;
 use crate::sources::Sources;
-use dap_messages::{Answer, Members, Told, field, number_in, text_in};
+use crate::texts::{Texts, texts_of};
+use dap_messages::{Answer, Members, Told};
 use dap_moves::{Desk, Machine};
 use dap_requests::tell;
-use dap_views::{
-    Counting, Index, Launch, Lines, Memo, Program, Words, base_of, is_rooted, own_name,
-};
+use dap_views::{Counting, Index, Launch, Lines, Memo, Program, Words, base_of};
 use diagnosis::{Input, Inputs, explain};
 use front_end::accept;
 use refusal_pages::page_of;
@@ -19,9 +23,6 @@ use serde_json::Value;
 use sharing_check::Checked;
 use std::alloc::{AllocError, Global};
 use trace_file::load_text;
-
-/// How many steps a run has at most, where the client does not say.
-const MOST_STEPS: u64 = 10_000;
 
 /// What counts from 1, as lines of a trace do.
 const ONES: Counting = Counting {
@@ -39,7 +40,7 @@ pub struct Launched {
 
 /// Why nothing is launched.
 #[derive(Drop)]
-enum Failed {
+pub(crate) enum Failed {
     Memory,
     /// it was told
     Told,
@@ -59,7 +60,8 @@ pub(crate) fn start<F: Sources>(
     arguments: &Value,
     answer: &mut Answer,
 ) -> Option<Launched>
-    ensures { IfSome result (λ launched. IsBegun launched.desk) }
+    ensures { IfSome result (λ launched. (asked : Asks)
+        × IsAsked (view arguments.now) asked × IsBegun (F.reads files.now) asked launched) }
 {
     match launch_of(alloc, arguments, answer) {
         Ok(asked) => start_as(alloc, files, counting, asked, answer),
@@ -79,14 +81,14 @@ fn note(failed: Failed, answer: &mut Answer) {
 }
 
 /// Launches what is asked for.
-fn start_as<F: Sources>(
+pub(crate) fn start_as<F: Sources>(
     alloc: Global,
     files: &F,
     counting: Counting,
     asked: Launch,
     answer: &mut Answer,
 ) -> Option<Launched>
-    ensures { IfSome result (λ launched. IsBegun launched.desk) }
+    ensures { IfSome result (λ launched. IsBegun (F.reads files.now) (asked_by asked) launched) }
 {
     match texts_of(alloc, files, &asked, answer) {
         Ok(texts) => start_on(alloc, counting, asked, texts, answer),
@@ -105,7 +107,9 @@ fn start_on(
     texts: Texts,
     answer: &mut Answer,
 ) -> Option<Launched>
-    ensures { IfSome result (λ launched. IsBegun launched.desk) }
+    ensures { IfSome result (λ launched. (m : AtMachine)
+        × BeginsAt texts.source.items texts.stimulus.items (text_of texts.trace) m
+        × IsNew (asked_by asked) texts.source.items m launched) }
 {
     match machine_of(alloc, &asked, &texts, counting, answer) {
         Ok(machine) => launched_on(alloc, asked, texts, counting, machine, answer),
@@ -125,7 +129,7 @@ fn launched_on(
     machine: Machine,
     answer: &mut Answer,
 ) -> Option<Launched>
-    ensures { IfSome result (λ launched. launched.desk ≡ new_desk machine) }
+    ensures { IfSome result (IsNew (asked_by asked) texts.source.items machine) }
 {
     match program_of(alloc, asked, texts, counting) {
         Ok(program) => Some(Launched {
@@ -137,44 +141,6 @@ fn launched_on(
             note(Failed::Memory, answer);
             None
         }
-    }
-}
-
-/// The texts of the files that a launch names.
-#[derive(Drop)]
-struct Texts {
-    source: Vec<u8>,
-    stimulus: Vec<u8>,
-    trace: Option<Vec<u8>>,
-}
-
-/// Reads the files.
-fn texts_of<F: Sources>(
-    alloc: Global,
-    files: &F,
-    asked: &Launch,
-    answer: &mut Answer,
-) -> Result<Texts, Failed> {
-    let source = file(alloc, files, asked.program.as_str(), answer)?;
-    let stimulus = stimulus(alloc, files, asked, answer)?;
-    let trace = trace(alloc, files, asked, answer)?;
-    Ok(Texts {
-        source,
-        stimulus,
-        trace,
-    })
-}
-
-/// The trace that is named, if one is.
-fn trace<F: Sources>(
-    alloc: Global,
-    files: &F,
-    asked: &Launch,
-    answer: &mut Answer,
-) -> Result<Option<Vec<u8>>, Failed> {
-    match &asked.trace {
-        Some(name) => Ok(Some(file(alloc, files, name.as_str(), answer)?)),
-        None => Ok(None),
     }
 }
 
@@ -203,15 +169,34 @@ fn program_of(
     launch: Launch,
     texts: Texts,
     counting: Counting,
-) -> Result<Program, AllocError> {
-    let index = Index::new(alloc, texts.source.as_slice())?;
-    let lines = Lines::new(alloc, texts.source.as_slice())?;
-    let Texts {
-        source,
-        stimulus: _stimulus,
-        trace: _trace,
-    } = texts;
-    Ok(Program {
+) -> Result<Program, AllocError>
+    ensures { IfOk result (IsUnset (asked_by launch) texts.source.items) }
+{
+    match seen_in(alloc, texts.source.as_slice()) {
+        Ok((index, lines)) => Ok(unset(alloc, launch, texts.source, index, lines, counting)),
+        Err(AllocError) => Err(AllocError),
+    }
+}
+
+/// What the source declares, and its lines.
+fn seen_in(alloc: Global, source: &[u8]) -> Result<(Index, Lines), AllocError> {
+    let index = Index::new(alloc, source)?;
+    let lines = Lines::new(alloc, source)?;
+    Ok((index, lines))
+}
+
+/// The program of this launch over this source, on which nothing is set.
+fn unset(
+    alloc: Global,
+    launch: Launch,
+    source: Vec<u8>,
+    index: Index,
+    lines: Lines,
+    counting: Counting,
+) -> Program
+    ensures { IsUnset (asked_by launch) source.items result }
+{
+    Program {
         launch,
         counting,
         source,
@@ -226,167 +211,7 @@ fn program_of(
         begun: false,
         ended: false,
         sight: None,
-    })
-}
-
-/// What the arguments ask to launch.
-fn launch_of(alloc: Global, arguments: &Value, answer: &mut Answer) -> Result<Launch, Failed> {
-    if let Some(wrong) = wrong_in(arguments) {
-        refuse_type(alloc, wrong, answer);
-        return Err(Failed::Told);
     }
-    let program = text_in(arguments, "program").unwrap_or("");
-    if program.is_empty() {
-        answer.refuse(108, "`program` is missing: the path of a Balsa source");
-        return Err(Failed::Told);
-    }
-    let folder = text_in(arguments, "cwd").unwrap_or("");
-    Ok(Launch {
-        stimulus: whole_of(alloc, folder, text_in(arguments, "stimulus"))?,
-        trace: whole_of(alloc, folder, text_in(arguments, "trace"))?,
-        stops: flag_in(arguments, "stopOnEntry", true),
-        most: number_in(arguments, "maxSteps").unwrap_or(MOST_STEPS),
-        free: flag_in(arguments, "noDebug", false),
-        program: whole(alloc, folder, program)?,
-    })
-}
-
-/// Refuses an argument of another type than it should have.
-fn refuse_type(alloc: Global, wrong: (&str, Wanted), answer: &mut Answer) {
-    let (name, wanted) = wrong;
-    let mut words = Words::of(alloc, "`");
-    words.add(name);
-    words.add(match wanted {
-        Wanted::Text => "` is no text",
-        Wanted::Flag => "` is neither true nor false",
-        Wanted::Number => "` is no whole number from 1 on",
-    });
-    answer.refuse(104, words.as_str());
-}
-
-/// What an argument should be.
-#[derive(Clone, Copy, Debug, PartialEq, Eq)]
-enum Wanted {
-    Text,
-    Flag,
-    Number,
-}
-
-/// The arguments of a launch.
-static WANTED: [(&str, Wanted); 7] = [
-    ("program", Wanted::Text),
-    ("cwd", Wanted::Text),
-    ("stimulus", Wanted::Text),
-    ("trace", Wanted::Text),
-    ("stopOnEntry", Wanted::Flag),
-    ("noDebug", Wanted::Flag),
-    ("maxSteps", Wanted::Number),
-];
-
-/// The first argument that is not what it should be.
-fn wrong_in(arguments: &Value) -> Option<(&'static str, Wanted)> {
-    for (name, wanted) in &WANTED {
-        if let Some(value) = field(arguments, name) {
-            if !is_wanted(value, *wanted) {
-                return Some((*name, *wanted));
-            }
-        }
-    }
-    None
-}
-
-/// Whether the value is what it should be.
-fn is_wanted(value: &Value, wanted: Wanted) -> bool {
-    match wanted {
-        Wanted::Text => value.as_str().is_some(),
-        Wanted::Flag => value.as_bool().is_some(),
-        Wanted::Number => is_positive(value.as_u64()),
-    }
-}
-
-/// Whether it is a number from 1 on.
-fn is_positive(number: Option<u64>) -> bool {
-    match number {
-        Some(number) => number > 0,
-        None => false,
-    }
-}
-
-/// The path of a file of this name: one that does not begin at a root counts from the folder. Where no folder is named
-/// that is the one in which the adapter was started.
-fn whole(alloc: Global, folder: &str, name: &str) -> Result<String, AllocError> {
-    if is_rooted(name) || folder.is_empty() {
-        return String::from_str(alloc, name);
-    }
-    let mut path = String::from_str(alloc, folder.trim_end_matches('/'))?;
-    path.push_str("/")?;
-    path.push_str(own_name(name))?;
-    Ok(path)
-}
-
-/// The path of a file, where one is named.
-fn whole_of(alloc: Global, folder: &str, name: Option<&str>) -> Result<Option<String>, AllocError> {
-    match name {
-        Some(name) if !name.is_empty() => Ok(Some(whole(alloc, folder, name)?)),
-        _ => Ok(None),
-    }
-}
-
-/// The argument of this name, where it is `true` or `false`; else the one that stands for it.
-fn flag_in(arguments: &Value, name: &str, otherwise: bool) -> bool {
-    match field(arguments, name) {
-        Some(value) => value.as_bool().unwrap_or(otherwise),
-        None => otherwise,
-    }
-}
-
-/// The bytes of a file, which has to be there.
-fn file<F: Sources>(
-    alloc: Global,
-    files: &F,
-    name: &str,
-    answer: &mut Answer,
-) -> Result<Vec<u8>, Failed> {
-    match files.read(alloc, name)? {
-        Some(bytes) => Ok(bytes),
-        None => {
-            let mut words = Words::of(alloc, "refused 41: ");
-            words.add(name);
-            words.add(" cannot be read");
-            answer.refuse(41, words.as_str());
-            Err(Failed::Told)
-        }
-    }
-}
-
-/// The stimulus: the one that is named, else the one beside the source, else none.
-fn stimulus<F: Sources>(
-    alloc: Global,
-    files: &F,
-    asked: &Launch,
-    answer: &mut Answer,
-) -> Result<Vec<u8>, Failed> {
-    if let Some(name) = &asked.stimulus {
-        return file(alloc, files, name.as_str(), answer);
-    }
-    let beside = beside(alloc, asked.program.as_str())?;
-    match files.read(alloc, beside.as_str())? {
-        Some(bytes) => Ok(bytes),
-        None => {
-            let mut words = Words::of(alloc, "No `stimulus` is given, and ");
-            words.add(base_of(beside.as_str()));
-            words.add(" is not there: the inputs get no values.");
-            tell(alloc, words.as_str(), "console", answer);
-            Ok(Vec::new(alloc))
-        }
-    }
-}
-
-/// The name of the stimulus beside a source.
-fn beside(alloc: Global, program: &str) -> Result<String, AllocError> {
-    let mut name = String::from_str(alloc, program.strip_suffix(".balsa").unwrap_or(program))?;
-    name.push_str(".stimulus")?;
-    Ok(name)
 }
 
 /// The system of source and stimulus.

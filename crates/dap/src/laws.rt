@@ -1,8 +1,12 @@
 // What follows from these contracts, the contract of a function that does nothing.
 ghost use Rattle.dap.specs.Laws.{SessionIsLed};
 
-/// Whatever a client asks, one request after another: the desk is then what commands of sessions leave of the one with
-/// which the program was launched, or launched anew.
-pub fn session_laws()
-    ensures { SessionIsLed }
-{}
+use crate::sources::Sources;
+
+/// Whatever a client asks, one request after another, and whatever the files hold: the desk is then what commands of
+/// sessions leave of the one with which the program was launched, or launched anew.
+pub fn session_laws<F: Sources>(files: &F)
+    ensures { SessionIsLed (F.reads files.now) }
+{
+    let _files = files;
+}

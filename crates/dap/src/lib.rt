@@ -2,15 +2,18 @@
 //! its branches, and each step of a thread can be taken back.
 #![tactic(auto)]
 
+mod asked;
 mod begin;
 mod dispatch;
 mod face;
 mod launch;
 mod laws;
 mod moves;
+mod paths;
 mod restart;
 mod session;
 mod sources;
+mod texts;
 
 pub use dap_server::Fault;
 pub use face::Face;

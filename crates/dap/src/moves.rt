@@ -7,7 +7,7 @@ ghost use Rattle.dap_requests.specs.Said.{Runs};
 ghost use Rattle.dap_requests.specs.Typed.{KeepsSome};
 ghost use Rattle.dap.specs.Steps.{Backward, Forward, GoesOn, Steps, thread_of};
 
-use dap_messages::{Answer, Kind, Request};
+use dap_messages::{Answer, Kind, Request, Stop};
 use dap_moves::{Desk, Machine};
 use dap_requests::{back_in, go_in, reverse, step_in, stop};
 use dap_threads::thread_in;
@@ -104,10 +104,10 @@ fn back(
 
 /// Answers `pause`. It is read only once a run has ended, so nothing moves: it tells that the thread stands.
 fn pause(alloc: Global, machine: &Machine, request: &Request, answer: &mut Answer)
-    ensures { (d : AtDesk) → Runs answer.old answer.new d d (λ stop. stop ≡ stops.Stop.Stands) }
+    ensures { (d : AtDesk) → Runs answer.old answer.new d d (λ stop. stop ≡ stops.Stop.Pause) }
 {
     match thread_in(request, machine, answer) {
-        Some(branch) => stop(alloc, answer, "pause", branch, ""),
+        Some(branch) => stop(alloc, answer, Stop::Pause, branch, ""),
         None => {}
     }
 }

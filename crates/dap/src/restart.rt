@@ -1,17 +1,22 @@
 // Another launch in place of one.
-ghost use Rattle.std.specs.Prelude.{◌≡◌, ◌⊎◌, IfSome, true};
-ghost use Rattle.dap_moves.specs.Led.{Led};
+ghost use Rattle.std.specs.Prelude.{◌≡◌, ◌⊎◌, IfOk, IfSome, string_bytes, true};
+ghost use Rattle.std.specs.Option.{option_map};
+ghost use Rattle.serde_json.specs.View.{view};
+ghost use Rattle.dap.specs.Anew.{GoesAnew, IsMeant, KeepsSet, brought};
+ghost use Rattle.dap.specs.Anew as model;
+ghost use Rattle.dap.specs.Asking.{Asks, asked_by};
 ghost use Rattle.dap.specs.Goes.{Restarts};
 ghost use Rattle.dap.specs.Launching.{IsBegun};
-ghost use Rattle.dap.specs.Stops.{BeginsOnce, NotDone};
+ghost use Rattle.dap.specs.Stops.{NotDone};
 
 use crate::begin::begin;
-use crate::launch::{Launched, start};
+use crate::launch::{Launched, start, start_as};
 use crate::sources::Sources;
-use dap_messages::{Answer, Members, Outcome, Request, field};
+use dap_messages::{Answer, Outcome, Request, field};
 use dap_requests::{Placing, place_again, tell_changed};
 use dap_views::{Launch, Program, is_same_file};
-use std::alloc::Global;
+use serde_json::Value;
+use std::alloc::{AllocError, Global};
 use std::mem;
 
 /// Answers `restart`: the same again, from the files as they are now, or what the arguments name. Breakpoints stay.
@@ -23,7 +28,7 @@ pub(crate) fn restart<F: Sources>(
     request: &Request,
     answer: &mut Answer,
 )
-    ensures { Restarts launched.old answer.new launched.new }
+    ensures { Restarts (F.reads files.now) launched.old request.now answer.new launched.new }
 {
     match started_again(alloc, files, &launched.program, request, answer) {
         Some(anew) => replace(alloc, launched, anew, answer),
@@ -43,7 +48,7 @@ fn note_none(answer: &mut Answer)
 
 /// Takes what was launched anew in place of what was, if there is memory for its breakpoints.
 fn replace(alloc: Global, launched: &mut Launched, anew: Launched, answer: &mut Answer)
-    ensures { (Led anew.desk launched.new.desk × BeginsOnce answer.new)
+    ensures { GoesAnew launched.old anew answer.new launched.new
         ⊎ ((launched.new ≡ launched.old) × (answer.new.lacks ≡ true)) }
 {
     match place_again(alloc, anew.desk.machine(), &launched.program, &anew.program) {
@@ -52,7 +57,7 @@ fn replace(alloc: Global, launched: &mut Launched, anew: Launched, answer: &mut 
     }
 }
 
-/// Takes what was launched anew in place of what was.
+/// Takes what was launched anew in place of what was, and begins.
 fn begin_again(
     alloc: Global,
     launched: &mut Launched,
@@ -60,19 +65,21 @@ fn begin_again(
     placing: Placing,
     answer: &mut Answer,
 )
-    ensures { Led anew.desk launched.new.desk × BeginsOnce answer.new }
+    ensures { GoesAnew launched.old anew answer.new launched.new }
 {
-    let Launched {
-        program,
-        memo,
-        desk,
-    } = anew;
-    let before = mem::replace(&mut launched.program, program);
-    launched.memo = memo;
-    launched.desk = desk;
-    keep_settings(before, &mut launched.program);
+    take_over(alloc, launched, anew);
     tell_changed(alloc, &mut launched.program, placing, answer);
     begin(alloc, launched, answer);
+}
+
+/// Takes what was launched anew in place of what was, with what the client had set, but for breakpoints.
+fn take_over(alloc: Global, launched: &mut Launched, anew: Launched)
+    ensures set { KeepsSet launched.old.program anew.program launched.new.program }
+    ensures memo { launched.new.memo ≡ anew.memo }
+    ensures desk { launched.new.desk ≡ anew.desk }
+{
+    let mut before = mem::replace(launched, anew);
+    keep_settings(alloc, &mut before.program, &mut launched.program);
 }
 
 /// What a restart launches.
@@ -83,13 +90,44 @@ fn started_again<F: Sources>(
     request: &Request,
     answer: &mut Answer,
 ) -> Option<Launched>
-    ensures { IfSome result (λ launched. IsBegun launched.desk) }
+    ensures { IfSome result (λ launched. (asked : Asks)
+        × IsMeant (brought request.now) (asked_by program.now.launch) asked
+        × IsBegun (F.reads files.now) asked launched) }
+{
+    match brought_by(request) {
+        Some(arguments) => start(alloc, files, program.counting, arguments, answer),
+        None => start_same(alloc, files, program, answer),
+    }
+}
+
+/// The arguments for a launch that a restart brings, where they name a program.
+fn brought_by(request: &Request) -> Option<&Value>
+    ensures { option_map (λ v. view v.now) result ≡ brought request.now }
 {
     match request.part("arguments") {
-        Some(given) if field(given, "program").is_some() => {
-            start(alloc, files, program.counting, given, answer)
-        }
-        _ => start_same(alloc, files, program, answer),
+        Some(arguments) => with_program(arguments),
+        None => None,
+    }
+}
+
+/// These arguments, where they name a program.
+fn with_program(arguments: &Value) -> Option<&Value>
+    ensures { option_map (λ v. view v.now) result ≡ model.with_program (view arguments.now) }
+{
+    if names_program(arguments) {
+        Some(arguments)
+    } else {
+        None
+    }
+}
+
+/// Whether these arguments name a program.
+fn names_program(arguments: &Value) -> bool
+    ensures { result ≡ model.names_program (view arguments.now) }
+{
+    match field(arguments, "program") {
+        Some(_) => true,
+        None => false,
     }
 }
 
@@ -100,71 +138,77 @@ fn start_same<F: Sources>(
     program: &Program,
     answer: &mut Answer,
 ) -> Option<Launched>
-    ensures { IfSome result (λ launched. IsBegun launched.desk) }
+    ensures { IfSome result (IsBegun (F.reads files.now) (asked_by program.now.launch)) }
 {
-    match again(alloc, program).into_value() {
-        Some(arguments) => start(alloc, files, program.counting, &arguments, answer),
-        None => {
+    match same_launch(alloc, &program.launch) {
+        Ok(asked) => start_as(alloc, files, program.counting, asked, answer),
+        Err(AllocError) => {
             answer.lacks = true;
             None
         }
     }
 }
 
+/// The same launch.
+fn same_launch(alloc: Global, launch: &Launch) -> Result<Launch, AllocError>
+    ensures { IfOk result (λ same. asked_by same ≡ asked_by launch.now) }
+{
+    let program = String::from_str(alloc, launch.program.as_str())?;
+    let stimulus = same_path(alloc, &launch.stimulus)?;
+    let trace = same_path(alloc, &launch.trace)?;
+    Ok(Launch {
+        program,
+        stimulus,
+        trace,
+        stops: launch.stops,
+        most: launch.most,
+        free: launch.free,
+    })
+}
+
+/// The same path, where there is one.
+fn same_path(alloc: Global, path: &Option<String>) -> Result<Option<String>, AllocError>
+    ensures { IfOk result (λ same.
+        option_map (λ p. string_bytes p) same ≡ option_map (λ p. string_bytes p) path.now) }
+{
+    match path {
+        Some(path) => Ok(Some(String::from_str(alloc, path.as_str())?)),
+        None => Ok(None),
+    }
+}
+
 /// Keeps what the client has set on the program before; what is watched only where the source is the same. The
 /// breakpoints are placed apart from this.
-fn keep_settings(old: Program, program: &mut Program) {
-    let Program {
-        launch,
-        counting: _counting,
-        source,
-        lines: _lines,
-        index: _index,
-        asked: _asked,
-        elsewhere,
-        stops: _stops,
-        watched,
-        excepts,
-        last_id,
-        begun: _begun,
-        ended: _ended,
-        sight: _sight,
-    } = old;
-    let Launch {
-        program: own,
-        stimulus: _stimulus,
-        trace: _trace,
-        stops: _stops_first,
-        most: _most,
-        free: _free,
-    } = launch;
-    let file = elsewhere.unwrap_or(own);
+fn keep_settings(alloc: Global, old: &mut Program, program: &mut Program)
+    ensures { KeepsSet old.old program.old program.new }
+{
+    program.excepts = old.excepts;
+    program.last_id = old.last_id;
+    keep_file(alloc, old, program);
+    if old.source.as_slice() == program.source.as_slice() {
+        mem::swap(&mut old.watched, &mut program.watched);
+    }
+}
+
+/// Keeps the file for which breakpoints were asked, where it is another one.
+fn keep_file(alloc: Global, old: &mut Program, program: &mut Program)
+    ensures program { program.new ≡ record program.old { elsewhere = program.new.elsewhere } }
+    ensures source { old.new.source ≡ old.old.source }
+    ensures watched { old.new.watched ≡ old.old.watched }
+{
+    let file = file_of(alloc, old);
     if !is_same_file(file.as_str(), program.launch.program.as_str()) {
         program.elsewhere = Some(file);
     }
-    program.excepts = excepts;
-    program.last_id = last_id;
-    if source.as_slice() == program.source.as_slice() {
-        program.watched = watched;
-    }
 }
 
-/// The arguments of the launch.
-fn again(alloc: Global, program: &Program) -> Members {
-    let launch = &program.launch;
-    let mut arguments = Members::new(alloc);
-    arguments.text("program", launch.program.as_str());
-    add_name(&mut arguments, "stimulus", &launch.stimulus);
-    add_name(&mut arguments, "trace", &launch.trace);
-    arguments.flag("stopOnEntry", launch.stops);
-    arguments.number("maxSteps", launch.most);
-    arguments.flag("noDebug", launch.free);
-    arguments
-}
-
-/// Adds the name of a file, where there is one.
-fn add_name(arguments: &mut Members, key: &str, name: &Option<String>) {
-    if let Some(name) = name {
-        arguments.text(key, name.as_str());
+/// The file for which breakpoints were asked: it is taken out.
+fn file_of(alloc: Global, old: &mut Program) -> String
+    ensures source { old.new.source ≡ old.old.source }
+    ensures watched { old.new.watched ≡ old.old.watched }
+{
+    match old.elsewhere.take() {
+        Some(file) => file,
+        None => mem::replace(&mut old.launch.program, String::new(alloc)),
     }
 }

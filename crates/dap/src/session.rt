@@ -12,7 +12,7 @@ use std::alloc::Global;
 use std::io::{Read, Write};
 
 impl<F: Sources> Adapter<F> for Face {
-    ghost answers = { Comes };
+    ghost answers = { λ files. Comes (F.reads files) };
 
     ghost over = { is_over };
 
@@ -45,8 +45,8 @@ pub fn serve<R: Read, W: Write, F: Sources>(
 ) -> Result<(), Fault>
     ensures { OnOk result ((first : Facing) × (last : Facing) × (after : ℕ) × (first.launched ≡ None)
         × (first.over ≡ false)
-        × Serves Comes is_over first 1 last after (R.remaining reader.old) (R.remaining reader.new)
-        (W.contents writer.old) (W.contents writer.new)
+        × Serves (Comes (F.reads files.now)) is_over first 1 last after (R.remaining reader.old)
+        (R.remaining reader.new) (W.contents writer.old) (W.contents writer.new)
         × ((last.over ≡ true) ⊎ IsAtEnd (R.remaining reader.new))) }
 {
     let mut face = Face::new(alloc);

@@ -2,7 +2,7 @@
 use Rattle.std.proofs.Common.{◌≡◌, ℕ, ◌≤◌, List, true, false, Option, None, Some, bytes_eq, sym, ◌∙◌, ap, subst, codes}
 use Rattle.std.specs.Prelude.{option_and_then}
 use Rattle.std.proofs.lemmas.Slice.Eq.{bytes_eq-Decides}
-use Rattle.serde_json.specs.Data.{Data, Members as Named, depth, no_members, null, number, object, put, unsigned}
+use Rattle.serde_json.specs.Data.{Data, Members as Named, depth, no_members, number, object, put, unsigned}
 use Rattle.serde_json.specs.Find.{get, get_member}
 use Rattle.serde_json.specs.Read.{max_depth, read}
 use Rattle.serde_json.specs.View.{members_view, view}
@@ -10,31 +10,11 @@ use Rattle.serde_json.specs.declared.value.Value.{Value}
 use Rattle.serde_json.proofs.Views.{get_member-put, get_member-put_other}
 use Rattle.dap_messages.specs.Json.{IsJsonOf}
 use Rattle.dap_messages.specs.Messages.{HasError}
-use Rattle.dap_messages.specs.Written.{Has, Holds, Puts, PutsSome}
+use Rattle.dap_messages.specs.Written.{Has, Holds, Puts}
 use Rattle.dap_messages.specs.internal.Heads.{KeepsHead}
 use Rattle.dap_messages.specs.declared.members.Members.{Members}
 use Rattle.dap_messages.specs.declared.message.Message.{Message}
-
--- names that differ, as a test tells
-pub differ : (xs ys : List ℕ) → bytes_eq xs ys ≡ false → xs ≡ ys → ⊥
-differ xs ys other same =
-    let alike : bytes_eq xs ys ≡ true = (bytes_eq-Decides xs ys).1 same in
-    let both : true ≡ false = sym alike ∙ other in absurd (cc)
-
--- what was put is there
-pub has_put : (a b : Members) (name : List ℕ) (d : Data) → Puts a name d b → Has b name d
-has_put a b name d h = λ full. ap (λ (ms : Named). get_member name ms) (h full).1 ∙ get_member-put name d (members_view a.made.entries)
-
--- what was there, or was not, stays so where another is put
-pub holds_stays : (a b : Members) (name other : List ℕ) (found : Option Data) (e : Data) → bytes_eq name other ≡ false → Puts a other e b →
-    Holds a name found → Holds b name found
-holds_stays a b name other found e apart h k = λ full.
-    ap (λ (ms : Named). get_member name ms) (h full).1
-    ∙ get_member-put_other name other e (members_view a.made.entries) (differ name other apart)
-    ∙ k (h full).0
-
-pub has_stays : (a b : Members) (name other : List ℕ) (d e : Data) → bytes_eq name other ≡ false → Puts a other e b → Has a name d → Has b name d
-has_stays a b name other d e apart h k = holds_stays a b name other (Some d) e apart h k
+pub use Rattle.dap_messages.proofs.public.Held.{has_put, has_stays, holds_stays}
 
 -- at first there is none
 pub holds_none : (a : Members) (name : List ℕ) → members_view a.made.entries ≡ no_members → Holds a name None
@@ -64,9 +44,6 @@ keeps_on a m b h k = record {
 -- there was no memory for what should have been put
 pub lacks_put : (a b : Members) (name : List ℕ) (d : Data) → b.lacks ≡ true → Puts a name d b
 lacks_put a b name d lacks = λ full. let both : true ≡ false = sym lacks ∙ full in absurd (cc)
-
-pub puts_lacking : (a b : Members) (name : List ℕ) → b.lacks ≡ true → PutsSome a name b
-puts_lacking a b name lacks = (null, lacks_put a b name null lacks)
 
 pub lacks_whole : (a b : Members) → b.lacks ≡ true → b.lacks ≡ false → a.lacks ≡ false
 lacks_whole a b lacks full = let both : true ≡ false = sym lacks ∙ full in absurd (cc)

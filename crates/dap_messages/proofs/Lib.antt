@@ -1,3 +1,4 @@
+pub mod public
 mod Heading
 mod Numbered
 mod Reading

@@ -1,14 +1,8 @@
 -- One event more.
 use Rattle.std.proofs.Common.{◌≡◌, ℕ, ◌+◌, List, [], ◌∷◌, ◌++◌, length, ap, refl, ◌∙◌, arith}
 use Rattle.dap_messages.specs.Messages.{AreEvents, IsEvent}
-use Rattle.dap_messages.specs.Notes.{told_by}
 use Rattle.dap_messages.specs.declared.answer.Note.{Note}
 use Rattle.dap_messages.specs.declared.message.Message.{Message}
-use Rattle.dap_messages.specs.declared.told.Told.{Told}
-
-pub told-more : (notes : List Note) (note : Note) → told_by (notes ++ note ∷ []) ≡ told_by notes ++ note.told ∷ []
-told-more [] note = refl
-told-more (other ∷ notes) note = ap (λ (ts : List Told). other.told ∷ ts) (told-more notes note)
 
 pub events-more : (next : ℕ) (notes : List Note) (ms : List Message) (note : Note) (m : Message) → AreEvents next notes ms →
     m.seq ≡ next + length ms → IsEvent note m → AreEvents next (notes ++ note ∷ []) (ms ++ m ∷ [])

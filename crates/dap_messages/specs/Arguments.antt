@@ -1,6 +1,6 @@
 -- What a request has for arguments.
-use Rattle.std.specs.Prelude.{ℕ, Bool, false, List, Option, codes, option_and_then, unwrap_or}
-use Rattle.serde_json.specs.Data.{Data}
+use Rattle.std.specs.Prelude.{ℕ, Bool, false, List, Option, None, Some, codes, option_and_then, unwrap_or}
+use Rattle.serde_json.specs.Data.{Data, null}
 use Rattle.serde_json.specs.Find.{get, as_bool, as_number, as_str, as_u64}
 use Rattle.serde_json.specs.View.{view}
 use Rattle.dap_messages.specs.declared.request.Request.{Request}
@@ -16,6 +16,15 @@ text_named name d = option_and_then as_str (get name d)
 -- the member of this name, where it is `true` or `false`
 abbrev pub flag_named : List ℕ → Data → Option Bool
 flag_named name d = option_and_then as_bool (get name d)
+
+-- what is not null
+abbrev pub given : Data → Option Data
+given null = None
+given d = Some d
+
+-- the member of this name, where it is there and not null
+abbrev pub part_named : List ℕ → Data → Option Data
+part_named name d = option_and_then given (get name d)
 
 -- whether a request is of one thread alone
 abbrev pub is_single : Request → Bool

@@ -11,6 +11,7 @@ use Rattle.dap_messages.specs.declared.answer.Outcome.{Outcome}
 use Rattle.dap_messages.specs.declared.members.Members.{Members}
 use Rattle.dap_messages.specs.declared.message.Message.{Message}
 use Rattle.dap_messages.specs.declared.request.Request.{Request}
+use Rattle.dap_messages.specs.declared.told.Stop.{Stop}
 use Rattle.dap_messages.specs.declared.told.Told.{Told}
 
 -- the name of an event in the protocol
@@ -21,6 +22,16 @@ event_name (Told.Stopped stop) = codes "stopped"
 event_name Told.Exited = codes "exited"
 event_name Told.Terminated = codes "terminated"
 event_name Told.Breakpoint = codes "breakpoint"
+
+-- the reason of a `stopped` in the protocol
+abbrev pub reason_of : Stop → List ℕ
+reason_of Stop.Entry = codes "entry"
+reason_of Stop.Stepped = codes "step"
+reason_of Stop.Pause = codes "pause"
+reason_of Stop.AtLine = codes "breakpoint"
+reason_of Stop.Watched = codes "data breakpoint"
+reason_of (Stop.Refused why true) = codes "exception"
+reason_of (Stop.Refused why false) = codes "step"
 
 -- whether a request is done
 abbrev pub is_done : Outcome → Bool

@@ -1,8 +1,9 @@
 -- Objects of JSON that are being made.
-use Rattle.std.specs.Prelude.{◌≡◌, ℕ, List, Option, Some, false}
-use Rattle.serde_json.specs.Data.{Data, put}
+use Rattle.std.specs.Prelude.{◌≡◌, ℕ, List, [], ◌∷◌, ◌++◌, Option, Some, false, map}
+use Rattle.serde_json.specs.Data.{Data, object, put}
 use Rattle.serde_json.specs.Find.{get_member}
-use Rattle.serde_json.specs.View.{members_view}
+use Rattle.serde_json.specs.View.{members_view, view}
+use Rattle.dap_messages.specs.declared.members.Listed.{Listed}
 use Rattle.dap_messages.specs.declared.members.Members.{Members}
 
 -- the member of this name is this, if there is one, where there was memory for all members
@@ -19,6 +20,9 @@ Puts before name d after =
     after.lacks ≡ false →
     (before.lacks ≡ false) × (members_view after.made.entries ≡ put name d (members_view before.made.entries))
 
--- the same, whatever it is
-abbrev pub PutsSome : Members → List ℕ → Members → Type 0
-PutsSome before name after = (d : Data) × Puts before name d after
+-- an object is put behind the items of a list, where there was memory for all
+abbrev pub Pushes : Listed → Members → Listed → Type 0
+Pushes before ms after =
+    after.lacks ≡ false →
+    (before.lacks ≡ false) × (ms.lacks ≡ false)
+    × (map view after.made.items ≡ map view before.made.items ++ object (members_view ms.made.entries) ∷ [])

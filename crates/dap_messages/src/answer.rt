@@ -1,5 +1,8 @@
-ghost use Rattle.std.specs.Prelude.{◌≡◌, [], false};
-ghost use Rattle.dap_messages.specs.Notes.{Adds, IsDone, IsRefusal, effect_with};
+ghost use Rattle.std.specs.Prelude.{◌≡◌, [], false, true, None, Some};
+ghost use Rattle.std.specs.Option.{option_map};
+ghost use Rattle.serde_json.specs.Data.{object};
+ghost use Rattle.serde_json.specs.View.{members_view, view};
+ghost use Rattle.dap_messages.specs.Notes.{Adds, IsDone, IsDoneWith, IsRefusal, Refuses, effect_with};
 ghost use Rattle.dap_messages.specs.declared.answer.Effect.{Effect as Stays};
 
 use crate::members::Members;
@@ -90,6 +93,8 @@ impl Answer {
         ensures effect { self.new.effect ≡ self.old.effect }
         ensures same { self.new.notes ≡ self.old.notes }
         ensures lacks { self.new.lacks ≡ false → self.old.lacks ≡ false }
+        ensures body { self.new.lacks ≡ false
+            → (members.lacks ≡ false) × IsDoneWith (object (members_view members.made.entries)) self.new.outcome }
     {
         match members.into_value() {
             Some(body) => self.outcome = Outcome::Done(Some(body)),
@@ -99,6 +104,7 @@ impl Answer {
 
     /// Makes the response a refusal, for the reason of this number in these words.
     pub fn refuse(&mut self, number: u64, words: &str)
+        ensures says { Refuses self.old number words.now self.new }
         ensures refused { IsRefusal self.new.outcome }
         ensures same { self.new.notes ≡ self.old.notes }
         ensures lacks { self.new.lacks ≡ false → self.old.lacks ≡ false }
@@ -114,7 +120,8 @@ impl Answer {
 
     /// Adds an event with this body.
     pub fn note(&mut self, told: Told, members: Members)
-        ensures { Adds self.old told self.new }
+        ensures adds { Adds self.old told (Some (object (members_view members.made.entries))) self.new }
+        ensures whole { self.new.lacks ≡ false → members.lacks ≡ false }
     {
         match members.into_value() {
             Some(body) => self.add(told, Some(body)),
@@ -124,14 +131,14 @@ impl Answer {
 
     /// Adds an event without a body.
     pub fn tell(&mut self, told: Told)
-        ensures { Adds self.old told self.new }
+        ensures { Adds self.old told None self.new }
     {
         self.add(told, None);
     }
 
     /// Adds an event with this body, if one is given.
     pub fn add(&mut self, told: Told, body: Option<Value>)
-        ensures { Adds self.old told self.new }
+        ensures { Adds self.old told (option_map view body) self.new }
     {
         self.effect = self.effect.with_event(told);
         if self.notes.push(Note { told, body }).is_err() {
@@ -141,7 +148,9 @@ impl Answer {
 
     /// Keeps in mind that there was no memory for an event.
     fn lack(&mut self, told: Told)
-        ensures { Adds self.old told self.new }
+        ensures effect { self.new.effect ≡ effect_with self.old.effect told }
+        ensures lacks { self.new.lacks ≡ true }
+        ensures same { (self.new.notes ≡ self.old.notes) × (self.new.outcome ≡ self.old.outcome) }
     {
         self.effect = self.effect.with_event(told);
         self.lacks = true;

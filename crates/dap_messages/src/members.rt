@@ -1,12 +1,12 @@
 // Objects and lists of JSON that are being made. Where there is no memory for a part this is kept in mind, and told at
 // the end: so whoever makes a message need not ask after each part.
-ghost use Rattle.std.specs.Prelude.{◌≡◌, false, IfSome};
+ghost use Rattle.std.specs.Prelude.{◌≡◌, [], false, true, IfSome};
 ghost use Rattle.std.specs.Option.{option_map};
-ghost use Rattle.serde_json.specs.Data.{boolean, no_members, object, string, unsigned};
+ghost use Rattle.serde_json.specs.Data.{array, boolean, no_members, object, string, unsigned};
 ghost use Rattle.serde_json.specs.Data as json;
-ghost use Rattle.serde_json.specs.View.{members_view, view};
-ghost use Rattle.dap_messages.specs.Arguments.{number_named, text_named};
-ghost use Rattle.dap_messages.specs.Written.{Puts, PutsSome};
+ghost use Rattle.serde_json.specs.View.{items_view, members_view, view};
+ghost use Rattle.dap_messages.specs.Arguments.{given, number_named, part_named, text_named};
+ghost use Rattle.dap_messages.specs.Written.{Puts, Pushes};
 
 use serde_json::{Map, Value, push, put};
 use std::alloc::Global;
@@ -78,7 +78,8 @@ impl Members {
 
     /// Adds a list.
     pub fn list(&mut self, name: &str, list: Listed)
-        ensures { PutsSome self.old name.now self.new }
+        ensures puts { Puts self.old name.now (array (items_view list.made.items)) self.new }
+        ensures whole { self.new.lacks ≡ false → list.lacks ≡ false }
     {
         match list.into_value() {
             Some(value) => self.value(name, value),
@@ -87,7 +88,9 @@ impl Members {
     }
 
     /// Keeps in mind that there was no memory for a part.
-    pub fn lack(&mut self) {
+    pub fn lack(&mut self)
+        ensures { self.new.lacks ≡ true }
+    {
         self.lacks = true;
     }
 
@@ -118,7 +121,9 @@ pub struct Listed {
 
 impl Listed {
     /// A list without items.
-    pub fn new(alloc: Global) -> Listed {
+    pub fn new(alloc: Global) -> Listed
+        ensures { result.made.items ≡ [] }
+    {
         Listed {
             made: Vec::new(alloc),
             lacks: false,
@@ -126,7 +131,9 @@ impl Listed {
     }
 
     /// Adds an object behind the others.
-    pub fn push(&mut self, members: Members) {
+    pub fn push(&mut self, members: Members)
+        ensures { Pushes self.old members self.new }
+    {
         let added = match members.into_value() {
             Some(value) => push(&mut self.made, value).is_ok(),
             None => false,
@@ -148,7 +155,9 @@ impl Listed {
     }
 
     /// Keeps in mind that there was no memory for a part.
-    pub fn lack(&mut self) {
+    pub fn lack(&mut self)
+        ensures { self.new.lacks ≡ true }
+    {
         self.lacks = true;
     }
 
@@ -163,21 +172,42 @@ impl Listed {
     }
 
     /// The list; `None` where there was no memory for a part.
-    pub fn into_value(self) -> Option<Value> {
-        Some(Value::Array(self.into_items()?))
+    pub fn into_value(self) -> Option<Value>
+        ensures { IfSome result (λ value. (self.lacks ≡ false) × (view value ≡ array (items_view self.made.items))) }
+    {
+        match self.into_items() {
+            Some(items) => Some(Value::Array(items)),
+            None => None,
+        }
     }
 
     /// The items; `None` where there was no memory for a part.
-    pub fn into_items(self) -> Option<Vec<Value>> {
+    pub fn into_items(self) -> Option<Vec<Value>>
+        ensures { IfSome result (λ items. (self.lacks ≡ false) × (items ≡ self.made)) }
+    {
         let Listed { made, lacks } = self;
         if lacks { None } else { Some(made) }
     }
 }
 
 /// The member of this name that is not null.
-pub fn field<'a>(value: &'a Value, name: &str) -> Option<&'a Value> {
-    let found = value.get(name)?;
-    if found.is_null() { None } else { Some(found) }
+pub fn field<'a>(value: &'a Value, name: &str) -> Option<&'a Value>
+    ensures { option_map (λ v. view v.now) result ≡ part_named name.now (view value.now) }
+{
+    match value.get(name) {
+        Some(found) => given(found),
+        None => None,
+    }
+}
+
+/// The value, where it is not null.
+fn given(value: &Value) -> Option<&Value>
+    ensures { option_map (λ v. view v.now) result ≡ given (view value.now) }
+{
+    match value {
+        Value::Null => None,
+        _ => Some(value),
+    }
 }
 
 /// The member of this name, where it is a whole number from 0 on.

@@ -3,7 +3,7 @@ ghost use Rattle.std.specs.Option.{option_map};
 ghost use Rattle.serde_json.specs.Data.{depth, items_depth, members_depth, null};
 ghost use Rattle.serde_json.specs.Find.{get_member};
 ghost use Rattle.serde_json.specs.View.{items_view, members_view, view};
-ghost use Rattle.dap_messages.specs.Arguments.{flag_named, number_named, text_named};
+ghost use Rattle.dap_messages.specs.Arguments.{flag_named, number_named, part_named, text_named};
 ghost use Rattle.dap_messages.specs.Requests.{HasHead, HasNoHead, IsOf, IsReadAs, arguments_in, is_request_type};
 
 use crate::kind::{Kind, kind_of};
@@ -75,7 +75,9 @@ impl Request {
     }
 
     /// The argument of this name, where it is there and not null.
-    pub fn part(&self, name: &str) -> Option<&Value> {
+    pub fn part(&self, name: &str) -> Option<&Value>
+        ensures { option_map (λ v. view v.now) result ≡ part_named name.now (view self.now.arguments) }
+    {
         field(&self.arguments, name)
     }
 
@@ -88,7 +90,9 @@ impl Request {
     }
 
     /// All arguments.
-    pub fn arguments(&self) -> &Value {
+    pub fn arguments(&self) -> &Value
+        ensures { result.now ≡ self.now.arguments }
+    {
         &self.arguments
     }
 }

@@ -1,15 +1,38 @@
 ghost use Rattle.std.specs.Prelude.{◌≡◌};
-ghost use Rattle.dap_messages.specs.Messages.{event_name};
+ghost use Rattle.dap_messages.specs.Messages.{event_name, reason_of};
 
-/// How a thread stands, as a `stopped` tells it.
+/// Why nothing moves, as a `stopped` tells it.
 #[derive(Clone, Copy, Debug, PartialEq, Eq)]
 pub enum Stop {
-    /// nothing was refused, and no line stopped it
-    Stands,
+    /// no step is taken that could be taken back
+    Entry,
+    /// a step was taken, or taken back; or there was none to take
+    Stepped,
+    /// nothing goes on, as many steps were taken as may be, or it was asked to stand
+    Pause,
     /// before a step of which an action is on a line with a breakpoint
     AtLine,
+    /// behind a step that is watched, or where one was taken back
+    Watched,
     /// a step was refused, for the reason of this number; and whether that is an exception to the client
     Refused(u64, bool),
+}
+
+impl Stop {
+    /// The reason, as the protocol has it.
+    pub fn reason(self) -> &'static str
+        ensures { result.now ≡ reason_of self }
+    {
+        match self {
+            Stop::Entry => "entry",
+            Stop::Stepped => "step",
+            Stop::Pause => "pause",
+            Stop::AtLine => "breakpoint",
+            Stop::Watched => "data breakpoint",
+            Stop::Refused(_, true) => "exception",
+            Stop::Refused(_, false) => "step",
+        }
+    }
 }
 
 /// What is told without being asked: the events of the protocol that are used.

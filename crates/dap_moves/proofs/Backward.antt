@@ -10,13 +10,15 @@ use Rattle.runs.specs.declared.command.Refusal.{Refusal}
 use Rattle.runs.specs.declared.command.Refusal.TheVariants.{NoSuchEvent, NeededBy}
 use Rattle.dependence.proofs.public.ListPlaces.{in-at}
 use Rattle.locked_execution.specs.AtDesk.{AtDesk, execution}
-use Rattle.locked_execution.specs.Performs.{OnExecution, session_reply}
+use Rattle.locked_execution.specs.Performs.{Answers, OnExecution, session_reply}
+use Rattle.locked_execution.specs.declared.command.Command.{Command}
 use Rattle.locked_execution.specs.declared.command.Reply.{Reply}
 use Rattle.locked_execution.proofs.public.Unchanged.{all-same}
+use Rattle.dap_moves.specs.Moves.{quiet}
 use Rattle.dap_moves.specs.Laws.{RefusedBack, BackWhereAlone}
 
 -- an undo of a live event is refused where another depends on it
-refused-undo : (o o' : Object) (t : ℕ) (e : Event) (why : Refusal) → LiveAt o.live t e → Undoes o t (runs_reply.Reply.Refused why) o' →
+pub refused-undo : (o o' : Object) (t : ℕ) (e : Event) (why : Refusal) → LiveAt o.live t e → Undoes o t (runs_reply.Reply.Refused why) o' →
     (u : ℕ) × (why ≡ NeededBy u) × FirstDependent o.live t u × (o' ≡ o)
 refused-undo o o' t e NoSuchEvent live h = absurd (h.0 e live)
 refused-undo o o' t e (NeededBy u) live h = (u, refl, h.0.1, h.1)
@@ -54,6 +56,10 @@ refused-back d d' k t why h =
 undone-on : (d d' : AtDesk) (t u : ℕ) (e : Event) → OnExecution d (runs_command.Command.Undo t) (Reply.Undone u e) d' →
     (u ≡ t) × NoDependent d.machine.live t
 undone-on d d' t u e h = told-undone (execution d) (execution d') t u e h.0 h.1 h.2
+
+-- it has the ticket that was asked for
+pub undone_as : (d d' : AtDesk) (t u : ℕ) (e : Event) → Answers d quiet (Command.Undo t) (Reply.Undone u e) d' → u ≡ t
+undone_as d d' t u e h = elim h [ inl done ↦ (undone-on d d' t u e done).0 | inr none ↦ absurd none.0 ]
 
 pub back-where-alone : BackWhereAlone
 back-where-alone d d' k t u e h = elim h.1 [ inl done ↦ undone-on d d' t u e done | inr none ↦ absurd none.0 ]

@@ -24,14 +24,16 @@ use Rattle.dap_messages.specs.declared.told.Stop.{Stop}
 use Rattle.dap_messages.specs.declared.told.Told.{Told}
 use Rattle.dap_moves.specs.Moves.{StepsAt, StepsBack, targets}
 use Rattle.dap_moves.specs.Running.{KeepsChoice, RunsFrom}
-use Rattle.dap_moves.specs.TakingBack.{GoesBack, KeepsBack}
+use Rattle.dap_moves.specs.TakingBack.{GoesBack, KeepsBack, Returned}
 use Rattle.dap_moves.specs.declared.back.Back.{Back}
 use Rattle.dap_moves.specs.declared.run.Ended.{Ended}
 use Rattle.dap_moves.specs.declared.run.Plan.{Plan}
+use Rattle.dap_moves.specs.declared.seen.Watched.{Watched}
 use Rattle.dap_moves.specs.declared.taken_back.Rewound.{Rewound}
 use Rattle.dap_threads.specs.Threads.{branch_named}
+use Rattle.dap_views.specs.declared.program.Program.{Program}
 use Rattle.dap_requests.specs.Back.{Backs, Remembers, Reverses, ReversesFor, ReversesIn, SeenBehind, stop_back, stop_behind}
-use Rattle.dap_requests.specs.Forth.{AreSeen, Going, IsFirst, IsPlanned, RunsBy, StepsForth, Takes, alone, stop_at, stop_of, target_of}
+use Rattle.dap_requests.specs.Forth.{AreSeen, Going, IsFirst, IsPlanned, RunsBy, RunsFree, StepsForth, Takes, alone, stop_at, stop_of, target_of}
 use Rattle.dap_requests.specs.Said.{Runs, TellsOutputs, TellsStop}
 use Rattle.dap_requests.proofs.public.Saying.{runs_on, stops_behind, stops_on}
 
@@ -52,10 +54,10 @@ takes_found x d d' a b system es fs k n e same list found h =
 
 -- there is none
 pub takes_none : (x : Bool) (d : AtDesk) (a b : Answer) (system : System) (es fs : List Event) (k n : ℕ) → system ≡ d.machine.checked → fs ≡ es →
-    None ≡ slice_get (targets system k fs) n → TellsStop a Stop.Stands b →
+    None ≡ slice_get (targets system k fs) n → TellsStop a Stop.Stepped b →
     (stop : Stop) × TellsStop a stop b × Takes x d (slice_get (targets d.machine.checked k es) n) stop d
 takes_none x d a b system es fs k n same list found h =
-    (Stop.Stands, h, subst (λ (o : Option Event). Takes x d o Stop.Stands d) (here d system es fs k n None same list found) (refl, refl))
+    (Stop.Stepped, h, subst (λ (o : Option Event). Takes x d o Stop.Stepped d) (here d system es fs k n None same list found) (refl, refl))
 
 -- of the events that are ready
 pub forth_listed : (x : Bool) (d d' : AtDesk) (a b : Answer) (m : AtMachine) (es : List Event) (k n : ℕ) → m ≡ d.machine →
@@ -139,7 +141,7 @@ seen_or_more d k before after c first h = elim h [
 ]
 
 -- a step that was not refused
-pub stop_other : (x : Bool) (reply : Reply) → ((why : Refusal) → reply ≡ Reply.Refused why → ⊥) → stop_of x reply ≡ Stop.Stands
+pub stop_other : (x : Bool) (reply : Reply) → ((why : Refusal) → reply ≡ Reply.Refused why → ⊥) → stop_of x reply ≡ Stop.Stepped
 stop_other x (Reply.Refused why) other = absurd (other why refl)
 stop_other x _ other = refl
 
@@ -153,14 +155,23 @@ pub seen_cleared : (t : ℕ) (reply : Reply) (before after : List Choice) → ((
 seen_cleared t (Reply.Refused why) before after other none = absurd (other why refl)
 seen_cleared t _ before after other none = none
 
+-- a run back of the same branch, which the same lines stop and the same that is watched
+pub goes_back_by : (only only' : Option ℕ) (lines lines' : List ℕ) (watched watched' : List Watched) (d d' : AtDesk) (ended : Rewound) (kept : List Choice) →
+    only ≡ only' → lines ≡ lines' → watched ≡ watched' → GoesBack only lines watched d d' ended kept → GoesBack only' lines' watched' d d' ended kept
+goes_back_by only only' lines lines' watched watched' d d' ended kept branch stops looks h =
+    subst (λ (o : Option ℕ). GoesBack o lines' watched' d d' ended kept) branch
+    (subst (λ (ls : List ℕ). GoesBack only ls watched' d d' ended kept) stops
+    (subst (λ (ws : List Watched). GoesBack only lines ws d d' ended kept) looks h))
+
 -- steps are taken back for the branch of the thread that the request names
-pub reverses_thread : (x : Bool) (d d' : AtDesk) (m : AtMachine) (request : Request) (found : Option ℕ) (k : ℕ) (single : Bool) (stop : Stop) → m ≡ d.machine →
+pub reverses_thread : (program : Program) (d d' : AtDesk) (m : AtMachine) (request : Request) (found : Option ℕ) (k : ℕ) (single : Bool) (stop : Stop)
+    (after : List Choice) → m ≡ d.machine →
     found ≡ branch_named (branch_count m.checked) (number_named (codes "threadId") (view request.arguments)) → found ≡ Some k →
-    single ≡ is_single request → Reverses x (alone k single) d stop d' → ReversesFor x d request stop d'
-reverses_thread x d d' m request found k single stop same is some alone_is h =
-    subst (λ (o : Option ℕ). ReversesIn x o request d stop d')
+    single ≡ is_single request → Reverses program (alone k single) d stop d' after → ReversesFor program d request stop d' after
+reverses_thread program d d' m request found k single stop after same is some alone_is h =
+    subst (λ (o : Option ℕ). ReversesIn program o request d stop d' after)
     (sym some ∙ is ∙ ap (λ (y : AtMachine). branch_named (branch_count y.checked) (number_named (codes "threadId") (view request.arguments))) same)
-    (subst (λ (b : Bool). Reverses x (alone k b) d stop d') alone_is h)
+    (subst (λ (b : Bool). Reverses program (alone k b) d stop d' after) alone_is h)
 
 -- how it ended is told
 pub run_told : (going : Going) (k : Option ℕ) (d d' : AtDesk) (before after : List Choice) (a m b : Answer) (ended : Ended) →
@@ -168,6 +179,20 @@ pub run_told : (going : Going) (k : Option ℕ) (d d' : AtDesk) (before after : 
     (stop : Stop) × TellsStop a stop b × RunsBy going k d before stop d' after
 run_told going k d d' before after a m b ended outputs stops h =
     let stop = stop_at going.excepts ended in (stop, stops_on a m b stop outputs stops, h)
+
+-- a run that nothing stops
+pub runs_free : (most : ℕ) (d d' : AtDesk) (plan : Plan) (ended : Ended) → plan.first ≡ 0 → plan.only ≡ None → plan.lines.now ≡ [] →
+    plan.watched.now ≡ [] → plan.seen.now ≡ [] → plan.most ≡ most → RunsFrom 0 plan plan.seen.now d d' ended → RunsFree most d d'
+runs_free most d d' plan ended first only lines watched seen within h = record {
+  plan = plan;
+  ended = ended;
+  first = first;
+  only = only;
+  lines = lines;
+  watched = watched;
+  within = within;
+  runs = subst (λ (cs : List Choice). RunsFrom 0 plan cs d d' ended) seen h;
+}
 
 -- a body before it
 pub run_behind : (going : Going) (k : Option ℕ) (d d' : AtDesk) (before after : List Choice) (a m b : Answer) → TellsOutputs a m →
@@ -185,15 +210,14 @@ remembers_still d d' b before after seen same = inr (inl (seen, same))
 pub remembers_none : (d d' : AtDesk) (b : Answer) (before after : List Choice) → after ≡ [] → Remembers d d' b before after
 remembers_none d d' b before after none = inl none
 
-pub remembers_back : (x : Bool) (d d' : AtDesk) (a b : Answer) (before after : List Choice) (ended : Rewound) → TellsStop a (stop_behind x ended) b →
-    KeepsBack ended after → Remembers d d' b before after
-remembers_back x d d' a b before after Rewound.AtBeginning stops keeps = inl keeps
-remembers_back x d d' a b before after (Rewound.AtLine branch line) stops keeps = elim keeps [
+pub remembers_back : (ts : List Returned) (d d' : AtDesk) (a b : Answer) (before after : List Choice) (ended : Rewound) → TellsStop a (stop_behind ended) b →
+    KeepsBack ts ended after → Remembers d d' b before after
+remembers_back ts d d' a b before after Rewound.AtBeginning stops keeps = inl keeps
+remembers_back ts d d' a b before after (Rewound.AtLine branch line) stops keeps = elim keeps [
   | inl none ↦ inl none
-  | inr one ↦ inr (inr (stops.effect, one))
+  | inr one ↦ inr (inr (stops.effect, (choice_of one.1.event, one.3)))
 ]
-remembers_back x d d' a b before after (Rewound.Watched branch ticket) stops keeps = inl keeps
-remembers_back x d d' a b before after (Rewound.Refused why) stops keeps = inl keeps
+remembers_back ts d d' a b before after (Rewound.Watched branch ticket) stops keeps = inl keeps
 
 -- a step back that was refused changes nothing
 pub remembers_moved : (d d' : AtDesk) (k : ℕ) (b : Answer) (before after : List Choice) (moved : Back) → StepsBack d k moved d' →

@@ -1,5 +1,7 @@
 pub mod public
 mod Forward
-mod Kept
 mod Lines
+mod Placed
 mod Reading
+mod Setting
+mod Trimming

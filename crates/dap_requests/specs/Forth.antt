@@ -1,5 +1,5 @@
 -- Steps forth.
-use Rattle.std.specs.Prelude.{◌≡◌, ◌⊎◌, ℕ, ◌-◌, List, Bool, true, false, Option, None, Some, codes, slice_get}
+use Rattle.std.specs.Prelude.{◌≡◌, ◌⊎◌, ℕ, ◌-◌, List, [], Bool, true, false, Option, None, Some, codes, slice_get}
 use Rattle.serde_json.specs.View.{view}
 use Rattle.syntax.specs.Lists.{Every, In}
 use Rattle.runs.specs.Choices.{choice_of}
@@ -25,11 +25,11 @@ use Rattle.dap_views.specs.declared.program.Program.{Program}
 -- how a thread stands behind a step that was answered so; `excepts` where a refusal is an exception to the client
 abbrev pub stop_of : Bool → Reply → Stop
 stop_of excepts (Reply.Refused why) = Stop.Refused (refusal_number why) excepts
-stop_of excepts _ = Stop.Stands
+stop_of excepts _ = Stop.Stepped
 
 -- the step of this event is asked for, if there is one, and how it went is told
 abbrev pub Takes : Bool → AtDesk → Option Event → Stop → AtDesk → Type 0
-Takes excepts d None stop d' = (stop ≡ Stop.Stands) × (d' ≡ d)
+Takes excepts d None stop d' = (stop ≡ Stop.Stepped) × (d' ≡ d)
 Takes excepts d (Some e) stop d' = (reply : Reply) × StepsAt d e reply d' × (stop ≡ stop_of excepts reply)
 
 -- of the steps that branch k can be, the one of this number is asked for, if there is one; or there was no memory to
@@ -52,9 +52,11 @@ target_in request = target_of request.kind (number_named (codes "targetId") (vie
 
 -- how a thread stands where a run ends so
 abbrev pub stop_at : Bool → Ended → Stop
+stop_at excepts Ended.Nothing = Stop.Pause
 stop_at excepts (Ended.AtLine branch line) = Stop.AtLine
+stop_at excepts (Ended.Watched branch ticket) = Stop.Watched
+stop_at excepts (Ended.Most branch) = Stop.Pause
 stop_at excepts (Ended.Refused branch why) = Stop.Refused (refusal_number why) excepts
-stop_at excepts _ = Stop.Stands
 
 -- the choice is that of the first step of the branch, if one is meant
 abbrev pub IsFirst : AtDesk → Option ℕ → Choice → Type 0
@@ -109,3 +111,15 @@ pub record RunsBy (going : Going) (k : Option ℕ) (d : AtDesk) (before : List C
   pub runs : RunsFrom 0 plan plan.seen.now d d' ended
   pub told : stop ≡ stop_at going.excepts ended
   pub keeps : KeepsChoice going.lines d' ended after
+
+-- a run that nobody debugs, from d to d': it begins with the first branch, of all, takes no more steps than these, and
+-- neither lines nor what is watched stop it
+pub record RunsFree (most : ℕ) (d d' : AtDesk) : Type 0 where
+  pub plan : Plan
+  pub ended : Ended
+  pub first : plan.first ≡ 0
+  pub only : plan.only ≡ None
+  pub lines : plan.lines.now ≡ []
+  pub watched : plan.watched.now ≡ []
+  pub within : plan.most ≡ most
+  pub runs : RunsFrom 0 plan [] d d' ended

@@ -1,10 +1,16 @@
 -- What an answer tells behind its response.
-use Rattle.std.specs.Prelude.{◌≡◌, ◌++◌, ◌⊎◌, List, [], ◌∷◌, false}
+use Rattle.std.specs.Prelude.{◌≡◌, ◌++◌, ◌⊎◌, List, [], ◌∷◌, Some, codes, false}
+use Rattle.serde_json.specs.Data.{Data, string}
 use Rattle.syntax.specs.Lists.{Every}
 use Rattle.locked_execution.specs.AtDesk.{AtDesk}
-use Rattle.dap_messages.specs.Notes.{IsDone, IsRefusal, told_by}
+use Rattle.dap_messages.specs.Arguments.{text_named}
+use Rattle.dap_messages.specs.Messages.{reason_of}
+use Rattle.dap_messages.specs.Notes.{IsBehind, IsDone, IsRefusal, told_by}
+use Rattle.dap_messages.specs.Written.{Has}
 use Rattle.dap_messages.specs.declared.answer.Answer.{Answer}
+use Rattle.dap_messages.specs.declared.answer.Note.{Note}
 use Rattle.dap_messages.specs.declared.answer.Effect.{Effect}
+use Rattle.dap_messages.specs.declared.members.Members.{Members}
 use Rattle.dap_messages.specs.declared.told.Stop.{Stop}
 use Rattle.dap_messages.specs.declared.told.Told.{Told}
 
@@ -16,6 +22,10 @@ Tells a ts b = b.lacks ≡ false → (a.lacks ≡ false) × (told_by b.notes.ite
 abbrev pub AreOutputs : List Told → Type 0
 AreOutputs ts = Every (λ (t : Told). t ≡ Told.Output) ts
 
+-- of events, texts alone are told
+abbrev pub TellsTexts : Answer → Answer → Type 0
+TellsTexts a b = (outputs : List Told) × AreOutputs outputs × Tells a outputs b
+
 -- texts are told, and nothing else
 pub record TellsOutputs (a b : Answer) : Type 0 where
   pub outputs : List Told
@@ -24,11 +34,22 @@ pub record TellsOutputs (a b : Answer) : Type 0 where
   pub done : IsDone a.outcome → IsDone b.outcome
   pub effect : b.effect ≡ a.effect
 
+-- the reason of a `stopped` is among these members
+abbrev pub GivesReason : Stop → Members → Type 0
+GivesReason stop ms = Has ms (codes "reason") (string (reason_of stop))
+
+-- the last event is this `stopped`, and its body gives the reason
+abbrev pub SaysStop : Stop → Answer → Type 0
+SaysStop stop b =
+    (before : List Note) × (body : Data) × IsBehind before (Told.Stopped stop) (Some body) b.notes.items
+    × (text_named (codes "reason") body ≡ Some (reason_of stop))
+
 -- texts are told, and behind them one `stopped`, which comes even where there is no memory for others
 pub record TellsStop (a : Answer) (stop : Stop) (b : Answer) : Type 0 where
   pub outputs : List Told
   pub are : AreOutputs outputs
   pub told : Tells a (outputs ++ Told.Stopped stop ∷ []) b
+  pub says : b.lacks ≡ false → SaysStop stop b
   pub done : IsDone a.outcome → IsDone b.outcome
   pub effect : b.effect ≡ Effect.Due (Told.Stopped stop)
 

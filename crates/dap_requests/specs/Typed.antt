@@ -1,22 +1,26 @@
 -- Expressions that were typed as lines.
-use Rattle.std.specs.Prelude.{◌≡◌, ◌⊎◌, ◌||◌, ◌==◌, ℕ, Bool, false, cond, List, [], ◌∷◌, Option, None, Some, nat_eq, codes}
-use Rattle.std.specs.Cmp.Lexicographic.{pointwise}
+use Rattle.std.specs.Prelude.{◌≡◌, ◌⊎◌, ◌||◌, ◌==◌, ◌-◌, ℕ, Bool, false, true, cond, List, [], ◌∷◌, Option, None, Some, nat_eq, codes, drop, length, take}
 use Rattle.std.specs.Char.{is_ascii_whitespace}
+use Rattle.std.specs.Cmp.Lexicographic.{pointwise}
+use Rattle.std.specs.List.{prefix_len, suffix_len}
 use Rattle.serde_json.specs.View.{view}
 use Rattle.runs.specs.declared.event.Choice.{Choice}
 use Rattle.locked_execution.specs.AtDesk.{AtDesk}
 use Rattle.locked_execution.specs.Performs.{Answers}
 use Rattle.locked_execution.specs.declared.command.Command.{Command}
 use Rattle.locked_execution.specs.declared.command.Reply.{Reply}
-use Rattle.dap_messages.specs.Arguments.{text_named}
+use Rattle.debug_session.specs.Lines.{Asks}
+use Rattle.debug_session.specs.declared.line.Line.{Line}
+use Rattle.dap_messages.specs.Arguments.{number_named, text_named}
 use Rattle.dap_messages.specs.declared.answer.Answer.{Answer}
 use Rattle.dap_messages.specs.declared.answer.Effect.{Effect}
 use Rattle.dap_messages.specs.declared.request.Request.{Request}
 use Rattle.dap_messages.specs.declared.told.Stop.{Stop}
 use Rattle.dap_messages.specs.declared.told.Told.{Told}
-use Rattle.dap_moves.specs.Moves.{StepsBack}
-use Rattle.dap_moves.specs.TakingBack.{GoesBack}
-use Rattle.dap_moves.specs.declared.back.Back.{Back}
+use Rattle.dap_threads.specs.Frames.{HasFrame}
+use Rattle.dap_views.specs.declared.program.Program.{Program}
+use Rattle.dap_requests.specs.Back.{Backs, Reverses}
+use Rattle.dap_requests.specs.Said.{TellsStop, TellsTexts}
 
 -- whether the first byte that is not blank is a `!`
 abbrev pub begins_marked : List ℕ → Bool
@@ -38,6 +42,30 @@ is_typed request =
     is_console (text_named (codes "context") (view request.arguments))
     || is_marked (text_named (codes "expression") (view request.arguments))
 
+-- a text without the bytes before it that pass, and without those behind it
+abbrev pub without_before : (ℕ → Bool) → List ℕ → List ℕ
+without_before p text = drop (prefix_len p text) text
+
+abbrev pub without_behind : (ℕ → Bool) → List ℕ → List ℕ
+without_behind p text = take (length text - suffix_len p text) text
+
+-- a text without the blanks around it
+abbrev pub bare : List ℕ → List ℕ
+bare text = without_behind is_ascii_whitespace (without_before is_ascii_whitespace text)
+
+-- whether a byte is the mark
+abbrev pub is_mark : ℕ → Bool
+is_mark byte = byte == 33
+
+-- the line of an expression: it has no blanks around it, and no marks before it
+abbrev pub line_of : Option (List ℕ) → List ℕ
+line_of None = []
+line_of (Some text) = bare (without_before is_mark (bare text))
+
+-- the line of a request
+abbrev pub line_in : Request → List ℕ
+line_in request = line_of (text_named (codes "expression") (view request.arguments))
+
 -- what is kept in mind behind a line: nothing; or the same; or one step, where it was told that the thread stands at a
 -- line
 abbrev pub KeepsSome : Answer → List Choice → List Choice → Type 0
@@ -45,9 +73,40 @@ KeepsSome answer before after =
     (after ≡ []) ⊎ (after ≡ before)
     ⊎ ((answer.effect ≡ Effect.Due (Told.Stopped Stop.AtLine)) × ((c : Choice) × (after ≡ c ∷ [])))
 
--- what a typed expression does to a desk: nothing; or it asks for one command, in the session of the console; or for the
--- newest step of a branch to be taken back; or for a run back of all
-abbrev pub Evaluates : AtDesk → AtDesk → Type 0
-Evaluates d d' =
-    (d' ≡ d) ⊎ ((command : Command) × (reply : Reply) × Answers d 0 command reply d')
-    ⊎ ((k : ℕ) × (moved : Back) × StepsBack d k moved d') ⊎ GoesBack None d d'
+-- how a command is told: that nothing moves, where steps were taken or taken back; else in texts alone
+abbrev pub TellsMove : Bool → Answer → Answer → Type 0
+TellsMove true a b = TellsStop a Stop.Stepped b
+TellsMove false a b = TellsTexts a b
+
+-- whether a reply tells that steps were taken or taken back
+abbrev pub has_moved : Reply → Bool
+has_moved (Reply.Stepped t e) = true
+has_moved (Reply.Undone t e) = true
+has_moved (Reply.Rolled count) = true
+has_moved _ = false
+
+-- the command for which the line asks is asked, in the session of the console
+abbrev pub AsksAt : AtDesk → List ℕ → Answer → Answer → AtDesk → Type 0
+AsksAt d line a b d' =
+    (command : Command) × (reply : Reply) × Asks d.machine.checked line (Line.Asked command)
+    × Answers d 0 command reply d' × TellsMove (has_moved reply) a b
+
+-- what a typed line does to a desk where branch k is meant, and how that is told: the command for which it asks; or
+-- where it is `back`, the newest step of the branch is taken back; or where it is `rewind`, steps of all are
+abbrev pub LineDoes : Program → AtDesk → ℕ → List ℕ → Answer → Answer → AtDesk → Type 0
+LineDoes program d k line a b d' =
+    AsksAt d line a b d'
+    ⊎ ((line ≡ codes "back") × ((stop : Stop) × TellsStop a stop b × Backs program.excepts d k stop d'))
+    ⊎ ((line ≡ codes "rewind")
+    × ((stop : Stop) × (kept : List Choice) × TellsStop a stop b × Reverses program None d stop d' kept))
+
+-- nothing is done, and no event told
+abbrev pub DoesNothing : AtDesk → Answer → Answer → AtDesk → Type 0
+DoesNothing d a b d' = (d' ≡ d) × (b.notes ≡ a.notes)
+
+-- what a typed expression does: nothing; or what its line does, and the branch is that of the frame that is named
+abbrev pub Evaluates : Program → Request → AtDesk → Answer → Answer → AtDesk → Type 0
+Evaluates program request d a b d' =
+    DoesNothing d a b d'
+    ⊎ ((k : ℕ) × HasFrame d.machine.checked (number_named (codes "frameId") (view request.arguments)) k
+    × LineDoes program d k (line_in request) a b d')

@@ -1,9 +1,22 @@
 // Breakpoints on lines.
-ghost use Rattle.std.specs.Prelude.{◌≡◌, ◌≤◌, true, length};
+ghost use Rattle.std.specs.Prelude.{◌≡◌, ◌⊎◌, ◌||◌, ◌++◌, [], ◌∷◌, ℕ, List, None, Some, false, true, bytes_eq, codes, cond, is_some, unwrap_or, IfSome, MatchOption, MatchResult};
+ghost use Rattle.std.specs.Option.{option_map};
+ghost use Rattle.serde_json.specs.Data.{Data, boolean, number, unsigned};
+ghost use Rattle.serde_json.specs.Find.{as_array};
+ghost use Rattle.serde_json.specs.View.{items_view, view};
+ghost use Rattle.dap_messages.specs.Arguments.{text_named};
+ghost use Rattle.dap_messages.specs.Notes.{IsRefusal};
+ghost use Rattle.dap_messages.specs.Written.{Has};
 ghost use Rattle.dap_moves.specs.Stops.{FirstStop};
-ghost use Rattle.dap_views.specs.Kept.{SameButExcepts, SameButLines};
+ghost use Rattle.dap_views.specs.Counted.{at_most_all, shown_line};
 ghost use Rattle.dap_views.specs.Lined.{end_of};
-ghost use Rattle.dap_requests.specs.Stands.{StandsOn};
+ghost use Rattle.dap_requests.specs.Sets.{ArePlaced, PlacesAnew, PlacesAsked, SetsExcepts, SetsLines, StandsIn, asked_on};
+ghost use Rattle.dap_requests.specs.Sets.{filters_refused, has_refused, is_bare, is_refused, items_named, line_of};
+ghost use Rattle.dap_requests.specs.Sets.{file_of, is_again, is_elsewhere, lines_asked, lines_of, list_name, listed};
+ghost use Rattle.dap_requests.specs.Sets.{path_in, with_stop};
+ghost use Rattle.dap_requests.specs.Stands.{StandsOn, is_full};
+ghost use Rattle.dap_requests.specs.declared.breakpoints.Unlisted.{Unlisted as Lacks};
+ghost use Rattle.dap_requests.specs.internal.Placing.{PlacesOne};
 
 use dap_messages::{Answer, Listed, Members, Request, Told, number_in, text_in};
 use dap_moves::{Machine, first_stop, stop_lines};
@@ -41,12 +54,12 @@ pub(crate) fn items_in<'a>(
     request: &'a Request,
     name: &str,
     answer: &mut Answer,
-) -> Option<&'a [Value]> {
-    let Some(value) = request.part(name) else {
-        return Some(&[]);
-    };
-    match value.as_array() {
-        Some(items) => Some(items.as_slice()),
+) -> Option<&'a [Value]>
+    ensures items { option_map (λ xs. items_view xs.now) result ≡ items_named name.now (view request.now.arguments) }
+    ensures answer { MatchOption result (IsRefusal answer.new.outcome) (λ xs. answer.new ≡ answer.old) }
+{
+    match listed(request.part(name)) {
+        Some(items) => Some(items),
         None => {
             answer.refuse(104, "what is to be set is no list");
             None
@@ -54,28 +67,109 @@ pub(crate) fn items_in<'a>(
     }
 }
 
+/// The items of a part that is a list; none where it is not there.
+fn listed(part: Option<&Value>) -> Option<&[Value]>
+    ensures { option_map (λ xs. items_view xs.now) result ≡ listed (option_map (λ d. view d.now) part.entry) }
+{
+    match part {
+        Some(value) => items_of(value),
+        None => Some(&[]),
+    }
+}
+
+/// The items of a list.
+fn items_of(value: &Value) -> Option<&[Value]>
+    ensures { option_map (λ xs. items_view xs.now) result ≡ as_array (view value.now) }
+{
+    match value.as_array() {
+        Some(items) => Some(items.as_slice()),
+        None => None,
+    }
+}
+
 /// The lines that are asked for, as the client counts. It is refused where one is missing or no number.
-fn lines_in(alloc: Global, request: &Request, answer: &mut Answer) -> Option<Vec<u64>> {
-    let bare = request.part("breakpoints").is_none();
-    let name = if bare { "lines" } else { "breakpoints" };
-    let items = items_in(request, name, answer)?;
-    let mut lines = Vec::new(alloc);
-    for value in items {
-        let line = if bare {
-            value.as_u64()
-        } else {
-            number_in(value, "line")
-        };
-        let Some(line) = line else {
+fn lines_in(alloc: Global, request: &Request, answer: &mut Answer) -> Option<Vec<u64>>
+    ensures { MatchOption result (((lines_asked (view request.now.arguments) ≡ None) × IsRefusal answer.new.outcome)
+        ⊎ (answer.new.lacks ≡ true))
+        (λ lines. lines_asked (view request.now.arguments) ≡ Some lines.items) }
+{
+    let bare = is_bare(request);
+    match items_in(request, list_name(bare), answer) {
+        Some(items) => lines_among(alloc, bare, items, answer),
+        None => None,
+    }
+}
+
+/// Whether the request names bare lines, and no breakpoints.
+fn is_bare(request: &Request) -> bool
+    ensures { result ≡ is_bare (view request.now.arguments) }
+{
+    match request.part("breakpoints") {
+        Some(_) => false,
+        None => true,
+    }
+}
+
+/// What its list is called.
+fn list_name(bare: bool) -> &'static str
+    ensures { result.now ≡ list_name bare }
+{
+    if bare { "lines" } else { "breakpoints" }
+}
+
+/// The lines of these items. It is refused where one is missing or no number.
+fn lines_among(alloc: Global, bare: bool, items: &[Value], answer: &mut Answer) -> Option<Vec<u64>>
+    ensures { MatchOption result (((lines_of bare (items_view items.now) ≡ None) × IsRefusal answer.new.outcome)
+        ⊎ (answer.new.lacks ≡ true))
+        (λ lines. lines_of bare (items_view items.now) ≡ Some lines.items) }
+{
+    match lines_of(alloc, bare, items) {
+        Ok(lines) => Some(lines),
+        Err(Unlisted::Missing) => {
             answer.refuse(104, "`line` is missing or no number");
-            return None;
-        };
-        if lines.push(line).is_err() {
+            None
+        }
+        Err(Unlisted::Memory) => {
             answer.lacks = true;
-            return None;
+            None
         }
     }
-    Some(lines)
+}
+
+/// Why there are no lines.
+#[derive(Clone, Copy, Debug, PartialEq, Eq)]
+enum Unlisted {
+    Memory,
+    /// an item has none
+    Missing,
+}
+
+/// The lines of these items.
+fn lines_of(alloc: Global, bare: bool, items: &[Value]) -> Result<Vec<u64>, Unlisted>
+    ensures { MatchResult result (λ lines. lines_of bare (items_view items.now) ≡ Some lines.items)
+        (λ why. why ≡ Lacks.Missing → lines_of bare (items_view items.now) ≡ None) }
+{
+    let mut lines = Vec::new(alloc);
+    for item in items {
+        let Some(line) = line_of(bare, item) else {
+            return Err(Unlisted::Missing);
+        };
+        if lines.push(line).is_err() {
+            return Err(Unlisted::Memory);
+        }
+    }
+    Ok(lines)
+}
+
+/// The line of an item.
+fn line_of(bare: bool, item: &Value) -> Option<u64>
+    ensures { result ≡ line_of bare (view item.now) }
+{
+    if bare {
+        item.as_u64()
+    } else {
+        number_in(item, "line")
+    }
 }
 
 /// A breakpoint that is not set, for this reason.
@@ -96,11 +190,11 @@ pub fn set_lines(
     request: &Request,
     answer: &mut Answer,
 )
-    ensures { SameButLines program.old program.new }
+    ensures { SetsLines machine.now.checked.main (view request.now.arguments) program.old answer.new program.new }
 {
     let path = path_in(request);
     let own = program.is_at(path);
-    if own || is_elsewhere(program, path) {
+    if is_meant(program, own, path) {
         set_anew(alloc, machine, program, own, request, answer);
     } else {
         let words = other_words(alloc, program);
@@ -108,16 +202,35 @@ pub fn set_lines(
     }
 }
 
+/// Whether breakpoints are set in the file of this path, which may be the one that is debugged.
+fn is_meant(program: &Program, own: bool, path: &str) -> bool
+    ensures { result ≡ (own || is_elsewhere program.now path.now) }
+{
+    let elsewhere = is_elsewhere(program, path);
+    own || elsewhere
+}
+
 /// The path of the source that the request names.
-fn path_in(request: &Request) -> &str {
+fn path_in(request: &Request) -> &str
+    ensures { result.now ≡ path_in (view request.now.arguments) }
+{
     match request.part("source") {
-        Some(source) => text_in(source, "path").unwrap_or(""),
+        Some(source) => path_of(source),
         None => "",
     }
 }
 
+/// The path of a source.
+fn path_of(source: &Value) -> &str
+    ensures { result.now ≡ unwrap_or (text_named (codes "path") (view source.now)) [] }
+{
+    text_in(source, "path").unwrap_or("")
+}
+
 /// Whether the breakpoints were asked for in this file, and another is debugged.
-fn is_elsewhere(program: &Program, path: &str) -> bool {
+fn is_elsewhere(program: &Program, path: &str) -> bool
+    ensures { result ≡ is_elsewhere program.now path.now }
+{
     match &program.elsewhere {
         Some(file) => is_same_file(file.as_str(), path),
         None => false,
@@ -140,21 +253,51 @@ fn set_anew(
     request: &Request,
     answer: &mut Answer,
 )
-    ensures { SameButLines program.old program.new }
+    ensures { PlacesAsked own machine.now.checked.main (view request.now.arguments) program.old answer.new program.new }
 {
-    let Some(lines) = lines_in(alloc, request, answer) else {
-        return;
-    };
-    let Some(asked) = asked_for(alloc, program, lines.as_slice()) else {
-        answer.lacks = true;
-        return;
-    };
-    let Some(placing) = place_all(alloc, machine, program, asked.as_slice(), own) else {
-        answer.lacks = true;
-        return;
-    };
+    match lines_in(alloc, request, answer) {
+        Some(lines) => set_on(alloc, machine, program, own, lines.as_slice(), answer),
+        None => {}
+    }
+}
+
+/// Sets breakpoints on these lines in place of those that there are.
+fn set_on(
+    alloc: Global,
+    machine: &Machine,
+    program: &mut Program,
+    own: bool,
+    lines: &[u64],
+    answer: &mut Answer,
+)
+    ensures { PlacesAnew own machine.now.checked.main lines.now program.old program.new
+        ⊎ ((program.new ≡ program.old) × (answer.new.lacks ≡ true)) }
+{
+    match placed_on(alloc, machine, program, own, lines) {
+        Some(placing) => keep_on(alloc, program, own, lines.len() as u64, placing, answer),
+        None => answer.lacks = true,
+    }
+}
+
+/// Keeps so many breakpoints that were asked for, and tells them.
+fn keep_on(
+    alloc: Global,
+    program: &mut Program,
+    own: bool,
+    count: u64,
+    placing: Placing,
+    answer: &mut Answer,
+)
+    ensures { program.new ≡ record program.old {
+      asked = placing.asked;
+      stops = placing.stops;
+      elsewhere = cond own None program.old.elsewhere;
+      last_id = at_most_all program.old.last_id count;
+    } }
+{
+    let last = program.last_id.saturating_add(count);
     forget_elsewhere(program, own);
-    program.last_id = program.last_id.saturating_add(lines.len() as u64);
+    program.last_id = last;
     answer.did();
     let shown = keep(program, placing, answer);
     let mut body = Members::new(alloc);
@@ -164,15 +307,35 @@ fn set_anew(
 
 /// Forgets that the breakpoints were asked for in another file, where they are of the one that is debugged.
 fn forget_elsewhere(program: &mut Program, own: bool)
-    ensures { SameButLines program.old program.new }
+    ensures { program.new ≡ record program.old { elsewhere = cond own None program.old.elsewhere } }
 {
     if own {
         program.elsewhere = None;
     }
 }
 
+/// Breakpoints on these lines, where they stand; `None` where there is no memory.
+fn placed_on(
+    alloc: Global,
+    machine: &Machine,
+    program: &Program,
+    own: bool,
+    lines: &[u64],
+) -> Option<Placing>
+    ensures { IfSome result (λ placing. ArePlaced own machine.now.checked.main program.now.lines []
+        (asked_on program.now.counting.lines program.now.last_id lines.now) placing.asked.items placing.stops.items) }
+{
+    match asked_for(alloc, program, lines) {
+        Some(asked) => place_all(alloc, machine, program, asked.as_slice(), own),
+        None => None,
+    }
+}
+
 /// Breakpoints on these lines, each with a number of its own; `None` where there is no memory.
-fn asked_for(alloc: Global, program: &Program, lines: &[u64]) -> Option<Vec<Asked>> {
+fn asked_for(alloc: Global, program: &Program, lines: &[u64]) -> Option<Vec<Asked>>
+    ensures { IfSome result (λ asked. asked.items
+        ≡ asked_on program.now.counting.lines program.now.last_id lines.now) }
+{
     let mut asked = Vec::new(alloc);
     let mut id = program.last_id;
     for line in lines {
@@ -200,13 +363,29 @@ pub fn place_again(
     machine: &Machine,
     before: &Program,
     program: &Program,
-) -> Option<Placing> {
-    let file = match &before.elsewhere {
-        Some(file) => file.as_str(),
-        None => before.launch.program.as_str(),
-    };
-    let own = is_same_file(file, program.launch.program.as_str());
+) -> Option<Placing>
+    ensures { IfSome result (λ placing. ArePlaced (is_again before.now program.now) machine.now.checked.main
+        program.now.lines [] before.now.asked.items placing.asked.items placing.stops.items) }
+{
+    let own = is_again(before, program);
     place_all(alloc, machine, program, before.asked.as_slice(), own)
+}
+
+/// Whether the file for which the breakpoints were set is the one that is debugged now.
+fn is_again(before: &Program, program: &Program) -> bool
+    ensures { result ≡ is_again before.now program.now }
+{
+    is_same_file(file_of(before), program.launch.program.as_str())
+}
+
+/// The file for which the breakpoints were set.
+fn file_of(program: &Program) -> &str
+    ensures { result.now ≡ file_of program.now }
+{
+    match &program.elsewhere {
+        Some(file) => file.as_str(),
+        None => program.launch.program.as_str(),
+    }
 }
 
 /// Where these breakpoints stand: on lines that stop, if they are of the file that is debugged. `None` where there is
@@ -217,32 +396,93 @@ fn place_all(
     program: &Program,
     asked: &[Asked],
     own: bool,
-) -> Option<Placing> {
-    let mut stops = Vec::new(alloc);
-    let mut placed_all = Vec::new(alloc);
-    let mut shown_all = Listed::new(alloc);
-    let mut moved = Listed::new(alloc);
+) -> Option<Placing>
+    ensures { IfSome result (λ placing. ArePlaced own machine.now.checked.main program.now.lines []
+        asked.now placing.asked.items placing.stops.items) }
+{
+    let mut making = Making {
+        asked: Vec::new(alloc),
+        stops: Vec::new(alloc),
+        shown: Listed::new(alloc),
+        moved: Listed::new(alloc),
+    };
     for one in asked {
-        let placed = place_in(alloc, machine, program, *one, own, stops.as_slice());
-        if !placed.words.is_empty() {
-            moved.push(moved_line(alloc, program, *one, &placed.words));
-        }
-        shown_all.push(shown(alloc, program, *one, &placed));
-        let at = placed.line;
-        placed_all.push(Asked { at, ..*one }).ok()?;
-        add_stop(&mut stops, at)?;
+        place_one(alloc, machine, program, one, own, &mut making)?;
     }
-    Some(Placing {
-        asked: placed_all,
+    made(making)
+}
+
+/// Breakpoints that are being placed.
+#[derive(Drop)]
+struct Making {
+    asked: Vec<Asked>,
+    stops: Vec<u64>,
+    shown: Listed,
+    moved: Listed,
+}
+
+/// What was made; `None` where there was no memory.
+fn made(making: Making) -> Option<Placing>
+    ensures { IfSome result (λ placing. (placing.asked ≡ making.asked) × (placing.stops ≡ making.stops)) }
+{
+    let Making {
+        asked,
         stops,
-        shown: shown_all.into_items()?,
-        moved: moved.into_items()?,
-    })
+        shown,
+        moved,
+    } = making;
+    match (shown.into_items(), moved.into_items()) {
+        (Some(shown), Some(moved)) => Some(Placing {
+            asked,
+            stops,
+            shown,
+            moved,
+        }),
+        _ => None,
+    }
+}
+
+/// Places one breakpoint more; `None` where there is no memory.
+fn place_one(
+    alloc: Global,
+    machine: &Machine,
+    program: &Program,
+    one: &Asked,
+    own: bool,
+    making: &mut Making,
+) -> Option<()>
+    ensures { IfSome result (λ done. PlacesOne own machine.now.checked.main program.now.lines one.now
+        making.old making.new) }
+{
+    let placed = place_in(alloc, machine, program, *one, own, making.stops.as_slice());
+    tell_placed(alloc, program, *one, &placed, making);
+    let at = placed.line;
+    add_asked(&mut making.asked, Asked { at, ..*one })?;
+    add_stop(&mut making.stops, at)
+}
+
+/// Makes what is to be told of a breakpoint.
+fn tell_placed(alloc: Global, program: &Program, one: Asked, placed: &Placed, making: &mut Making)
+    ensures { (making.new.asked ≡ making.old.asked) × (making.new.stops ≡ making.old.stops) }
+{
+    if !placed.words.is_empty() {
+        making
+            .moved
+            .push(moved_line(alloc, program, one, &placed.words));
+    }
+    making.shown.push(shown(alloc, program, one, placed));
+}
+
+/// Adds a breakpoint; `None` where there is no memory for it.
+fn add_asked(asked: &mut Vec<Asked>, one: Asked) -> Option<()>
+    ensures { IfSome result (λ done. asked.new.items ≡ asked.old.items ++ one ∷ []) }
+{
+    asked.push(one).ok()
 }
 
 /// Keeps the breakpoints, tells which have moved, and gives each as the client sees it.
 fn keep(program: &mut Program, placing: Placing, answer: &mut Answer) -> Vec<Value>
-    ensures { SameButLines program.old program.new }
+    ensures { program.new ≡ record program.old { asked = placing.asked; stops = placing.stops } }
 {
     let Placing {
         asked,
@@ -259,10 +499,23 @@ fn keep(program: &mut Program, placing: Placing, answer: &mut Answer) -> Vec<Val
 }
 
 /// Adds the line to those that stop, where there is one; `None` where there is no memory for it.
-fn add_stop(stops: &mut Vec<u64>, line: Option<u64>) -> Option<()> {
+fn add_stop(stops: &mut Vec<u64>, line: Option<u64>) -> Option<()>
+    ensures { IfSome result (λ done. stops.new.items ≡ with_stop stops.old.items line) }
+{
     match line {
-        Some(line) if !stops.as_slice().contains(&line) => stops.push(line).ok(),
-        _ => Some(()),
+        Some(line) => add_line(stops, line),
+        None => Some(()),
+    }
+}
+
+/// Adds the line to those that stop, unless it is among them; `None` where there is no memory for it.
+fn add_line(stops: &mut Vec<u64>, line: u64) -> Option<()>
+    ensures { IfSome result (λ done. stops.new.items ≡ with_stop stops.old.items (Some line)) }
+{
+    if stops.as_slice().contains(&line) {
+        Some(())
+    } else {
+        stops.push(line).ok()
     }
 }
 
@@ -282,7 +535,7 @@ fn place_in(
     own: bool,
     stops: &[u64],
 ) -> Placed
-    ensures { own ≡ true → StandsOn machine.now.checked.main program.now.lines stops.now asked.line result.line }
+    ensures { StandsIn own machine.now.checked.main program.now.lines stops.now asked.line result.line }
 {
     if own {
         place(alloc, machine, program, asked, stops)
@@ -326,9 +579,11 @@ fn stop_below(machine: &Machine, program: &Program, line: u64) -> Option<u64>
 
 /// Whether as many lines stop as may, and this is none of them.
 fn is_full(stops: &[u64], line: u64) -> bool
-    ensures { result ≡ true → MOST_LINES ≤ length stops.now }
+    ensures { result ≡ is_full stops.now line }
 {
-    stops.len() >= MOST_LINES && !stops.contains(&line)
+    let many = stops.len() >= MOST_LINES;
+    let among = stops.contains(&line);
+    many && !among
 }
 
 /// What is to be said of a breakpoint that was asked for on one line and stands on another; nothing where both are one.
@@ -355,22 +610,44 @@ fn moved_line(alloc: Global, program: &Program, asked: Asked, why: &Words) -> Me
 }
 
 /// A breakpoint as the client sees it.
-fn shown(alloc: Global, program: &Program, asked: Asked, placed: &Placed) -> Members {
+fn shown(alloc: Global, program: &Program, asked: Asked, placed: &Placed) -> Members
+    ensures number_is { Has result (codes "id") (number (unsigned asked.id)) }
+    ensures verified { Has result (codes "verified") (boolean (is_some placed.now.line)) }
+    ensures line_is { Has result (codes "line")
+        (number (unsigned (shown_line program.now (unwrap_or placed.now.line asked.line)))) }
+{
     let mut one = Members::new(alloc);
     one.number("id", asked.id);
-    one.flag("verified", placed.line.is_some());
+    one.flag("verified", is_placed(placed));
     one.number(
         "line",
         program.shown_line(placed.line.unwrap_or(asked.line)),
     );
-    if !placed.words.is_empty() {
-        one.text("message", placed.words.as_str());
-    }
+    add_reason(&mut one, &placed.words);
     one
 }
 
+/// Whether it stands on a line.
+fn is_placed(placed: &Placed) -> bool
+    ensures { result ≡ is_some placed.now.line }
+{
+    placed.line.is_some()
+}
+
+/// Adds why a breakpoint stands elsewhere, or nowhere, where that is to be said.
+fn add_reason(one: &mut Members, words: &Words)
+    ensures { (name : List ℕ) (d : Data) → bytes_eq name (codes "message") ≡ false → Has one.old name d
+        → Has one.new name d }
+{
+    if !words.is_empty() {
+        one.text("message", words.as_str());
+    }
+}
+
 /// Keeps the breakpoints, and tells them again, since they may have moved in another source.
-pub fn tell_changed(alloc: Global, program: &mut Program, placing: Placing, answer: &mut Answer) {
+pub fn tell_changed(alloc: Global, program: &mut Program, placing: Placing, answer: &mut Answer)
+    ensures { program.new ≡ record program.old { asked = placing.asked; stops = placing.stops } }
+{
     for shown in keep(program, placing, answer) {
         let mut body = Members::new(alloc);
         body.text("reason", "changed");
@@ -420,26 +697,46 @@ pub fn locations(
 
 /// Answers `setExceptionBreakpoints`.
 pub fn set_exceptions(program: &mut Program, request: &Request, answer: &mut Answer)
-    ensures { SameButExcepts program.old program.new }
+    ensures { SetsExcepts (view request.now.arguments) program.old program.new }
 {
-    if let Some(excepts) = asks_for_refusals(request, answer) {
-        program.excepts = excepts;
+    match asks_for_refusals(request, answer) {
+        Some(excepts) => program.excepts = excepts,
+        None => {}
     }
 }
 
 /// Whether the filters that are set have refusals among them. It is refused where they are no list.
-pub fn asks_for_refusals(request: &Request, answer: &mut Answer) -> Option<bool> {
-    let filters = items_in(request, "filters", answer)?;
-    answer.did();
-    Some(has_refusals(filters))
+pub fn asks_for_refusals(request: &Request, answer: &mut Answer) -> Option<bool>
+    ensures refusals { result ≡ filters_refused (view request.now.arguments) }
+    ensures answer { MatchOption result (IsRefusal answer.new.outcome) (λ asked. answer.new.lacks ≡ answer.old.lacks) }
+{
+    match items_in(request, "filters", answer) {
+        Some(filters) => {
+            answer.did();
+            Some(has_refused(filters))
+        }
+        None => None,
+    }
 }
 
 /// Whether refusals are among these filters.
-fn has_refusals(filters: &[Value]) -> bool {
+fn has_refused(filters: &[Value]) -> bool
+    ensures { result ≡ has_refused (items_view filters.now) }
+{
     for filter in filters {
-        if filter.as_str() == Some("refused") {
+        if is_refused(filter.as_str()) {
             return true;
         }
     }
     false
+}
+
+/// Whether this is the filter of refusals.
+fn is_refused(filter: Option<&str>) -> bool
+    ensures { result ≡ is_refused (option_map (λ s. s.now) filter.entry) }
+{
+    match filter {
+        Some(word) => word.as_bytes() == b"refused".as_slice(),
+        None => false,
+    }
 }

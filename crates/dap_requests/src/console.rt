@@ -1,41 +1,29 @@
 // Expressions and lines that are typed, and how they can be completed.
-ghost use Rattle.std.specs.Prelude.{◌≡◌, ◌⊎◌, false, true};
-ghost use Rattle.dap_messages.specs.Notes.{IsDone, IsRefusal};
+ghost use Rattle.std.specs.Prelude.{◌≡◌, ◌⊎◌, ◌↔◌, IsTrue, codes, false, true};
 ghost use Rattle.locked_execution.specs.Performs.{Answers};
+ghost use Rattle.locked_execution.specs.declared.command.Reply.{Reply as Replied};
+ghost use Rattle.debug_session.specs.Lines.{Says};
+ghost use Rattle.dap_messages.specs.Notes.{IsDone};
 ghost use Rattle.dap_moves.specs.Led.{Led};
 ghost use Rattle.dap_requests.specs.Reading.{reads};
-ghost use Rattle.dap_requests.specs.Typed.{Evaluates, KeepsSome, is_typed};
+ghost use Rattle.dap_requests.specs.Said.{TellsTexts};
+ghost use Rattle.dap_requests.specs.Typed.{DoesNothing, Evaluates, KeepsSome, LineDoes, TellsMove, has_moved, is_typed};
 
-use crate::entered::{has_mark, is_typed};
+use crate::entered::{has_mark, is_typed, line_in};
 use crate::hints::add_in_place;
 use crate::moves::{back_in, reverse_in};
 use crate::said::{stop, tell, words_of};
-use dap_messages::{Answer, Members, Request};
+use dap_messages::{Answer, Members, Request, Stop};
 use dap_moves::{Command, Desk, Machine, Reply};
 use dap_threads::{channel_words, frame_in};
 use dap_views::{Memo, Program, Thing, Words, event_words};
-use line_text::{
-    Field, Keyword, add_bytes, add_consequences, add_entry, add_live, add_numbered, add_ready,
-    add_refusal, add_valued, cut_at_space, read_branch, read_choice, read_ticket, read_variable,
-    variable_field,
-};
+use debug_session::{Fault, Line, read_command, write_answer};
 use runs::Event;
+use sharing_check::Checked;
 use source_view::view;
 use std::alloc::{AllocError, Global};
 use std::str;
-use syntax::Boxed;
-use system::System;
 use trace_file::write_trace;
-
-/// What a typed line asks for.
-#[derive(Drop)]
-enum Line {
-    Asked(Boxed<Command>),
-    View,
-    Trace,
-    /// it is no line of a script
-    Unknown,
-}
 
 /// Answers `evaluate`: a variable, a channel, or a line of a script. One that changes something is taken only where it
 /// was typed for that: in the console, or behind a `!`.
@@ -51,7 +39,7 @@ pub fn evaluate(
     ensures led { Led desk.old desk.new }
     ensures system { desk.new.machine.checked ≡ desk.old.machine.checked }
     ensures looks { is_typed request.now ≡ false → desk.new ≡ desk.old }
-    ensures does { Evaluates desk.old desk.new }
+    ensures does { Evaluates program.now request.now desk.old answer.old answer.new desk.new }
     ensures refused { (desk.new ≡ desk.old) ⊎ (IsDone answer.old.outcome → IsDone answer.new.outcome) }
     ensures keeps { KeepsSome answer.new memo.old.seen.items memo.new.seen.items }
 {
@@ -74,7 +62,7 @@ fn evaluate_typed(
 )
     ensures led { Led desk.old desk.new }
     ensures system { desk.new.machine.checked ≡ desk.old.machine.checked }
-    ensures does { Evaluates desk.old desk.new }
+    ensures does { Evaluates program.now request.now desk.old answer.old answer.new desk.new }
     ensures refused { (desk.new ≡ desk.old) ⊎ (IsDone answer.old.outcome → IsDone answer.new.outcome) }
     ensures keeps { KeepsSome answer.new memo.old.seen.items memo.new.seen.items }
 {
@@ -98,18 +86,12 @@ fn evaluate_seen(
     request: &Request,
     answer: &mut Answer,
 )
-    ensures same { desk.new ≡ desk.old }
+    ensures { DoesNothing desk.old answer.old answer.new desk.new }
 {
     match frame_in(alloc, desk.machine(), program, request, answer) {
         Some((_, instance)) => looked_at(alloc, desk, program, instance, line_in(request), answer),
         None => {}
     }
-}
-
-/// The expression, without a mark before it.
-fn line_in(request: &Request) -> &str {
-    let text = request.text("expression").unwrap_or("").trim_ascii();
-    text.trim_start_matches('!').trim_ascii()
 }
 
 /// Answers a line that was typed.
@@ -127,7 +109,8 @@ fn typed(
 )
     ensures led { Led desk.old desk.new }
     ensures system { desk.new.machine.checked ≡ desk.old.machine.checked }
-    ensures does { Evaluates desk.old desk.new }
+    ensures does { DoesNothing desk.old answer.old answer.new desk.new
+        ⊎ LineDoes program.now desk.old branch line.now answer.old answer.new desk.new }
     ensures refused { (desk.new ≡ desk.old) ⊎ (IsDone answer.old.outcome → IsDone answer.new.outcome) }
     ensures keeps { KeepsSome answer.new memo.old.seen.items memo.new.seen.items }
 {
@@ -161,7 +144,8 @@ fn typed_word(
 )
     ensures led { Led desk.old desk.new }
     ensures system { desk.new.machine.checked ≡ desk.old.machine.checked }
-    ensures does { Evaluates desk.old desk.new }
+    ensures does { DoesNothing desk.old answer.old answer.new desk.new
+        ⊎ LineDoes program.now desk.old branch line.now answer.old answer.new desk.new }
     ensures refused { (desk.new ≡ desk.old) ⊎ (IsDone answer.old.outcome → IsDone answer.new.outcome) }
     ensures keeps { KeepsSome answer.new memo.old.seen.items memo.new.seen.items }
 {
@@ -186,7 +170,8 @@ fn typed_name(
 )
     ensures led { Led desk.old desk.new }
     ensures system { desk.new.machine.checked ≡ desk.old.machine.checked }
-    ensures does { Evaluates desk.old desk.new }
+    ensures does { DoesNothing desk.old answer.old answer.new desk.new
+        ⊎ LineDoes program.now desk.old branch line.now answer.old answer.new desk.new }
     ensures refused { (desk.new ≡ desk.old) ⊎ (IsDone answer.old.outcome → IsDone answer.new.outcome) }
     ensures keeps { KeepsSome answer.new memo.old.seen.items memo.new.seen.items }
 {
@@ -206,7 +191,7 @@ fn looked_at(
     line: &str,
     answer: &mut Answer,
 )
-    ensures same { desk.new ≡ desk.old }
+    ensures { DoesNothing desk.old answer.old answer.new desk.new }
 {
     match program.index.find(instance, line) {
         Some(thing) => told(alloc, desk.machine(), program, thing, answer),
@@ -216,7 +201,9 @@ fn looked_at(
 }
 
 /// Refuses a name that may mean more than one thing, and tells which.
-fn tell_several(alloc: Global, program: &Program, name: &str, answer: &mut Answer) {
+fn tell_several(alloc: Global, program: &Program, name: &str, answer: &mut Answer)
+    ensures { answer.new.notes ≡ answer.old.notes }
+{
     let mut words = Words::of(alloc, "the call of this frame does not declare `");
     words.add(name);
     words.add("`, and others do: with the number of its call it is ");
@@ -225,12 +212,16 @@ fn tell_several(alloc: Global, program: &Program, name: &str, answer: &mut Answe
 }
 
 /// Whether the line is understood here alone.
-fn is_own(line: &str) -> bool {
+fn is_own(line: &str) -> bool
+    ensures { IsTrue result ↔ ((line.now ≡ codes "back") ⊎ (line.now ≡ codes "rewind")) }
+{
     line == "back" || line == "rewind"
 }
 
 /// Whether the line takes one step back.
-fn is_back(line: &str) -> bool {
+fn is_back(line: &str) -> bool
+    ensures { IsTrue result ↔ line.now ≡ codes "back" }
+{
     line == "back"
 }
 
@@ -249,9 +240,10 @@ fn own_line(
     line: &str,
     answer: &mut Answer,
 )
+    requires { (line.now ≡ codes "back") ⊎ (line.now ≡ codes "rewind") }
     ensures led { Led desk.old desk.new }
     ensures system { desk.new.machine.checked ≡ desk.old.machine.checked }
-    ensures does { Evaluates desk.old desk.new }
+    ensures does { LineDoes program.now desk.old branch line.now answer.old answer.new desk.new }
     ensures done { IsDone answer.old.outcome → IsDone answer.new.outcome }
     ensures keeps { KeepsSome answer.new memo.old.seen.items memo.new.seen.items }
 {
@@ -265,7 +257,9 @@ fn own_line(
 
 /// Gives the response a result.
 fn result(alloc: Global, text: &str, kind: &str, answer: &mut Answer)
-    ensures { IsDone answer.old.outcome → IsDone answer.new.outcome }
+    ensures done { IsDone answer.old.outcome → IsDone answer.new.outcome }
+    ensures quiet { answer.new.notes ≡ answer.old.notes }
+    ensures lacks { answer.new.lacks ≡ false → answer.old.lacks ≡ false }
 {
     let mut body = Members::new(alloc);
     body.text("result", text);
@@ -277,14 +271,18 @@ fn result(alloc: Global, text: &str, kind: &str, answer: &mut Answer)
 }
 
 /// Tells the value of a variable, and the step that wrote it; or who stands at a channel.
-fn told(alloc: Global, machine: &Machine, program: &Program, thing: Thing, answer: &mut Answer) {
+fn told(alloc: Global, machine: &Machine, program: &Program, thing: Thing, answer: &mut Answer)
+    ensures { answer.new.notes ≡ answer.old.notes }
+{
     match thing {
         Thing::Variable(number) => told_variable(alloc, machine, number, answer),
         Thing::Channel(number) => told_channel(alloc, machine, program, number, answer),
     }
 }
 
-fn told_variable(alloc: Global, machine: &Machine, number: u32, answer: &mut Answer) {
+fn told_variable(alloc: Global, machine: &Machine, number: u32, answer: &mut Answer)
+    ensures { answer.new.notes ≡ answer.old.notes }
+{
     let mut words = Words::new(alloc);
     let mut kind = Words::new(alloc);
     if let Some(value) = machine.value(number) {
@@ -320,7 +318,9 @@ fn told_channel(
     program: &Program,
     number: u32,
     answer: &mut Answer,
-) {
+)
+    ensures { answer.new.notes ≡ answer.old.notes }
+{
     match &program.sight {
         Some(sight) => {
             let words = channel_words(alloc, machine, program, sight, number);
@@ -343,14 +343,40 @@ fn typed_line(
 )
     ensures led { Led desk.old desk.new }
     ensures system { desk.new.machine.checked ≡ desk.old.machine.checked }
-    ensures does { Evaluates desk.old desk.new }
+    ensures does { DoesNothing desk.old answer.old answer.new desk.new
+        ⊎ LineDoes program.now desk.old branch line.now answer.old answer.new desk.new }
     ensures refused { (desk.new ≡ desk.old) ⊎ (IsDone answer.old.outcome → IsDone answer.new.outcome) }
     ensures keeps { KeepsSome answer.new memo.old.seen.items memo.new.seen.items }
 {
-    match line_of(alloc, desk.machine().checked().system(), line.as_bytes()) {
-        Ok(Line::Asked(command)) => ask(alloc, desk, memo, branch, command.get(), answer),
-        Ok(other) => show_line(alloc, desk, program, &other, line, answer),
-        Err(AllocError) => answer.lacks = true,
+    match read_command(alloc, desk.machine().checked(), line.as_bytes(), 1) {
+        Ok(said) => typed_said(alloc, desk, program, memo, branch, line, &said, answer),
+        Err(fault) => unread(alloc, fault, line, answer),
+    }
+}
+
+/// Answers what a line that was typed says.
+#[tactic(auto, using(crate::proofs::Lines::stays))]
+fn typed_said(
+    alloc: Global,
+    desk: &mut Desk,
+    program: &Program,
+    memo: &mut Memo,
+    branch: u32,
+    line: &str,
+    said: &Line,
+    answer: &mut Answer,
+)
+    requires { Says desk.old.machine.checked line.now said.now }
+    ensures led { Led desk.old desk.new }
+    ensures system { desk.new.machine.checked ≡ desk.old.machine.checked }
+    ensures does { DoesNothing desk.old answer.old answer.new desk.new
+        ⊎ LineDoes program.now desk.old branch line.now answer.old answer.new desk.new }
+    ensures refused { (desk.new ≡ desk.old) ⊎ (IsDone answer.old.outcome → IsDone answer.new.outcome) }
+    ensures keeps { KeepsSome answer.new memo.old.seen.items memo.new.seen.items }
+{
+    match said {
+        Line::Asked(command) => ask(alloc, desk, memo, branch, command, answer),
+        other => show_line(alloc, desk, program, other, line, answer),
     }
 }
 
@@ -362,12 +388,38 @@ fn looked_at_line(
     line: &str,
     answer: &mut Answer,
 )
-    ensures same { desk.new ≡ desk.old }
+    ensures { DoesNothing desk.old answer.old answer.new desk.new }
 {
-    match line_of(alloc, desk.machine().checked().system(), line.as_bytes()) {
-        Ok(Line::Asked(command)) => look(alloc, desk, command.get(), line, answer),
-        Ok(other) => show_line(alloc, desk, program, &other, line, answer),
-        Err(AllocError) => answer.lacks = true,
+    match read_command(alloc, desk.machine().checked(), line.as_bytes(), 1) {
+        Ok(said) => looked_at_said(alloc, desk, program, line, &said, answer),
+        Err(fault) => unread(alloc, fault, line, answer),
+    }
+}
+
+/// Answers what a line says that a client looks at.
+fn looked_at_said(
+    alloc: Global,
+    desk: &mut Desk,
+    program: &Program,
+    line: &str,
+    said: &Line,
+    answer: &mut Answer,
+)
+    ensures { DoesNothing desk.old answer.old answer.new desk.new }
+{
+    match said {
+        Line::Asked(command) => look(alloc, desk, command, line, answer),
+        other => show_line(alloc, desk, program, other, line, answer),
+    }
+}
+
+/// Answers a line that says nothing, or that there was no memory to read.
+fn unread(alloc: Global, fault: Fault, line: &str, answer: &mut Answer)
+    ensures { answer.new.notes ≡ answer.old.notes }
+{
+    match fault {
+        Fault::Memory => answer.lacks = true,
+        _ => no_line(alloc, line, answer),
     }
 }
 
@@ -376,14 +428,16 @@ fn show_line(
     alloc: Global,
     desk: &Desk,
     program: &Program,
-    found: &Line,
+    said: &Line,
     line: &str,
     answer: &mut Answer,
-) {
-    match found {
+)
+    ensures { answer.new.notes ≡ answer.old.notes }
+{
+    match said {
         Line::View => show(alloc, view_bytes(alloc, desk, program), answer),
         Line::Trace => show(alloc, write_trace(alloc, desk.machine()), answer),
-        Line::Asked(_) | Line::Unknown => no_line(alloc, line, answer),
+        Line::Asked(_) | Line::Session(_) | Line::Empty => no_line(alloc, line, answer),
     }
 }
 
@@ -398,7 +452,9 @@ fn view_bytes(alloc: Global, desk: &Desk, program: &Program) -> Result<Vec<u8>, 
 }
 
 /// Refuses what is no variable, no channel and no line, and tells what serves in its place, where that is known.
-fn no_line(alloc: Global, line: &str, answer: &mut Answer) {
+fn no_line(alloc: Global, line: &str, answer: &mut Answer)
+    ensures { answer.new.notes ≡ answer.old.notes }
+{
     let mut words = Words::of(alloc, "`");
     words.add(line);
     words.add("` is no variable, no channel, and no line that is answered here");
@@ -408,7 +464,9 @@ fn no_line(alloc: Global, line: &str, answer: &mut Answer) {
 
 /// Answers with these bytes, without the end of their last line.
 fn show(alloc: Global, bytes: Result<Vec<u8>, AllocError>, answer: &mut Answer)
-    ensures { IsDone answer.old.outcome → IsDone answer.new.outcome }
+    ensures done { IsDone answer.old.outcome → IsDone answer.new.outcome }
+    ensures quiet { answer.new.notes ≡ answer.old.notes }
+    ensures lacks { answer.new.lacks ≡ false → answer.old.lacks ≡ false }
 {
     match bytes {
         Ok(bytes) => {
@@ -430,22 +488,25 @@ fn ask(
 )
     ensures led { Led desk.old desk.new }
     ensures system { desk.new.machine.checked ≡ desk.old.machine.checked }
-    ensures does { Evaluates desk.old desk.new }
+    ensures does { (reply : Replied) × Answers desk.old 0 command.now reply desk.new
+        × TellsMove (has_moved reply) answer.old answer.new }
     ensures done { IsDone answer.old.outcome → IsDone answer.new.outcome }
     ensures keeps { KeepsSome answer.new memo.old.seen.items memo.new.seen.items }
 {
     let reply = asked(desk, command);
     show_reply(alloc, desk.machine(), command, &reply, answer);
-    tell_set(alloc, command, &reply, answer);
     if has_moved(&reply) {
         memo.seen.clear();
-        stop(alloc, answer, "step", branch, "");
+        stop(alloc, answer, Stop::Stepped, branch, "");
+    } else {
+        tell_set(alloc, command, &reply, answer);
     }
 }
 
 /// Keeps in mind that breakpoints were set or cleared, and tells what stops there.
 fn tell_set(alloc: Global, command: &Command, reply: &Reply, answer: &mut Answer)
-    ensures { IsDone answer.old.outcome → IsDone answer.new.outcome }
+    ensures done { IsDone answer.old.outcome → IsDone answer.new.outcome }
+    ensures texts { TellsTexts answer.old answer.new }
 {
     keep_set(command, answer);
     if is_set(command, reply) {
@@ -457,7 +518,9 @@ fn tell_set(alloc: Global, command: &Command, reply: &Reply, answer: &mut Answer
 
 /// Keeps in mind that breakpoints were set or cleared, if they were.
 fn keep_set(command: &Command, answer: &mut Answer)
-    ensures { IsDone answer.old.outcome → IsDone answer.new.outcome }
+    ensures done { IsDone answer.old.outcome → IsDone answer.new.outcome }
+    ensures quiet { answer.new.notes ≡ answer.old.notes }
+    ensures lacks { answer.new.lacks ≡ answer.old.lacks }
 {
     match command {
         Command::Break(_) | Command::Clear(_) => answer.did(),
@@ -487,11 +550,12 @@ fn show_reply(
     reply: &Reply,
     answer: &mut Answer,
 )
-    ensures { IsDone answer.old.outcome → IsDone answer.new.outcome }
+    ensures done { IsDone answer.old.outcome → IsDone answer.new.outcome }
+    ensures quiet { answer.new.notes ≡ answer.old.notes }
+    ensures lacks { answer.new.lacks ≡ false → answer.old.lacks ≡ false }
 {
-    let system = machine.checked().system();
     let meaning = meaning_of(alloc, machine, reply);
-    let bytes = reply_bytes(alloc, system, command, reply, meaning.as_str());
+    let bytes = reply_bytes(alloc, machine.checked(), command, reply, meaning.as_str());
     show(alloc, bytes, answer);
 }
 
@@ -538,7 +602,7 @@ fn live_words(alloc: Global, machine: &Machine, ticket: u64) -> Words {
 
 /// Asks the desk where the command changes nothing.
 fn look(alloc: Global, desk: &mut Desk, command: &Command, line: &str, answer: &mut Answer)
-    ensures same { desk.new ≡ desk.old }
+    ensures { DoesNothing desk.old answer.old answer.new desk.new }
 {
     if only_reads(command) {
         let reply = asked_alone(desk, command);
@@ -549,7 +613,9 @@ fn look(alloc: Global, desk: &mut Desk, command: &Command, line: &str, answer: &
 }
 
 /// Refuses a line that changes something where it was not typed for that.
-fn only_typed(alloc: Global, line: &str, answer: &mut Answer) {
+fn only_typed(alloc: Global, line: &str, answer: &mut Answer)
+    ensures { answer.new.notes ≡ answer.old.notes }
+{
     let mut words = Words::of(alloc, "`");
     words.add(line);
     words.add("` changes something: type it in the console, or put a `!` before it");
@@ -561,11 +627,13 @@ fn asked_alone(desk: &mut Desk, command: &Command) -> Reply
     requires { reads command.now ≡ true }
     ensures { desk.new ≡ desk.old }
 {
-    desk.perform(0, command)
+    asked(desk, command)
 }
 
 /// Whether the reply tells that steps were taken or taken back.
-fn has_moved(reply: &Reply) -> bool {
+fn has_moved(reply: &Reply) -> bool
+    ensures { result ≡ has_moved reply.now }
+{
     matches!(
         reply,
         Reply::Stepped(_, _) | Reply::Undone(_, _) | Reply::Rolled(_)
@@ -586,101 +654,18 @@ fn only_reads(command: &Command) -> bool
     )
 }
 
-/// What the line asks for. It is an error if there is no memory for it.
-fn line_of(alloc: Global, system: &System, line: &[u8]) -> Result<Line, AllocError> {
-    let (word, rest) = cut_at_space(line);
-    match Keyword::read(word) {
-        Some(Keyword::Step) => step_line(alloc, rest),
-        Some(Keyword::View) if rest.is_empty() => Ok(Line::View),
-        Some(Keyword::Trace) if rest.is_empty() => Ok(Line::Trace),
-        Some(keyword) => boxed(alloc, simple(system, keyword, rest)),
-        None => Ok(Line::Unknown),
-    }
-}
-
-/// What a line asks for that asks for a step.
-fn step_line(alloc: Global, rest: &[u8]) -> Result<Line, AllocError> {
-    match read_choice(alloc, rest)? {
-        Some(choice) => boxed(alloc, Some(Command::Step(choice))),
-        None => Ok(Line::Unknown),
-    }
-}
-
-/// The line that asks for the command.
-fn boxed(alloc: Global, command: Option<Command>) -> Result<Line, AllocError> {
-    match command {
-        Some(command) => Ok(Line::Asked(Boxed::new(alloc, command)?)),
-        None => Ok(Line::Unknown),
-    }
-}
-
-/// What a line with another keyword asks for.
-fn simple(system: &System, keyword: Keyword, rest: &[u8]) -> Option<Command> {
-    match keyword {
-        Keyword::Step | Keyword::Session | Keyword::View | Keyword::Trace => None,
-        Keyword::Undo => Some(Command::Undo(read_ticket(rest)?)),
-        Keyword::Roll => Some(Command::Roll(read_ticket(rest)?)),
-        Keyword::Consequences => Some(Command::Consequences(read_ticket(rest)?)),
-        Keyword::RollValue => Some(Command::RollValue(read_variable(system, rest)?)),
-        Keyword::Blame => Some(Command::Blame(read_variable(system, rest)?)),
-        Keyword::Value => Some(Command::Value(read_variable(system, rest)?)),
-        Keyword::Branch => Some(Command::Branch(read_branch(rest)?)),
-        Keyword::Break => Some(Command::Break(read_ticket(rest)?)),
-        Keyword::Clear => Some(Command::Clear(read_ticket(rest)?)),
-        Keyword::Ready => bare(rest, Command::Ready),
-        Keyword::Live => bare(rest, Command::Live),
-    }
-}
-
-/// The command, where nothing is left.
-fn bare(rest: &[u8], command: Command) -> Option<Command> {
-    if rest.is_empty() { Some(command) } else { None }
-}
-
 /// The bytes with which a script is answered where this is the reply to the command, and a line of what it means.
 fn reply_bytes(
     alloc: Global,
-    system: &System,
+    checked: &Checked,
     command: &Command,
     reply: &Reply,
     meaning: &str,
 ) -> Result<Vec<u8>, AllocError> {
-    let mut out = Vec::new(alloc);
-    add_reply(&mut out, system, command, reply)?;
+    let mut out = write_answer(alloc, checked, command, reply)?;
     if !meaning.is_empty() {
         out.extend_from_slice(b"  ")?;
         out.extend_from_slice(meaning.as_bytes())?;
     }
     Ok(out)
-}
-
-/// Adds the answer to the command.
-fn add_reply(
-    out: &mut Vec<u8>,
-    system: &System,
-    command: &Command,
-    reply: &Reply,
-) -> Result<(), AllocError> {
-    match reply {
-        Reply::Stepped(ticket, event) => add_entry(out, b"step", system, *ticket, event),
-        Reply::Undone(ticket, event) => add_entry(out, b"undone", system, *ticket, event),
-        Reply::Rolled(count) => add_numbered(out, b"rolled", *count),
-        Reply::Blamed(ticket) => add_numbered(out, b"blame", *ticket),
-        Reply::Ready(events) => add_ready(out, system, events.as_slice()),
-        Reply::Consequences(tickets) => add_consequences(out, tickets.as_slice()),
-        Reply::Live(pairs) => add_live(out, system, pairs.as_slice()),
-        Reply::Value(value) => add_valued(out, asked_field(system, command), value.bits()),
-        Reply::Stopped(line) => add_numbered(out, b"stopped", *line),
-        Reply::Idle => add_bytes(out, b"idle\n"),
-        Reply::Done => add_bytes(out, b"ok\n"),
-        Reply::Refused(why) => add_refusal(out, *why),
-    }
-}
-
-/// The name of the variable whose value the command asks for.
-fn asked_field<'a>(system: &'a System, command: &Command) -> Field<'a> {
-    match command {
-        Command::Value(variable) => variable_field(system, Some(*variable)),
-        _ => Field::Word(b"?"),
-    }
 }

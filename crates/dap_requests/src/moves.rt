@@ -9,18 +9,18 @@ ghost use Rattle.machine.specs.AtMachine.{object};
 ghost use Rattle.locked_execution.specs.AtDesk.{AtDesk};
 ghost use Rattle.dap_moves.specs.Led.{Led};
 ghost use Rattle.dap_moves.specs.Moves.{targets};
-ghost use Rattle.dap_moves.specs.TakingBack.{GoesBack, KeepsBack};
+ghost use Rattle.dap_moves.specs.TakingBack.{GoesBack};
 ghost use Rattle.dap_moves.specs.declared.back.Back as moved;
 ghost use Rattle.dap_messages.specs.Notes.{IsRefusal};
 ghost use Rattle.dap_messages.specs.declared.kind.Kind as asks;
-ghost use Rattle.dap_messages.specs.declared.told.Stop.{Stop as Stands};
+ghost use Rattle.dap_messages.specs.declared.told.Stop.{Stop as Stopped};
 ghost use Rattle.dap_requests.specs.Back.{Backs, Remembers, Reverses, ReversesFor, SeenBehind, stop_back, stop_behind};
-ghost use Rattle.dap_requests.specs.Forth.{AreSeen, RunsBy, StepsForth, Takes, alone, going_of, stop_at, stop_of, target_in};
+ghost use Rattle.dap_requests.specs.Forth.{AreSeen, RunsBy, RunsFree, StepsForth, Takes, alone, going_of, stop_at, stop_of, target_in};
 ghost use Rattle.dap_requests.specs.Said.{Runs, TellsOutputs, TellsStop};
 
 use crate::said::{stop, stop_at_line, tell, tell_outputs, tell_refused, tell_step, words_of};
 use crate::still::{nothing_words, why_none};
-use dap_messages::{Answer, Kind, Members, Request};
+use dap_messages::{Answer, Kind, Members, Request, Stop};
 use dap_moves::{
     Back, Desk, Ended, Machine, Marks, Plan, Reply, Rewound, go_on, rewind, rewind_branch, step_at,
     step_back, step_back_laws, target_at,
@@ -95,7 +95,7 @@ pub fn next_in(
 )
     ensures led { Led desk.old desk.new }
     ensures system { desk.new.machine.checked ≡ desk.old.machine.checked }
-    ensures goes { (stop : Stands) × TellsStop answer.old stop answer.new
+    ensures goes { (stop : Stopped) × TellsStop answer.old stop answer.new
         × StepsForth program.now.excepts desk.old branch number stop desk.new }
     ensures keeps { Remembers desk.old desk.new answer.new memo.old.seen.items memo.new.seen.items }
 {
@@ -108,7 +108,7 @@ pub fn next_in(
 /// Tells that there is no memory to look for a step.
 fn no_memory(alloc: Global, program: &Program, memo: &mut Memo, branch: u32, answer: &mut Answer)
     ensures seen { memo.new.seen ≡ memo.old.seen }
-    ensures stops { TellsStop answer.old (Stands.Refused 1 program.now.excepts) answer.new }
+    ensures stops { TellsStop answer.old (Stopped.Refused 1 program.now.excepts) answer.new }
 {
     let words = "no memory to look for a step";
     tell_refused(alloc, program, memo, answer, branch, Refusal::Memory, words);
@@ -127,7 +127,7 @@ fn take_target(
 )
     ensures led { Led desk.old desk.new }
     ensures system { desk.new.machine.checked ≡ desk.old.machine.checked }
-    ensures goes { (stop : Stands) × TellsStop answer.old stop answer.new
+    ensures goes { (stop : Stopped) × TellsStop answer.old stop answer.new
         × Takes program.now.excepts desk.old (slice_get (targets desk.old.machine.checked branch events.now) number)
         stop desk.new }
     ensures keeps { Remembers desk.old desk.new answer.new memo.old.seen.items memo.new.seen.items }
@@ -151,7 +151,7 @@ fn take(
 )
     ensures led { Led desk.old desk.new }
     ensures system { desk.new.machine.checked ≡ desk.old.machine.checked }
-    ensures goes { (stop : Stands) × TellsStop answer.old stop answer.new
+    ensures goes { (stop : Stopped) × TellsStop answer.old stop answer.new
         × Takes program.now.excepts desk.old (Some event.now) stop desk.new }
     ensures keeps { memo.new.seen.items ≡ [] }
 {
@@ -194,11 +194,11 @@ fn tell_took(
 
 /// Tells the live step at this index, which was taken.
 fn tell_taken(alloc: Global, machine: &Machine, index: usize, branch: u32, answer: &mut Answer)
-    ensures { TellsStop answer.old Stands.Stands answer.new }
+    ensures { TellsStop answer.old Stopped.Stepped answer.new }
 {
     tell_outputs(alloc, machine, index, answer);
     tell_live(alloc, machine, index, answer);
-    stop(alloc, answer, "step", branch, "");
+    stop(alloc, answer, Stop::Stepped, branch, "");
 }
 
 /// Tells the live step at this index, if there is one.
@@ -220,23 +220,23 @@ fn no_target(
     number: u64,
     answer: &mut Answer,
 )
-    ensures { TellsStop answer.old Stands.Stands answer.new }
+    ensures { TellsStop answer.old Stopped.Stepped answer.new }
 {
     let words = if number > 0 {
         Words::of(alloc, "There is no such step any more")
     } else {
         why_none(alloc, machine, program, branch)
     };
-    tell_and_stop(alloc, answer, "step", branch, &words);
+    tell_and_stop(alloc, answer, Stop::Stepped, branch, &words);
 }
 
 /// Tells the words, and that nothing moves.
 #[tactic(auto, using(crate::proofs::public::Saying::stops_on))]
-fn tell_and_stop(alloc: Global, answer: &mut Answer, reason: &str, branch: u32, words: &Words)
-    ensures { TellsStop answer.old Stands.Stands answer.new }
+fn tell_and_stop(alloc: Global, answer: &mut Answer, why: Stop, branch: u32, words: &Words)
+    ensures { TellsStop answer.old why answer.new }
 {
     tell(alloc, words.as_str(), "console", answer);
-    stop(alloc, answer, reason, branch, words.as_str());
+    stop(alloc, answer, why, branch, words.as_str());
 }
 
 /// Answers `continue`: goes on from where the branch stands, alone or in turn with the others.
@@ -251,7 +251,7 @@ pub fn go_in(
 )
     ensures led { Led desk.old desk.new }
     ensures system { desk.new.machine.checked ≡ desk.old.machine.checked }
-    ensures goes { (stop : Stands) × TellsStop answer.old stop answer.new
+    ensures goes { (stop : Stopped) × TellsStop answer.old stop answer.new
         × RunsBy (going_of program.now (alone branch single)) (Some branch) desk.old memo.old.seen.items stop desk.new
         memo.new.seen.items }
 {
@@ -286,7 +286,7 @@ pub fn run(
 )
     ensures led { Led desk.old desk.new }
     ensures system { desk.new.machine.checked ≡ desk.old.machine.checked }
-    ensures goes { (stop : Stands) × TellsStop answer.old stop answer.new
+    ensures goes { (stop : Stopped) × TellsStop answer.old stop answer.new
         × RunsBy (going_of program.now only) branch desk.old memo.old.seen.items stop desk.new memo.new.seen.items }
 {
     let before = desk.machine().live_events().len();
@@ -335,6 +335,7 @@ fn run_on(
 pub fn run_free(alloc: Global, desk: &mut Desk, program: &Program, answer: &mut Answer)
     ensures led { Led desk.old desk.new }
     ensures system { desk.new.machine.checked ≡ desk.old.machine.checked }
+    ensures runs { RunsFree program.now.launch.most desk.old desk.new }
     ensures tells { TellsOutputs answer.old answer.new }
 {
     let before = desk.machine().live_events().len();
@@ -446,7 +447,7 @@ fn tell_ended(
     match ended {
         Ended::Nothing => {
             let words = nothing_words(alloc, machine, only);
-            tell_and_stop(alloc, answer, "pause", branch.unwrap_or(0), &words);
+            tell_and_stop(alloc, answer, Stop::Pause, branch.unwrap_or(0), &words);
         }
         Ended::AtLine(action, line) => stop_at_line(alloc, program, answer, action, line),
         Ended::Watched(branch, ticket) => stop_watched(alloc, machine, answer, branch, ticket),
@@ -459,7 +460,7 @@ fn tell_ended(
 
 /// Tells that as many steps were taken as there may be.
 fn stop_after_most(alloc: Global, program: &Program, answer: &mut Answer, branch: u32)
-    ensures { TellsStop answer.old Stands.Stands answer.new }
+    ensures { TellsStop answer.old Stopped.Pause answer.new }
 {
     let mut words = Words::of(alloc, "Paused after ");
     words.number(program.launch.most);
@@ -468,15 +469,15 @@ fn stop_after_most(alloc: Global, program: &Program, answer: &mut Answer, branch
     } else {
         " steps"
     });
-    stop(alloc, answer, "pause", branch, words.as_str());
+    stop(alloc, answer, Stop::Pause, branch, words.as_str());
 }
 
 /// Tells that a step was taken that is watched.
 fn stop_watched(alloc: Global, machine: &Machine, answer: &mut Answer, branch: u32, ticket: u64)
-    ensures { TellsStop answer.old Stands.Stands answer.new }
+    ensures { TellsStop answer.old Stopped.Watched answer.new }
 {
     let words = watched_words(alloc, machine, ticket);
-    stop(alloc, answer, "data breakpoint", branch, words.as_str());
+    stop(alloc, answer, Stop::Watched, branch, words.as_str());
 }
 
 /// The live step of this ticket in words.
@@ -504,7 +505,7 @@ pub fn back_in(
 )
     ensures led { Led desk.old desk.new }
     ensures system { desk.new.machine.checked ≡ desk.old.machine.checked }
-    ensures goes { (stop : Stands) × TellsStop answer.old stop answer.new
+    ensures goes { (stop : Stopped) × TellsStop answer.old stop answer.new
         × Backs program.now.excepts desk.old branch stop desk.new }
     ensures keeps { Remembers desk.old desk.new answer.new memo.old.seen.items memo.new.seen.items }
 {
@@ -530,7 +531,7 @@ fn tell_moved_back(
     match moved {
         Back::AtBeginning => {
             let text = "At its beginning: no step of this thread is live";
-            stop(alloc, answer, "step", branch, text);
+            stop(alloc, answer, Stop::Stepped, branch, text);
         }
         Back::Asked(ticket, reply) => {
             tell_back(
@@ -564,7 +565,7 @@ fn tell_back(
         }
         _ => {
             memo.seen.clear();
-            stop(alloc, answer, "step", branch, "");
+            stop(alloc, answer, Stop::Stepped, branch, "");
         }
     }
 }
@@ -578,10 +579,10 @@ fn tell_undone(
     event: &Event,
     answer: &mut Answer,
 )
-    ensures { TellsStop answer.old Stands.Stands answer.new }
+    ensures { TellsStop answer.old Stopped.Stepped answer.new }
 {
     tell_step(alloc, machine, "taken back, step ", ticket, event, answer);
-    stop(alloc, answer, "step", branch, "");
+    stop(alloc, answer, Stop::Stepped, branch, "");
 }
 
 /// Tells that a step stays, at the thread of the step that is in the way.
@@ -596,7 +597,7 @@ fn tell_kept(
     answer: &mut Answer,
 )
     ensures seen { memo.new.seen ≡ memo.old.seen }
-    ensures stops { TellsStop answer.old (Stands.Refused (refusal_number why) program.now.excepts) answer.new }
+    ensures stops { TellsStop answer.old (Stopped.Refused (refusal_number why) program.now.excepts) answer.new }
 {
     let (words, thread) = kept_words(alloc, machine, branch, ticket, why);
     tell_refused(alloc, program, memo, answer, thread, why, words.as_str());
@@ -646,7 +647,7 @@ pub fn reverse(
     ensures led { Led desk.old desk.new }
     ensures system { desk.new.machine.checked ≡ desk.old.machine.checked }
     ensures goes { Runs answer.old answer.new desk.old desk.new
-        (λ stop. ReversesFor program.now.excepts desk.old request.now stop desk.new) }
+        (λ stop. ReversesFor program.now desk.old request.now stop desk.new memo.new.seen.items) }
     ensures keeps { Remembers desk.old desk.new answer.new memo.old.seen.items memo.new.seen.items }
 {
     match thread_in(request, desk.machine(), answer) {
@@ -670,12 +671,12 @@ pub fn reverse_in(
 )
     ensures led { Led desk.old desk.new }
     ensures system { desk.new.machine.checked ≡ desk.old.machine.checked }
-    ensures goes { (stop : Stands) × TellsStop answer.old stop answer.new
-        × Reverses program.now.excepts (alone branch single) desk.old stop desk.new }
+    ensures goes { (stop : Stopped) × TellsStop answer.old stop answer.new
+        × Reverses program.now (alone branch single) desk.old stop desk.new memo.new.seen.items }
     ensures keeps { Remembers desk.old desk.new answer.new memo.old.seen.items memo.new.seen.items }
 {
     let ended = rewind_in(alloc, desk, program, memo, branch, single);
-    tell_rewound(alloc, program, memo, branch, single, ended, answer);
+    tell_rewound(alloc, program, branch, single, ended, answer);
 }
 
 /// Takes steps back until something stops it; why it ended.
@@ -689,17 +690,17 @@ fn rewind_in(
 ) -> Rewound
     ensures led { Led desk.old desk.new }
     ensures system { desk.new.machine.checked ≡ desk.old.machine.checked }
-    ensures back { GoesBack (alone branch single) desk.old desk.new }
-    ensures keeps { KeepsBack result memo.new.seen.items }
+    ensures back { GoesBack (alone branch single) program.now.stops.items program.now.watched.items desk.old desk.new
+        result memo.new.seen.items }
 {
     let marks = Marks {
         lines: program.stops.as_slice(),
         watched: program.watched.as_slice(),
     };
     if single {
-        rewind_branch(alloc, desk, branch, marks, &mut memo.seen)
+        rewind_branch(alloc, desk, branch, &marks, &mut memo.seen)
     } else {
-        rewind(alloc, desk, marks, &mut memo.seen)
+        rewind(alloc, desk, &marks, &mut memo.seen)
     }
 }
 
@@ -707,22 +708,17 @@ fn rewind_in(
 fn tell_rewound(
     alloc: Global,
     program: &Program,
-    memo: &mut Memo,
     branch: u32,
     single: bool,
     ended: Rewound,
     answer: &mut Answer,
 )
-    ensures seen { memo.new.seen ≡ memo.old.seen }
-    ensures stops { TellsStop answer.old (stop_behind program.now.excepts ended) answer.new }
+    ensures { TellsStop answer.old (stop_behind ended) answer.new }
 {
     match ended {
-        Rewound::AtBeginning => stop(alloc, answer, "entry", branch, beginning_text(single)),
+        Rewound::AtBeginning => stop(alloc, answer, Stop::Entry, branch, beginning_text(single)),
         Rewound::AtLine(action, line) => stop_at_line(alloc, program, answer, action, line),
         Rewound::Watched(branch, ticket) => stop_before(alloc, branch, ticket, answer),
-        Rewound::Refused(why) => {
-            tell_refused(alloc, program, memo, answer, branch, why, words_of(why));
-        }
     }
 }
 
@@ -737,9 +733,9 @@ fn beginning_text(single: bool) -> &'static str {
 
 /// Tells that a step was taken back that is watched.
 fn stop_before(alloc: Global, branch: u32, ticket: u64, answer: &mut Answer)
-    ensures { TellsStop answer.old Stands.Stands answer.new }
+    ensures { TellsStop answer.old Stopped.Watched answer.new }
 {
     let mut words = Words::of(alloc, "before step ");
     words.number(ticket);
-    stop(alloc, answer, "data breakpoint", branch, words.as_str());
+    stop(alloc, answer, Stop::Watched, branch, words.as_str());
 }

@@ -1,41 +1,49 @@
 // What is told behind a response: texts, and that nothing moves.
 ghost use Rattle.std.specs.Prelude.{◌≡◌};
 ghost use Rattle.runs.specs.Refusals.{refusal_number};
-ghost use Rattle.dap_messages.specs.declared.told.Stop as stops;
-ghost use Rattle.dap_requests.specs.Said.{TellsOutputs, TellsStop};
+ghost use Rattle.dap_messages.specs.declared.told.Stop.{Stop as Stopped};
+ghost use Rattle.dap_requests.specs.Said.{GivesReason, TellsOutputs, TellsStop};
 
 use dap_messages::{Answer, Members, Stop, Told};
 use dap_moves::Machine;
 use dap_views::{Memo, Program, Refused, Words, event_words};
 use runs::{Event, Kind, Refusal};
 use serde_json::Value;
-use std::alloc::Global;
+use std::alloc::{AllocError, Global};
 
 /// The most values of output ports that are told at once.
 const MOST_OUTPUTS: usize = 1_000;
 
-/// Tells that nothing moves, with the reason and the thread, and what else there is to say.
+/// Tells that nothing moves, and why, with the thread and what else there is to say.
 #[tactic(auto, using(crate::proofs::public::Saying::stops_now))]
-pub fn stop(alloc: Global, answer: &mut Answer, reason: &str, branch: u32, text: &str)
-    ensures { TellsStop answer.old stops.Stop.Stands answer.new }
+pub fn stop(alloc: Global, answer: &mut Answer, why: Stop, branch: u32, text: &str)
+    ensures { TellsStop answer.old why answer.new }
 {
-    answer.note(
-        Told::Stopped(Stop::Stands),
-        stopped(alloc, reason, branch, text),
-    );
+    answer.note(Told::Stopped(why), stopped(alloc, why, branch, text));
 }
 
 /// What a `stopped` says.
-fn stopped(alloc: Global, reason: &str, branch: u32, text: &str) -> Members {
+#[tactic(auto, using(crate::proofs::public::Saying::reason_put, crate::proofs::public::Saying::reason_stays, crate::proofs::public::Saying::reason_lacking))]
+fn stopped(alloc: Global, why: Stop, branch: u32, text: &str) -> Members
+    ensures { GivesReason why result }
+{
     let mut body = Members::new(alloc);
-    body.text("reason", reason);
+    body.text("reason", why.reason());
     body.number("threadId", u64::from(branch).saturating_add(1));
     body.flag("allThreadsStopped", true);
+    add_words(&mut body, text);
+    body
+}
+
+/// Adds the words, if there are some.
+#[tactic(auto, using(crate::proofs::public::Saying::reason_put, crate::proofs::public::Saying::reason_stays, crate::proofs::public::Saying::reason_lacking))]
+fn add_words(body: &mut Members, text: &str)
+    ensures { (why : Stopped) → GivesReason why body.old → GivesReason why body.new }
+{
     if !text.is_empty() {
         body.text("description", text);
         body.text("text", text);
     }
-    body
 }
 
 /// Tells that a run stands before a line with a breakpoint.
@@ -47,24 +55,35 @@ pub(crate) fn stop_at_line(
     branch: u32,
     line: u64,
 )
-    ensures { TellsStop answer.old stops.Stop.AtLine answer.new }
+    ensures { TellsStop answer.old Stopped.AtLine answer.new }
 {
     let mut words = Words::of(alloc, "line ");
     words.number(program.shown_line(line));
-    let mut body = stopped(alloc, "breakpoint", branch, words.as_str());
+    let mut body = stopped(alloc, Stop::AtLine, branch, words.as_str());
     add_hits(alloc, program, line, &mut body);
     answer.note(Told::Stopped(Stop::AtLine), body);
 }
 
 /// Adds the breakpoints that stand on the line.
-fn add_hits(alloc: Global, program: &Program, line: u64, body: &mut Members) {
+#[tactic(auto, using(crate::proofs::public::Saying::reason_put, crate::proofs::public::Saying::reason_stays, crate::proofs::public::Saying::reason_lacking))]
+fn add_hits(alloc: Global, program: &Program, line: u64, body: &mut Members)
+    ensures { (why : Stopped) → GivesReason why body.old → GivesReason why body.new }
+{
+    match hits_of(alloc, program, line) {
+        Ok(hits) => body.value("hitBreakpointIds", Value::Array(hits)),
+        Err(_) => body.lack(),
+    }
+}
+
+/// The numbers of the breakpoints that stand on the line.
+fn hits_of(alloc: Global, program: &Program, line: u64) -> Result<Vec<Value>, AllocError> {
     let mut hits = Vec::new(alloc);
     for asked in &program.asked {
-        if asked.at == Some(line) && hits.push(Value::from(asked.id)).is_err() {
-            body.lack();
+        if asked.at == Some(line) {
+            hits.push(Value::from(asked.id))?;
         }
     }
-    body.value("hitBreakpointIds", Value::Array(hits));
+    Ok(hits)
 }
 
 /// Tells a line of text.
@@ -137,6 +156,7 @@ fn add_output(alloc: Global, machine: &Machine, event: &Event, words: &mut Words
 }
 
 /// Tells that a step was refused, as an exception where the client wants these.
+#[tactic(auto, using(crate::proofs::public::Saying::stops_now, crate::proofs::public::Saying::stops_on, crate::proofs::public::Saying::reason_stays))]
 pub(crate) fn tell_refused(
     alloc: Global,
     program: &Program,
@@ -147,15 +167,15 @@ pub(crate) fn tell_refused(
     words: &str,
 )
     ensures seen { memo.new.seen ≡ memo.old.seen }
-    ensures stops { TellsStop answer.old (stops.Stop.Refused (refusal_number why) program.now.excepts) answer.new }
+    ensures stops { TellsStop answer.old (Stopped.Refused (refusal_number why) program.now.excepts) answer.new }
 {
     let line = refusal_line(alloc, why);
     keep_refusal(alloc, memo, answer, line.as_str(), words);
     tell(alloc, words, "important", answer);
-    let reason = if program.excepts { "exception" } else { "step" };
-    let mut body = stopped(alloc, reason, branch, words);
+    let stop = Stop::Refused(u64::from(why.number()), program.excepts);
+    let mut body = stopped(alloc, stop, branch, words);
     body.text("description", line.as_str());
-    stop_refused(answer, why, program.excepts, body);
+    answer.note(Told::Stopped(stop), body);
 }
 
 /// The refusal as a script tells it.
@@ -167,15 +187,6 @@ fn refusal_line(alloc: Global, why: Refusal) -> Words {
         line.number(ticket);
     }
     line
-}
-
-/// Tells that nothing moves since a step was refused, and whether that is an exception.
-#[tactic(auto, using(crate::proofs::public::Saying::stops_now))]
-fn stop_refused(answer: &mut Answer, why: Refusal, excepts: bool, body: Members)
-    ensures { TellsStop answer.old (stops.Stop.Refused (refusal_number why) excepts) answer.new }
-{
-    let number = u64::from(why.number());
-    answer.note(Told::Stopped(Stop::Refused(number, excepts)), body);
 }
 
 /// Keeps the refusal, for whoever asks.

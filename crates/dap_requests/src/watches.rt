@@ -1,5 +1,11 @@
 // Breakpoints on variables and on channels.
-ghost use Rattle.dap_views.specs.Kept.{SameButWatched};
+ghost use Rattle.std.specs.Prelude.{◌≡◌, ◌⊎◌, ◌++◌, [], Some, codes, nat_eq, true, IfSome};
+ghost use Rattle.std.specs.Cmp.Lexicographic.{pointwise};
+ghost use Rattle.serde_json.specs.Data.{boolean};
+ghost use Rattle.serde_json.specs.View.{items_view, view};
+ghost use Rattle.dap_messages.specs.Written.{Has};
+ghost use Rattle.dap_views.specs.declared.index.Thing as meant;
+ghost use Rattle.dap_requests.specs.Sets.{SetsWatched, WatchesOnly, all_watched, id_in, watched_as, watched_before, watched_by};
 
 use crate::breakpoints::items_in;
 use dap_messages::{Answer, Listed, Members, Request, field, text_in};
@@ -104,22 +110,37 @@ fn whole_name(alloc: Global, machine: &Machine, thing: Thing) -> Words {
 
 /// Answers `setDataBreakpoints`. Where it is refused, or there is no memory, what is watched stays.
 pub fn set_data(alloc: Global, program: &mut Program, request: &Request, answer: &mut Answer)
-    ensures { SameButWatched program.old program.new }
+    ensures { SetsWatched (view request.now.arguments) program.old answer.new program.new }
 {
-    let Some(items) = items_in(request, "breakpoints", answer) else {
-        return;
-    };
-    let mut watched = Vec::new(alloc);
-    let mut list = Listed::new(alloc);
-    for value in items {
-        let found = watched_by(program, text_in(value, "dataId").unwrap_or(""));
-        list.push(shown(alloc, found.is_some()));
-        if let Some(found) = found {
-            if watched.push(found).is_err() {
-                list.lack();
-            }
-        }
+    match items_in(request, "breakpoints", answer) {
+        Some(items) => watch(alloc, program, items, answer),
+        None => {}
     }
+}
+
+/// Watches what these items mean, and nothing else; if there is no memory, what was watched before.
+fn watch(alloc: Global, program: &mut Program, items: &[Value], answer: &mut Answer)
+    ensures { WatchesOnly (items_view items.now) program.old program.new
+        ⊎ ((program.new ≡ program.old) × (answer.new.lacks ≡ true)) }
+{
+    let mut list = Listed::new(alloc);
+    match watched_all(alloc, program, items, &mut list) {
+        Some(watched) => keep_watched(alloc, program, watched, list, answer),
+        None => answer.lacks = true,
+    }
+}
+
+/// Keeps what is watched, and tells it; if there is no memory, what was watched before stays.
+fn keep_watched(
+    alloc: Global,
+    program: &mut Program,
+    watched: Vec<Watched>,
+    list: Listed,
+    answer: &mut Answer,
+)
+    ensures { (program.new ≡ record program.old { watched = watched })
+        ⊎ ((program.new ≡ program.old) × (answer.new.lacks ≡ true)) }
+{
     match list.into_value() {
         Some(list) => {
             program.watched = watched;
@@ -130,8 +151,45 @@ pub fn set_data(alloc: Global, program: &mut Program, request: &Request, answer:
     }
 }
 
+/// What these items mean, each of which the list tells; `None` where there is no memory.
+fn watched_all(
+    alloc: Global,
+    program: &Program,
+    items: &[Value],
+    list: &mut Listed,
+) -> Option<Vec<Watched>>
+    ensures { IfSome result (λ watched. watched.items ≡ all_watched program.now.index (items_view items.now)) }
+{
+    let mut watched = Vec::new(alloc);
+    for value in items {
+        let found = watched_by(program, id_in(value));
+        list.push(shown(alloc, found.is_some()));
+        add_watched(&mut watched, found)?;
+    }
+    Some(watched)
+}
+
+/// Adds what is watched too, if it is something; `None` where there is no memory for it.
+fn add_watched(watched: &mut Vec<Watched>, found: Option<Watched>) -> Option<()>
+    ensures { IfSome result (λ done. watched.new.items ≡ watched.old.items ++ watched_before found []) }
+{
+    match found {
+        Some(found) => watched.push(found).ok(),
+        None => Some(()),
+    }
+}
+
+/// The id that an item has.
+fn id_in(item: &Value) -> &str
+    ensures { result.now ≡ id_in (view item.now) }
+{
+    text_in(item, "dataId").unwrap_or("")
+}
+
 /// A data breakpoint as the client sees it.
-fn shown(alloc: Global, verified: bool) -> Members {
+fn shown(alloc: Global, verified: bool) -> Members
+    ensures { Has result (codes "verified") (boolean verified) }
+{
     let mut one = Members::new(alloc);
     one.flag("verified", verified);
     if !verified {
@@ -148,13 +206,53 @@ fn give(alloc: Global, list: Value, answer: &mut Answer) {
 }
 
 /// What is watched by this name of the client.
-fn watched_by(program: &Program, id: &str) -> Option<Watched> {
-    let (kind, name) = id.split_once(' ')?;
-    match (kind, program.index.find(0, name)?) {
-        ("var", Thing::Variable(number)) => Some(Watched::Variable(number)),
-        ("chan", Thing::Channel(number)) => Some(Watched::Channel(number)),
-        _ => None,
+fn watched_by(program: &Program, id: &str) -> Option<Watched>
+    ensures { result ≡ watched_by program.now.index id.now }
+{
+    match id.split_once(' ') {
+        Some(parts) => watched_as(parts.0, program.index.find(0, parts.1)),
+        None => None,
     }
+}
+
+/// What is watched by a word for its kind, if it means this.
+fn watched_as(kind: &str, thing: Option<Thing>) -> Option<Watched>
+    ensures { result ≡ watched_as kind.now thing }
+{
+    match thing {
+        Some(Thing::Variable(number)) => variable_as(kind, number),
+        Some(Thing::Channel(number)) => channel_as(kind, number),
+        None => None,
+    }
+}
+
+/// The variable, if the word is that of a variable.
+fn variable_as(kind: &str, number: u32) -> Option<Watched>
+    ensures { result ≡ watched_as kind.now (Some (meant.Thing.Variable number)) }
+{
+    if is_word(kind, b"var") {
+        Some(Watched::Variable(number))
+    } else {
+        None
+    }
+}
+
+/// The channel, if the word is that of a channel.
+fn channel_as(kind: &str, number: u32) -> Option<Watched>
+    ensures { result ≡ watched_as kind.now (Some (meant.Thing.Channel number)) }
+{
+    if is_word(kind, b"chan") {
+        Some(Watched::Channel(number))
+    } else {
+        None
+    }
+}
+
+/// Whether the text is this word.
+fn is_word(text: &str, word: &[u8]) -> bool
+    ensures { result ≡ pointwise nat_eq text.now word.now }
+{
+    text.as_bytes() == word
 }
 
 /// Answers `setDataBreakpoints` while nothing is launched.

@@ -4,7 +4,7 @@ use Rattle.std.specs.Fmt.{decimal}
 use Rattle.std.specs.Char.{is_ascii_alphanumeric}
 use Rattle.serde_json.specs.View.{view}
 use Rattle.dap_messages.specs.Arguments.{is_single, number_named}
-use Rattle.dap_messages.specs.Messages.{event_name}
+use Rattle.dap_messages.specs.Messages.{event_name, reason_of}
 use Rattle.dap_messages.specs.declared.answer.Effect.{Effect}
 use Rattle.dap_messages.specs.declared.answer.Outcome.{Outcome}
 use Rattle.dap_messages.specs.declared.kind.Kind.{Kind}
@@ -99,12 +99,9 @@ short_response request gist seq =
 abbrev pub thread_named : Request → ℕ
 thread_named request = unwrap_or (number_named (codes "threadId") (view request.arguments)) 1
 
--- why nothing moves, as far as that is known without memory, up to the number of the thread
+-- why nothing moves, up to the number of the thread
 abbrev pub stop_head : Stop → List ℕ
-stop_head Stop.Stands = codes "\",\"body\":{\"reason\":\"pause\",\"threadId\":"
-stop_head Stop.AtLine = codes "\",\"body\":{\"reason\":\"breakpoint\",\"threadId\":"
-stop_head (Stop.Refused why true) = codes "\",\"body\":{\"reason\":\"exception\",\"threadId\":"
-stop_head (Stop.Refused why false) = codes "\",\"body\":{\"reason\":\"step\",\"threadId\":"
+stop_head stop = codes "\",\"body\":{\"reason\":\"" ++ reason_of stop ++ codes "\",\"threadId\":"
 
 -- that a step was refused, for the reason of this number
 abbrev pub refused_words : ℕ → List ℕ
@@ -116,10 +113,10 @@ refused_rest why = codes ",\"allThreadsStopped\":true,\"text\":\"" ++ refused_wo
 
 -- the same in words, and all that is left
 abbrev pub stop_rest : Stop → List ℕ
-stop_rest Stop.Stands = codes ",\"allThreadsStopped\":true,\"text\":\"stopped; there is no memory left to tell more\"}}"
 stop_rest Stop.AtLine =
     codes ",\"allThreadsStopped\":true,\"text\":\"stopped at a breakpoint; there is no memory left to tell more\"}}"
 stop_rest (Stop.Refused why excepts) = refused_rest why
+stop_rest _ = codes ",\"allThreadsStopped\":true,\"text\":\"stopped; there is no memory left to tell more\"}}"
 
 -- that nothing moves
 abbrev pub stopped_text : Stop → ℕ → List ℕ

@@ -6,15 +6,16 @@ use dap_messages::{Answer, Request};
 
 /// What answers the requests of a client. C is what it may look at beside them.
 pub trait Adapter<C> {
-    // Of the adapter before, a request, its answer and the adapter after: what may come of the request.
-    ghost answers: { Self → Asked → Given → Self → Type 0 };
+    // Of what it may look at, the adapter before, a request, its answer and the adapter after: what may come of the
+    // request.
+    ghost answers: { C → Self → Asked → Given → Self → Type 0 };
 
     // Whether the client has ended the session.
     ghost over: { Self → Bool };
 
     /// Answers the request.
     fn answer(&mut self, context: &C, request: &Request) -> Answer
-        ensures { answers self.old request.now result self.new };
+        ensures { answers context.now self.old request.now result self.new };
 
     /// Whether the client has ended the session.
     fn is_over(&self) -> bool

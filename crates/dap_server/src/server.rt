@@ -39,8 +39,8 @@ pub fn serve<R: Read, W: Write, C, A: Adapter<C>>(
     adapter: &mut A,
 ) -> Result<(), Fault>
     ensures serves { OnOk result ((after : ℕ)
-        × Serves A.answers A.over adapter.old 1 adapter.new after (R.remaining reader.old) (R.remaining reader.new)
-        (W.contents writer.old) (W.contents writer.new)) }
+        × Serves (A.answers context.now) A.over adapter.old 1 adapter.new after (R.remaining reader.old)
+        (R.remaining reader.new) (W.contents writer.old) (W.contents writer.new)) }
     ensures ends { OnOk result ((A.over adapter.new ≡ true) ⊎ IsAtEnd (R.remaining reader.new)) }
 {
     match Server::new(alloc) {
@@ -81,7 +81,8 @@ impl Server {
         context: &C,
         adapter: &mut A,
     ) -> Result<(), Fault>
-        ensures serves { OnOk result (ServesFrom A.answers A.over adapter.old self.old.next adapter.new self.new.next
+        ensures serves { OnOk result (ServesFrom (A.answers context.now) A.over
+            adapter.old self.old.next adapter.new self.new.next
             (held self.old.input) (held self.new.input) (R.remaining reader.old) (R.remaining reader.new)
             (W.contents writer.old) (W.contents writer.new)) }
         ensures ends { OnOk result ((A.over adapter.new ≡ true)
@@ -111,7 +112,7 @@ impl Server {
     ) -> Result<bool, Fault>
         requires { A.over adapter.old ≡ false }
         ensures serves { IfOk result (λ more.
-            ServesFrom A.answers A.over adapter.old self.old.next adapter.new self.new.next
+            ServesFrom (A.answers context.now) A.over adapter.old self.old.next adapter.new self.new.next
             (held self.old.input) (held self.new.input) (R.remaining reader.old) (R.remaining reader.new)
             (W.contents writer.old) (W.contents writer.new)) }
         ensures ends { IfOk result (λ more. more ≡ false
@@ -133,8 +134,8 @@ impl Server {
     ) -> Result<bool, Fault>
         requires { A.over adapter.old ≡ false }
         ensures serves { IfOk result (λ more. (bytes : List ℕ) → IsNext next self.old.input bytes →
-            Hears A.answers A.over adapter.old self.old.next adapter.new self.new.next bytes (held self.old.input)
-            (W.contents writer.old) (W.contents writer.new)) }
+            Hears (A.answers context.now) A.over adapter.old self.old.next adapter.new self.new.next bytes
+            (held self.old.input) (W.contents writer.old) (W.contents writer.new)) }
         ensures ends { IfOk result (λ more. more ≡ false → next ≡ comes.Next.End) }
         ensures input { self.new.input ≡ self.old.input }
     {
@@ -170,8 +171,8 @@ impl Server {
     ) -> Result<bool, Fault>
         requires { A.over adapter.old ≡ false }
         ensures serves { IfOk result (λ more. (bytes : List ℕ) → IsNext (comes.Next.Body from to) self.old.input bytes →
-            Hears A.answers A.over adapter.old self.old.next adapter.new self.new.next bytes (held self.old.input)
-            (W.contents writer.old) (W.contents writer.new)) }
+            Hears (A.answers context.now) A.over adapter.old self.old.next adapter.new self.new.next bytes
+            (held self.old.input) (W.contents writer.old) (W.contents writer.new)) }
         ensures on { IfOk result (λ more. more ≡ true) }
         ensures input { self.new.input ≡ self.old.input }
     {
@@ -192,8 +193,8 @@ impl Server {
     ) -> Result<(), Fault>
         requires { A.over adapter.old ≡ false }
         ensures serves { OnOk result ((bytes : List ℕ) → IsNext (comes.Next.Body from to) self.old.input bytes →
-            Hears A.answers A.over adapter.old self.old.next adapter.new self.new.next bytes (held self.old.input)
-            (W.contents writer.old) (W.contents writer.new)) }
+            Hears (A.answers context.now) A.over adapter.old self.old.next adapter.new self.new.next bytes
+            (held self.old.input) (W.contents writer.old) (W.contents writer.new)) }
         ensures input { self.new.input ≡ self.old.input }
     {
         match read_request(self.alloc, self.input.body(from, to)) {
@@ -211,7 +212,7 @@ impl Server {
         request: &Request,
     ) -> Result<(), Fault>
         ensures answers { OnOk result ((sent : List (List ℕ))
-            × Exchange A.answers adapter.old request.now self.old.next sent adapter.new
+            × Exchange (A.answers context.now) adapter.old request.now self.old.next sent adapter.new
             × Sends sent (W.contents writer.old) (W.contents writer.new) self.old.next self.new.next) }
         ensures input { self.new.input ≡ self.old.input }
     {

@@ -240,18 +240,9 @@ fn add_stop_thread(body: &mut Vec<u8>, stop: Stop, thread: u64) -> Result<(), Al
 fn add_stop_head(body: &mut Vec<u8>, stop: Stop) -> Result<(), AllocError>
     ensures { OnOk result (body.new.items ≡ body.old.items ++ model.stop_head stop) }
 {
-    match stop {
-        Stop::Stands => body.extend_from_slice(b"\",\"body\":{\"reason\":\"pause\",\"threadId\":"),
-        Stop::AtLine => body.extend_from_slice(
-            b"\",\"body\":{\"reason\":\"breakpoint\",\"threadId\":",
-        ),
-        Stop::Refused(_, true) => body.extend_from_slice(
-            b"\",\"body\":{\"reason\":\"exception\",\"threadId\":",
-        ),
-        Stop::Refused(_, false) => {
-            body.extend_from_slice(b"\",\"body\":{\"reason\":\"step\",\"threadId\":")
-        }
-    }
+    body.extend_from_slice(b"\",\"body\":{\"reason\":\"")?;
+    add_text(body, stop.reason())?;
+    body.extend_from_slice(b"\",\"threadId\":")
 }
 
 /// Adds the words for why nothing moves, and all that is left.
@@ -259,13 +250,13 @@ fn add_stop_rest(body: &mut Vec<u8>, stop: Stop) -> Result<(), AllocError>
     ensures { OnOk result (body.new.items ≡ body.old.items ++ model.stop_rest stop) }
 {
     match stop {
-        Stop::Stands => body.extend_from_slice(
-            b",\"allThreadsStopped\":true,\"text\":\"stopped; there is no memory left to tell more\"}}",
-        ),
         Stop::AtLine => body.extend_from_slice(
             b",\"allThreadsStopped\":true,\"text\":\"stopped at a breakpoint; there is no memory left to tell more\"}}",
         ),
         Stop::Refused(why, _) => add_refused(body, why),
+        _ => body.extend_from_slice(
+            b",\"allThreadsStopped\":true,\"text\":\"stopped; there is no memory left to tell more\"}}",
+        ),
     }
 }
 

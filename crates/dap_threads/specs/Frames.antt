@@ -51,3 +51,9 @@ IsFrame system actions number branch index =
 -- no frame has the number
 abbrev pub HasNoFrame : System → List LocalAction → ℕ → Type 0
 HasNoFrame system actions number = (branch index : ℕ) → IsFrame system actions number branch index → ⊥
+
+-- branch k has a frame of the number that is named; where none is named, any branch may be meant
+abbrev pub HasFrame : System → Option ℕ → ℕ → Type 0
+HasFrame system None k = Unit {0}
+HasFrame system (Some number) k =
+    (k < branch_count system) × ((index : ℕ) × (index < 1000) × (frame_id (k + 1) index ≡ number))

@@ -1,11 +1,11 @@
 // Threads and their frames.
-ghost use Rattle.std.specs.Prelude.{◌≡◌, IfSome, MatchOption, codes};
+ghost use Rattle.std.specs.Prelude.{◌≡◌, IfSome, MatchOption, Some, codes};
 ghost use Rattle.serde_json.specs.View.{view};
 ghost use Rattle.runs.specs.Tests.{same_place};
 ghost use Rattle.system_places.specs.SystemBranches.{branch_count};
 ghost use Rattle.dap_messages.specs.Arguments.{number_named};
 ghost use Rattle.dap_messages.specs.Notes.{IsRefusal};
-ghost use Rattle.dap_threads.specs.Frames.{HasNoFrame, IsFrame, frame_count, is_again, is_branch, is_place_in};
+ghost use Rattle.dap_threads.specs.Frames.{HasFrame, HasNoFrame, IsFrame, frame_count, is_again, is_branch, is_place_in};
 ghost use Rattle.dap_threads.specs.Threads.{branch_of, branch_named};
 
 use address::Address;
@@ -344,7 +344,9 @@ pub fn frame_in(
     request: &Request,
     answer: &mut Answer,
 ) -> Option<(u32, usize)>
-    ensures { IfSome result (λ _. answer.new ≡ answer.old) }
+    ensures same { MatchOption result (answer.new.notes ≡ answer.old.notes) (λ _. answer.new ≡ answer.old) }
+    ensures branch { IfSome result (λ found.
+        HasFrame machine.now.checked (number_named (codes "frameId") (view request.now.arguments)) found.0) }
 {
     let Some(sight) = &program.sight else {
         answer.lacks = true;
@@ -365,7 +367,8 @@ fn frame_at(
     id: u64,
     answer: &mut Answer,
 ) -> Option<(u32, usize)>
-    ensures { IfSome result (λ _. answer.new ≡ answer.old) }
+    ensures same { MatchOption result (answer.new.notes ≡ answer.old.notes) (λ _. answer.new ≡ answer.old) }
+    ensures branch { IfSome result (λ found. HasFrame machine.now.checked (Some id) found.0) }
 {
     let system = machine.checked().system();
     let Some((branch, index)) = frame_named(system, sight.actions.as_slice(), id) else {

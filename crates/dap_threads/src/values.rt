@@ -1,6 +1,7 @@
 // Variables, channels and the newest steps, as a client unfolds them.
-ghost use Rattle.std.specs.Prelude.{◌≡◌, ◌↔◌, IsTrue, MatchOption, codes};
+ghost use Rattle.std.specs.Prelude.{ℕ, ◌≡◌, ◌↔◌, IsTrue, MatchOption, codes};
 ghost use Rattle.serde_json.specs.View.{view};
+ghost use Rattle.system_places.specs.SystemBranches.{branch_count};
 ghost use Rattle.dap_messages.specs.Arguments.{number_named};
 ghost use Rattle.dap_messages.specs.Notes.{IsRefusal};
 ghost use Rattle.dap_threads.specs.Unfolded.{HasHandle, IsFound, NamesHandle, is_shown};
@@ -104,7 +105,12 @@ pub fn handle_named(
     program: &Program,
     request: &Request,
     answer: &mut Answer,
-) -> Option<Handle> {
+) -> Option<Handle>
+    ensures handle { (instances : ℕ) × NamesHandle instances (branch_count machine.now.checked)
+        (number_named (codes "variablesReference") (view request.now.arguments)) result }
+    ensures outcome { MatchOption result (IsRefusal answer.new.outcome × (answer.new.notes ≡ answer.old.notes))
+        (λ _. answer.new ≡ answer.old) }
+{
     let threads = branch_count(machine.checked().system());
     let instances = u32::try_from(program.index.count()).unwrap_or(u32::MAX);
     handle_in(request, instances, threads, answer)

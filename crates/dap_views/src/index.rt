@@ -1,6 +1,6 @@
 // The names of variables and channels, by the call to which they belong.
 ghost use Rattle.std.specs.Prelude.{◌≡◌, None};
-ghost use Rattle.dap_views.specs.Named.{differs, has_name, is_named, same_thing};
+ghost use Rattle.dap_views.specs.Named.{call_named, differs, has_name, is_named, own_in, prefix_in, same_thing};
 
 use crate::words::Words;
 use address::Address;
@@ -113,24 +113,32 @@ impl Index {
     }
 
     /// The index of the instance whose names begin so.
-    pub fn instance(&self, prefix: &str) -> Option<usize> {
-        for (index, call) in self.calls.as_slice().iter().enumerate() {
-            if call.prefix.as_str() == prefix {
-                return Some(index);
-            }
-        }
-        None
+    pub fn instance(&self, prefix: &str) -> Option<usize>
+        ensures { result ≡ model.call_named 0 self.now.calls.list.items prefix.now }
+    {
+        call_named(self.calls.as_slice(), prefix)
     }
 
     /// What a name means that is read in an instance: what that declares; else, where all that declare it mean the same
     /// by it, that; or a whole name, as `1:x`. None where it is not declared, and where it may mean more than one
     /// thing.
-    pub fn find(&self, instance: usize, name: &str) -> Option<Thing> {
+    pub fn find(&self, instance: usize, name: &str) -> Option<Thing>
+        ensures { result ≡ model.found self.now instance name.now }
+    {
         let (prefix, own) = parts_of(name);
-        if prefix.is_empty() {
-            self.meant(instance, own)
-        } else {
-            self.own(self.instance(prefix)?, own)
+        self.find_behind(instance, prefix, own)
+    }
+
+    /// What a name means that is read in an instance, with these numbers of calls before it, if there are some.
+    fn find_behind(&self, instance: usize, prefix: &str, own: &str) -> Option<Thing>
+        ensures { result ≡ model.found_behind self.now instance prefix.now own.now }
+    {
+        match prefix.as_bytes() {
+            [] => self.meant(instance, own),
+            _ => match self.instance(prefix) {
+                Some(call) => self.own(call, own),
+                None => None,
+            },
         }
     }
 
@@ -201,6 +209,18 @@ impl Index {
             words.add(" more");
         }
     }
+}
+
+/// The index of the first of these calls whose names begin so.
+fn call_named(calls: &[Call], prefix: &str) -> Option<usize>
+    ensures { result ≡ call_named 0 calls.now prefix.now }
+{
+    for (index, call) in calls.iter().enumerate() {
+        if call.prefix.as_bytes() == prefix.as_bytes() {
+            return Some(index);
+        }
+    }
+    None
 }
 
 /// Whether it is declared in this instance, and has the name.
@@ -363,7 +383,10 @@ fn add(
 }
 
 /// The numbers of calls before a name, with the `:` behind the last, and what was declared.
-fn parts_of(name: &str) -> (&str, &str) {
+fn parts_of(name: &str) -> (&str, &str)
+    ensures prefix { result.0.now ≡ prefix_in name.now }
+    ensures own { result.1.now ≡ own_in name.now }
+{
     match name.rfind(':') {
         Some(at) => match name.split_at_checked(at.saturating_add(1)) {
             Some(parts) => parts,

@@ -1,5 +1,7 @@
 // What is launched.
-ghost use Rattle.std.specs.Prelude.{◌≡◌, []};
+ghost use Rattle.std.specs.Prelude.{◌≡◌, [], string_bytes};
+ghost use Rattle.dap_views.specs.Counted.{meant_line, shown_line};
+ghost use Rattle.dap_views.specs.Files.{same_file};
 
 use crate::index::Index;
 use crate::lines::Lines;
@@ -98,7 +100,9 @@ pub struct Program {
 impl Program {
     /// Whether a client means this program by the path. Where it was launched by a name that counts from a folder, it
     /// does so by each path that ends in that.
-    pub fn is_at(&self, path: &str) -> bool {
+    pub fn is_at(&self, path: &str) -> bool
+        ensures { result ≡ same_file (string_bytes self.now.launch.program) path.now }
+    {
         is_same_file(self.launch.program.as_str(), path)
     }
 
@@ -120,12 +124,16 @@ impl Program {
     }
 
     /// The line, as the client counts.
-    pub fn shown_line(&self, line: u64) -> u64 {
+    pub fn shown_line(&self, line: u64) -> u64
+        ensures { result ≡ shown_line self.now line }
+    {
         line.saturating_sub(self.counting.lines)
     }
 
     /// The line that the client means, from 1.
-    pub fn meant_line(&self, line: u64) -> u64 {
+    pub fn meant_line(&self, line: u64) -> u64
+        ensures { result ≡ meant_line self.now line }
+    {
         line.saturating_add(self.counting.lines)
     }
 }

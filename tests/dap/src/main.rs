@@ -16,6 +16,9 @@ struct Disk<'a, R> {
 }
 
 impl<R: fs::Files + AllocGlobal> Sources for Disk<'_, R> {
+    // No contract says what the system's files hold.
+    ghost reads = { λ _ _ _. Unit {0} };
+
     fn read(&self, _alloc: Global, name: &str) -> Result<Option<Vec<u8>>, AllocError> {
         match fs::read(self.rt, name) {
             Ok(bytes) => Ok(Some(bytes)),

@@ -1,9 +1,18 @@
 -- What is told behind one another.
-use Rattle.std.proofs.Common.{◌≡◌, ◌⊎◌, List, [], ◌∷◌, ◌++◌, Bool, false, true, inl, inr, refl, sym, ◌∙◌, ap, subst, append_assoc}
+use Rattle.std.proofs.Common.{◌≡◌, ◌⊎◌, ℕ, List, [], ◌∷◌, ◌++◌, Bool, false, true, Option, Some, inl, inr, refl, sym, ◌∙◌, ap, subst, append_assoc, bytes_eq, codes}
+use Rattle.std.specs.Prelude.{option_and_then}
+use Rattle.serde_json.specs.Data.{Data, object, string}
+use Rattle.serde_json.specs.Find.{as_str}
+use Rattle.serde_json.specs.View.{members_view}
 use Rattle.std.proofs.lemmas.List.{append-nil}
 use Rattle.syntax.specs.Lists.{Every}
 use Rattle.runs.specs.declared.event.Choice.{Choice}
+use Rattle.dap_messages.specs.Messages.{reason_of}
 use Rattle.dap_messages.specs.Notes.{Adds, IsDone, IsRefusal, told_by}
+use Rattle.dap_messages.specs.Written.{Puts}
+use Rattle.dap_messages.proofs.public.Held.{has_put, has_stays}
+use Rattle.dap_messages.proofs.public.Telling.{told-more}
+use Rattle.dap_messages.specs.declared.members.Members.{Members}
 use Rattle.dap_messages.specs.declared.answer.Answer.{Answer}
 use Rattle.dap_messages.specs.declared.answer.Effect.{Effect}
 use Rattle.dap_messages.specs.declared.answer.Note.{Note}
@@ -12,7 +21,7 @@ use Rattle.dap_messages.specs.declared.told.Stop.{Stop}
 use Rattle.dap_messages.specs.declared.told.Told.{Told}
 use Rattle.locked_execution.specs.AtDesk.{AtDesk}
 use Rattle.dap_requests.specs.Back.{Remembers}
-use Rattle.dap_requests.specs.Said.{Tells, AreOutputs, TellsEnd, TellsOutputs, TellsStop, Runs}
+use Rattle.dap_requests.specs.Said.{GivesReason, Tells, AreOutputs, TellsEnd, TellsOutputs, TellsStop, Runs}
 use Rattle.dap_requests.specs.Typed.{KeepsSome}
 
 both-outputs : (ts us : List Told) → AreOutputs ts → AreOutputs us → AreOutputs (ts ++ us)
@@ -20,9 +29,13 @@ both-outputs [] us h k = k
 both-outputs (t ∷ ts) us h k = (h.0, both-outputs ts us h.1 k)
 
 -- one event
-pub tells_one : (a b : Answer) (t : Told) → Adds a t b → Tells a (t ∷ []) b
-tells_one a b t h = λ full. elim h.events [
-  | inl added ↦ (sym added.1 ∙ full, added.0)
+pub tells_one : (a b : Answer) (t : Told) (body : Option Data) → Adds a t body b → Tells a (t ∷ []) b
+tells_one a b t body h = λ full. elim h.events [
+  | inl added ↦ (
+    sym added.1 ∙ full,
+    ap (λ (ns : List Note). told_by ns) added.0.3 ∙ told-more a.notes.items added.0.0
+        ∙ ap (λ (x : Told). told_by a.notes.items ++ x ∷ []) added.0.1,
+  )
   | inr none ↦ let no : true ≡ false = sym none.1 ∙ full in absurd (cc)
 ]
 
@@ -62,11 +75,11 @@ says_lacking a b lacks outcome effect = record {
 }
 
 -- one text
-pub says_one : (a b : Answer) → Adds a Told.Output b → TellsOutputs a b
-says_one a b h = record {
+pub says_one : (a b : Answer) (body : Option Data) → Adds a Told.Output body b → TellsOutputs a b
+says_one a b body h = record {
   outputs = Told.Output ∷ [];
   are = (refl, tt);
-  told = tells_one a b Told.Output h;
+  told = tells_one a b Told.Output body h;
   done = done_same a.outcome b.outcome h.outcome;
   effect = h.effect;
 }
@@ -81,12 +94,33 @@ says_on a m b h k = record {
   effect = k.effect ∙ h.effect;
 }
 
+-- the reason is put among members, and stays where others are put, or where memory is lacking
+pub reason_put : (a b : Members) (stop : Stop) → Puts a (codes "reason") (string (reason_of stop)) b → GivesReason stop b
+reason_put a b stop h = has_put a b (codes "reason") (string (reason_of stop)) h
+
+pub reason_stays : (a b : Members) (stop : Stop) (name : List ℕ) (d : Data) → bytes_eq (codes "reason") name ≡ false → Puts a name d b →
+    GivesReason stop a → GivesReason stop b
+reason_stays a b stop name d apart h k = has_stays a b (codes "reason") name (string (reason_of stop)) d apart h k
+
+pub reason_lacking : (b : Members) (stop : Stop) → b.lacks ≡ true → GivesReason stop b
+reason_lacking b stop lacks = λ full. let no : true ≡ false = sym lacks ∙ full in absurd (cc)
+
 -- one `stopped`
-pub stops_now : (a b : Answer) (stop : Stop) → Adds a (Told.Stopped stop) b → TellsStop a stop b
-stops_now a b stop h = record {
+pub stops_now : (a b : Answer) (stop : Stop) (ms : Members) → GivesReason stop ms →
+    Adds a (Told.Stopped stop) (Some (object (members_view ms.made.entries))) b → (b.lacks ≡ false → ms.lacks ≡ false) → TellsStop a stop b
+stops_now a b stop ms reason h whole = record {
   outputs = [];
   are = tt;
-  told = tells_one a b (Told.Stopped stop) h;
+  told = tells_one a b (Told.Stopped stop) (Some (object (members_view ms.made.entries))) h;
+  says = λ full. elim h.events [
+    | inl added ↦ (
+      a.notes.items,
+      object (members_view ms.made.entries),
+      added.0,
+      ap (λ (found : Option Data). option_and_then as_str found) (reason (whole full)),
+    )
+    | inr none ↦ let no : true ≡ false = sym none.1 ∙ full in absurd (cc)
+  ];
   done = done_same a.outcome b.outcome h.outcome;
   effect = h.effect;
 }
@@ -99,16 +133,17 @@ stops_on a m b stop h k = record {
   told = λ full.
       let it = tells_on a m b h.outputs (k.outputs ++ Told.Stopped stop ∷ []) h.told k.told full in
       (it.0, it.1 ∙ ap (λ (vs : List Told). told_by a.notes.items ++ vs) (sym (append_assoc h.outputs k.outputs (Told.Stopped stop ∷ []))));
+  says = k.says;
   done = λ done. k.done (h.done done);
   effect = k.effect;
 }
 
 -- that the run has ended
-pub ends_now : (a m b : Answer) → Adds a Told.Exited m → Adds m Told.Terminated b → TellsEnd a b
-ends_now a m b h k = record {
+pub ends_now : (a m b : Answer) (exit end : Option Data) → Adds a Told.Exited exit m → Adds m Told.Terminated end b → TellsEnd a b
+ends_now a m b exit end h k = record {
   outputs = [];
   are = tt;
-  told = tells_on a m b (Told.Exited ∷ []) (Told.Terminated ∷ []) (tells_one a m Told.Exited h) (tells_one m b Told.Terminated k);
+  told = tells_on a m b (Told.Exited ∷ []) (Told.Terminated ∷ []) (tells_one a m Told.Exited exit h) (tells_one m b Told.Terminated end k);
   done = λ done. done_same m.outcome b.outcome k.outcome (done_same a.outcome m.outcome h.outcome done);
   effect = k.effect;
 }

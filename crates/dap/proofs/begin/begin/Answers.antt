@@ -9,7 +9,7 @@ pub returns-else-launched-clause-sets : goal.returns-else-launched-clause-sets
 returns-else-launched-clause-sets c = begins_only c.args.launched.now.program
 
 pub returns-then-launched-clause-begins : goal.returns-then-launched-clause-begins
-returns-then-launched-clause-begins c = inr (c.if-launched.true, c.begin_free.ensures.ends)
+returns-then-launched-clause-begins c = inr (c.if-launched.true, c.begin_free.ensures.ends, c.begin_free.ensures.runs)
 
 pub returns-else-launched-clause-begins : goal.returns-else-launched-clause-begins
 returns-else-launched-clause-begins c = inl c.begin_stopping.ensures.begins

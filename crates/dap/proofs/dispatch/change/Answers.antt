@@ -1,6 +1,8 @@
-use Rattle.std.proofs.Common.{sym, ◌∙◌}
+use Rattle.std.proofs.Common.{subst, sym, ◌∙◌}
+use Rattle.machine.specs.AtMachine.{AtMachine}
 use Rattle.dap_server.specs.Kinds.{moves}
 use Rattle.dap.specs.Kinds.{asks}
+use Rattle.dap.specs.Sets.{Sets}
 use Rattle.dap.proofs.Going.{look_goes, moves_goes, running_of}
 use Rattle.dap.proofs.dispatch.change.Goals as goal
 
@@ -12,7 +14,10 @@ returns-then-is_move c =
 pub returns-else-is_asked : goal.returns-else-is_asked
 returns-else-is_asked c =
     look_goes c.args.launched.now c.args.request.now c.args.answer.now c.look.new.answer c.look.new.program
-    (sym c.is_move.ensures ∙ c.if-is_move.false) (sym c.is_asked.ensures ∙ c.if-is_asked.false) c.look.ensures
+    (sym c.is_move.ensures ∙ c.if-is_move.false) (sym c.is_asked.ensures ∙ c.if-is_asked.false)
+    (subst
+    (λ (m : AtMachine). Sets c.args.request.now m.checked.main c.args.launched.now.program c.look.new.answer c.look.new.program)
+    c.machine.ensures c.look.ensures)
 
 pub ask-requires-clause-running : goal.ask-requires-clause-running
 ask-requires-clause-running c =

@@ -1,4 +1,4 @@
-use Rattle.dap.specs.Launching.{text_of}
+use Rattle.dap.specs.Files.{text_of}
 use Rattle.dap.proofs.Machines.{begins_at}
 use Rattle.dap.proofs.launch.machine_of.Goals as goal
 

@@ -3,7 +3,7 @@ use Rattle.dap.proofs.restart.restart.Goals as goal
 
 pub returns-in-Some : goal.returns-in-Some
 returns-in-Some g c = elim c.replace.ensures [
-  | inl led ↦ inl ((c.in-Some.anew.desk, c.in-Some.ensures, led.0), led.1)
+  | inl anew ↦ inl (c.in-Some.ensures.0, c.in-Some.anew, c.in-Some.ensures.1, c.in-Some.ensures.2, anew)
   | inr same ↦ inr (same.0, inr same.1)
 ]
 

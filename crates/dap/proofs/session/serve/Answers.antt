@@ -3,5 +3,6 @@ use Rattle.dap.proofs.session.serve.Goals as goal
 
 pub returns : goal.returns
 returns g c =
-    served c.serve.result c.new-face.result c.serve.new.adapter (g.R.Read.remaining c.args.reader.now) (g.R.Read.remaining c.serve.new.reader)
-    (g.W.Write.contents c.args.writer.now) (g.W.Write.contents c.serve.new.writer) c.new-face.ensures.launched c.new-face.ensures.over c.serve.ensures.serves c.serve.ensures.ends
+    served (g.F.Sources.reads c.args.files.now) c.serve.result c.new-face.result c.serve.new.adapter (g.R.Read.remaining c.args.reader.now)
+    (g.R.Read.remaining c.serve.new.reader) (g.W.Write.contents c.args.writer.now) (g.W.Write.contents c.serve.new.writer)
+    c.new-face.ensures.launched c.new-face.ensures.over c.serve.ensures.serves c.serve.ensures.ends

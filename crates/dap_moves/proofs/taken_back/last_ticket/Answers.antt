@@ -2,6 +2,7 @@ use Rattle.std.proofs.Common.{◌≡◌, ◌∙◌, length, sym, ap}
 use Rattle.std.specs.Prelude.{slice_get}
 use Rattle.runs.specs.Live.{Live}
 use Rattle.machine.specs.AtMachine.{AtMachine}
+use Rattle.dap_moves.proofs.GoingOut.{none_there}
 use Rattle.dap_moves.proofs.taken_back.last_ticket.Goals as goal
 
 pub returns-in-Some : goal.returns-in-Some
@@ -14,3 +15,7 @@ returns-in-Some c =
       ap (λ (l : Live). slice_get l last) (sym same) ∙ c.in-Some.ensures,
       c.in_ok-last.ensures ∙ c.len.ensures ∙ ap (λ (l : Live). length l) same,
     )
+
+pub returns-in-None : goal.returns-in-None
+returns-in-None c =
+    absurd (none_there c.live_events-live.result.now.live c.in_ok-last.last (c.in_ok-last.ensures ∙ c.len.ensures) c.in-None.ensures)

@@ -1,6 +1,11 @@
-use Rattle.dap_requests.proofs.Kept.{same_lines_on}
+use Rattle.std.proofs.Common.{ℕ, List, Some, ◌∙◌, ap, inl, inr, refl, sym}
 use Rattle.dap_requests.proofs.breakpoints.set_anew.Goals as goal
 
-pub returns : goal.returns
-returns c =
-    same_lines_on c.args.program.now c.forget_elsewhere.new.program c.keep-shown.new.program c.forget_elsewhere.ensures c.keep-shown.ensures
+pub returns-in-Some : goal.returns-in-Some
+returns-in-Some c = elim c.set_on.ensures [
+  | inl anew ↦ inr (c.as_slice.result.now, c.in-Some.ensures ∙ ap (λ (xs : List ℕ). Some xs) (sym c.as_slice.ensures.value), anew)
+  | inr none ↦ inl (none.0, inr none.1)
+]
+
+pub returns-in-None : goal.returns-in-None
+returns-in-None c = inl (refl, c.in-None.ensures)

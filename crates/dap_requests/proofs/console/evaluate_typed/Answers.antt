@@ -1,10 +1,18 @@
-use Rattle.std.proofs.Common.{inl, inr, subst}
+use Rattle.std.proofs.Common.{ap, inl, inr, subst}
+use Rattle.machine.specs.AtMachine.{AtMachine}
 use Rattle.dap_messages.specs.Notes.{IsDone}
 use Rattle.dap_messages.specs.declared.answer.Answer.{Answer}
+use Rattle.dap_requests.proofs.Lines.{evaluates_line}
 use Rattle.dap_requests.proofs.console.evaluate_typed.Goals as goal
 
 pub returns-in-Some-clause-refused : goal.returns-in-Some-clause-refused
 returns-in-Some-clause-refused c = elim c.typed.ensures.refused [
   | inl same ↦ inl same
-  | inr done ↦ inr (subst (λ (a : Answer). IsDone a.outcome → IsDone c.typed.new.answer.outcome) c.in-Some.ensures done)
+  | inr done ↦ inr (subst (λ (a : Answer). IsDone a.outcome → IsDone c.typed.new.answer.outcome) c.in-Some.ensures.same done)
 ]
+
+pub returns-in-Some-clause-does : goal.returns-in-Some-clause-does
+returns-in-Some-clause-does c =
+    evaluates_line c.args.program.now c.args.request.now c.args.desk.now c.typed.new.desk c.machine.result.now.checked c.in-Some.branch
+    c.line_in-line.result.now c.args.answer.now c.frame_in.new.answer c.typed.new.answer (ap (λ (m : AtMachine). m.checked) c.machine.ensures)
+    c.in-Some.ensures.branch c.line_in-line.ensures c.in-Some.ensures.same c.typed.ensures.does

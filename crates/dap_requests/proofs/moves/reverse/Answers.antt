@@ -11,17 +11,17 @@ returns-in-Some-clause-goes c =
     let d' = c.reverse_in.new.desk in
     let it = c.reverse_in.ensures.goes in
     runs_on c.args.answer.now c.thread_in.new.answer c.reverse_in.new.answer d d'
-    (λ (stop : Stop). ReversesFor c.args.program.now.excepts d c.args.request.now stop d') c.in-Some.ensures.outcome (
+    (λ (stop : Stop). ReversesFor c.args.program.now d c.args.request.now stop d' c.reverse_in.new.memo.seen.items) c.in-Some.ensures.outcome (
       it.0,
       it.1,
-      reverses_thread c.args.program.now.excepts d d' c.machine.result.now c.args.request.now c.thread_in.result c.in-Some.branch c.flag-single.result it.0
-          c.machine.ensures c.thread_in.ensures.thread c.in-Some.is c.flag-single.ensures it.2,
+      reverses_thread c.args.program.now d d' c.machine.result.now c.args.request.now c.thread_in.result c.in-Some.branch c.flag-single.result it.0
+          c.reverse_in.new.memo.seen.items c.machine.ensures c.thread_in.ensures.thread c.in-Some.is c.flag-single.ensures it.2,
     )
 
 pub returns-in-None-clause-goes : goal.returns-in-None-clause-goes
 returns-in-None-clause-goes c =
     runs_refused c.args.answer.now c.thread_in.new.answer c.args.desk.now c.args.desk.now
-    (λ (stop : Stop). ReversesFor c.args.program.now.excepts c.args.desk.now c.args.request.now stop c.args.desk.now) c.in-None.ensures.outcome.0
+    (λ (stop : Stop). ReversesFor c.args.program.now c.args.desk.now c.args.request.now stop c.args.desk.now c.args.memo.now.seen.items) c.in-None.ensures.outcome.0
     c.in-None.ensures.outcome.1 refl
 
 pub returns-in-None-clause-keeps : goal.returns-in-None-clause-keeps

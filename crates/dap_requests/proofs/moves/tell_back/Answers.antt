@@ -25,7 +25,7 @@ returns-in-Undone-clause-seen c =
 
 pub returns-in-Undone-clause-stops : goal.returns-in-Undone-clause-stops
 returns-in-Undone-clause-stops c =
-    tells_as c.args.answer.now c.tell_undone.new.answer Stop.Stands (stop_of c.args.program.now.excepts c.args.reply.now)
+    tells_as c.args.answer.now c.tell_undone.new.answer Stop.Stepped (stop_of c.args.program.now.excepts c.args.reply.now)
     (ap (λ (x : Reply). stop_of c.args.program.now.excepts x) (sym c.in-Undone.is)) c.tell_undone.ensures
 
 pub returns-in_default-clause-seen : goal.returns-in_default-clause-seen
@@ -35,5 +35,5 @@ returns-in_default-clause-seen c =
 
 pub returns-in_default-clause-stops : goal.returns-in_default-clause-stops
 returns-in_default-clause-stops c =
-    tells_as c.args.answer.now c.stop.new.answer Stop.Stands (stop_of c.args.program.now.excepts c.args.reply.now)
+    tells_as c.args.answer.now c.stop.new.answer Stop.Stepped (stop_of c.args.program.now.excepts c.args.reply.now)
     (sym (stop_other c.args.program.now.excepts c.args.reply.now c.in_default.not-Refused)) c.stop.ensures

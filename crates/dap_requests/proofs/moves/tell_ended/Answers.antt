@@ -8,7 +8,7 @@ use Rattle.dap_requests.proofs.moves.tell_ended.Goals as goal
 
 pub returns-in-Nothing-clause-stops : goal.returns-in-Nothing-clause-stops
 returns-in-Nothing-clause-stops c =
-    tells_as c.args.answer.now c.tell_and_stop.new.answer Stop.Stands (stop_at c.args.program.now.excepts c.args.ended) (ap (λ (x : Ended). stop_at c.args.program.now.excepts x) (sym c.in-Nothing.is)) c.tell_and_stop.ensures
+    tells_as c.args.answer.now c.tell_and_stop.new.answer Stop.Pause (stop_at c.args.program.now.excepts c.args.ended) (ap (λ (x : Ended). stop_at c.args.program.now.excepts x) (sym c.in-Nothing.is)) c.tell_and_stop.ensures
 
 pub returns-in-AtLine-clause-stops : goal.returns-in-AtLine-clause-stops
 returns-in-AtLine-clause-stops c =
@@ -16,11 +16,11 @@ returns-in-AtLine-clause-stops c =
 
 pub returns-in-Watched-clause-stops : goal.returns-in-Watched-clause-stops
 returns-in-Watched-clause-stops c =
-    tells_as c.args.answer.now c.stop_watched.new.answer Stop.Stands (stop_at c.args.program.now.excepts c.args.ended) (ap (λ (x : Ended). stop_at c.args.program.now.excepts x) (sym c.in-Watched.is)) c.stop_watched.ensures
+    tells_as c.args.answer.now c.stop_watched.new.answer Stop.Watched (stop_at c.args.program.now.excepts c.args.ended) (ap (λ (x : Ended). stop_at c.args.program.now.excepts x) (sym c.in-Watched.is)) c.stop_watched.ensures
 
 pub returns-in-Most-clause-stops : goal.returns-in-Most-clause-stops
 returns-in-Most-clause-stops c =
-    tells_as c.args.answer.now c.stop_after_most.new.answer Stop.Stands (stop_at c.args.program.now.excepts c.args.ended) (ap (λ (x : Ended). stop_at c.args.program.now.excepts x) (sym c.in-Most.is)) c.stop_after_most.ensures
+    tells_as c.args.answer.now c.stop_after_most.new.answer Stop.Pause (stop_at c.args.program.now.excepts c.args.ended) (ap (λ (x : Ended). stop_at c.args.program.now.excepts x) (sym c.in-Most.is)) c.stop_after_most.ensures
 
 pub returns-in-Refused-clause-stops : goal.returns-in-Refused-clause-stops
 returns-in-Refused-clause-stops c =

@@ -13,7 +13,7 @@ returns-in-AtBeginning-clause-seen c =
 
 pub returns-in-AtBeginning-clause-stops : goal.returns-in-AtBeginning-clause-stops
 returns-in-AtBeginning-clause-stops c =
-    tells_as c.args.answer.now c.stop.new.answer Stop.Stands (stop_back c.args.program.now.excepts c.args.moved.now)
+    tells_as c.args.answer.now c.stop.new.answer Stop.Stepped (stop_back c.args.program.now.excepts c.args.moved.now)
     (ap (λ (m : Back). stop_back c.args.program.now.excepts m) (sym c.in-AtBeginning.is)) c.stop.ensures
 
 pub returns-in-Asked-clause-seen : goal.returns-in-Asked-clause-seen

@@ -13,5 +13,5 @@ returns-in-Refused-clause-stops c =
 
 pub returns-in_default-clause-stops : goal.returns-in_default-clause-stops
 returns-in_default-clause-stops c =
-    tells_as c.args.answer.now c.tell_taken.new.answer Stop.Stands (stop_of c.args.program.now.excepts c.args.reply.now)
+    tells_as c.args.answer.now c.tell_taken.new.answer Stop.Stepped (stop_of c.args.program.now.excepts c.args.reply.now)
     (sym (stop_other c.args.program.now.excepts c.args.reply.now c.in_default.not-Refused)) c.tell_taken.ensures

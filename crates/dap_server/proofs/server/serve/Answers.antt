@@ -6,7 +6,7 @@ use Rattle.dap_server.proofs.server.serve.Goals as goal
 pub returns-in-Ok-clause-serves : goal.returns-in-Ok-clause-serves
 returns-in-Ok-clause-serves g c =
     on_ok_and c.serve_all.result
-    (serves_all g.A.Adapter.answers g.A.Adapter.over c.args.adapter.now c.serve_all.new.adapter c.in-Ok.server.next c.serve_all.new.self.next
+    (serves_all (g.A.Adapter.answers c.args.context.now) g.A.Adapter.over c.args.adapter.now c.serve_all.new.adapter c.in-Ok.server.next c.serve_all.new.self.next
     (held c.in-Ok.server.input) (held c.serve_all.new.self.input) (g.R.Read.remaining c.args.reader.now)
     (g.R.Read.remaining c.serve_all.new.reader) (g.W.Write.contents c.args.writer.now) (g.W.Write.contents c.serve_all.new.writer)
     c.in-Ok.ensures.next c.in-Ok.ensures.held) c.serve_all.ensures.ends c.serve_all.ensures.serves

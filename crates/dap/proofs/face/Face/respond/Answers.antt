@@ -9,7 +9,7 @@ returns g c = record {
   goes = c.hear.ensures.goes;
   sound = c.is_sound.ensures;
   stops = λ is.
-      moves_stop c.args.self.now.launched c.hear.new.self.launched c.args.request.now c.new-answer.result c.hear.new.answer
+      moves_stop (g.F.Sources.reads c.args.files.now) c.args.self.now.launched c.hear.new.self.launched c.args.request.now c.new-answer.result c.hear.new.answer
       c.new-answer.ensures.notes c.new-answer.ensures.done is c.hear.ensures.goes
       (λ none. let early = c.hear.ensures.early none is in (early.0, early.1));
   early = λ none is. let early = c.hear.ensures.early none is in (

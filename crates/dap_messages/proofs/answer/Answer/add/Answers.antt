@@ -1,7 +1,5 @@
 use Rattle.std.proofs.Common.{◌≡◌, ◌∙◌, ◌++◌, ◌∷◌, [], not, is_ok, true, false, inl, inr, refl, ap}
-use Rattle.dap_messages.specs.Notes.{told_by}
 use Rattle.dap_messages.specs.declared.answer.Note.{Note}
-use Rattle.dap_messages.proofs.Numbered.{told-more}
 use Rattle.dap_messages.proofs.answer.Answer.add.Goals as goal
 
 pub returns-else-is_err : goal.returns-else-is_err
@@ -10,7 +8,7 @@ returns-else-is_err c =
     let note : Note = record { told = c.args.told; body = c.args.body } in
     let after : c.push.new.self.items ≡ c.args.self.now.notes.items ++ note ∷ [] = rw ok at c.push.ensures.items in
     record {
-      events = inl (ap told_by after ∙ told-more c.args.self.now.notes.items note, refl);
+      events = inl ((note, refl, refl, after), refl);
       outcome = refl;
       effect = c.with_event-self.ensures;
     }

@@ -8,30 +8,30 @@ use Rattle.dap_server.proofs.server.Server.serve_all.Goals as goal
 
 pub loop-turn-init : goal.loop-turn-init
 loop-turn-init g c =
-    serves_nothing g.A.Adapter.answers g.A.Adapter.over c.args.adapter.now c.args.self.now.next (held c.args.self.now.input)
+    serves_nothing (g.A.Adapter.answers c.args.context.now) g.A.Adapter.over c.args.adapter.now c.args.self.now.next (held c.args.self.now.input)
     (g.R.Read.remaining c.args.reader.now) (g.W.Write.contents c.args.writer.now)
 
 pub loop-turn-preserved : goal.loop-turn-preserved
 loop-turn-preserved g c =
     let at = c.loop-turn in
-    serves_then g.A.Adapter.answers g.A.Adapter.over c.args.adapter.now at.adapter c.serve_next.new.adapter c.args.self.now.next at.self.next
+    serves_then (g.A.Adapter.answers c.args.context.now) g.A.Adapter.over c.args.adapter.now at.adapter c.serve_next.new.adapter c.args.self.now.next at.self.next
     c.serve_next.new.self.next (held c.args.self.now.input) (held at.self.input) (held c.serve_next.new.self.input)
     (g.R.Read.remaining c.args.reader.now) (g.R.Read.remaining at.reader) (g.R.Read.remaining c.serve_next.new.reader)
     (g.W.Write.contents c.args.writer.now) (g.W.Write.contents at.writer) (g.W.Write.contents c.serve_next.new.writer) at.invariant
     (IfOk-at_ok
-    (λ (more : Bool). ServesFrom g.A.Adapter.answers g.A.Adapter.over at.adapter at.self.next c.serve_next.new.adapter c.serve_next.new.self.next
+    (λ (more : Bool). ServesFrom (g.A.Adapter.answers c.args.context.now) g.A.Adapter.over at.adapter at.self.next c.serve_next.new.adapter c.serve_next.new.self.next
     (held at.self.input) (held c.serve_next.new.self.input) (g.R.Read.remaining at.reader) (g.R.Read.remaining c.serve_next.new.reader)
     (g.W.Write.contents at.writer) (g.W.Write.contents c.serve_next.new.writer)) c.in-Ok-true.is c.serve_next.ensures.serves)
 
 pub returns-in-Ok-false-clause-serves : goal.returns-in-Ok-false-clause-serves
 returns-in-Ok-false-clause-serves g c =
     let at = c.loop-turn in
-    serves_then g.A.Adapter.answers g.A.Adapter.over c.args.adapter.now at.adapter c.serve_next.new.adapter c.args.self.now.next at.self.next
+    serves_then (g.A.Adapter.answers c.args.context.now) g.A.Adapter.over c.args.adapter.now at.adapter c.serve_next.new.adapter c.args.self.now.next at.self.next
     c.serve_next.new.self.next (held c.args.self.now.input) (held at.self.input) (held c.serve_next.new.self.input)
     (g.R.Read.remaining c.args.reader.now) (g.R.Read.remaining at.reader) (g.R.Read.remaining c.serve_next.new.reader)
     (g.W.Write.contents c.args.writer.now) (g.W.Write.contents at.writer) (g.W.Write.contents c.serve_next.new.writer) at.invariant
     (IfOk-at_ok
-    (λ (more : Bool). ServesFrom g.A.Adapter.answers g.A.Adapter.over at.adapter at.self.next c.serve_next.new.adapter c.serve_next.new.self.next
+    (λ (more : Bool). ServesFrom (g.A.Adapter.answers c.args.context.now) g.A.Adapter.over at.adapter at.self.next c.serve_next.new.adapter c.serve_next.new.self.next
     (held at.self.input) (held c.serve_next.new.self.input) (g.R.Read.remaining at.reader) (g.R.Read.remaining c.serve_next.new.reader)
     (g.W.Write.contents at.writer) (g.W.Write.contents c.serve_next.new.writer)) c.in-Ok-false.is c.serve_next.ensures.serves)
 

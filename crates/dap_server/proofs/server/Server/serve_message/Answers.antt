@@ -8,7 +8,7 @@ use Rattle.dap_server.proofs.server.Server.serve_message.Goals as goal
 pub returns-in-Large-clause-serves : goal.returns-in-Large-clause-serves
 returns-in-Large-clause-serves g c =
     IfOk-weaker c.pass_over.result _ _
-    (λ more told bytes next. hears_large g.A.Adapter.answers g.A.Adapter.over c.args.adapter.now c.args.self.now.next c.pass_over.new.self.next
+    (λ more told bytes next. hears_large (g.A.Adapter.answers c.args.context.now) g.A.Adapter.over c.args.adapter.now c.args.self.now.next c.pass_over.new.self.next
     c.args.self.now.input (g.W.Write.contents c.args.writer.now) (g.W.Write.contents c.pass_over.new.writer) c.requires told bytes
     (subst (λ (x : Next). IsNext x c.args.self.now.input bytes) c.in-Large.is next)) c.pass_over.ensures.tells
 
@@ -20,5 +20,5 @@ returns-in-Body-clause-ends g c = IfOk-weaker c.hear.result _ _ (λ more. goes_o
 
 pub returns-in-End-clause-serves : goal.returns-in-End-clause-serves
 returns-in-End-clause-serves g c = λ bytes next.
-    hears_end g.A.Adapter.answers g.A.Adapter.over c.args.adapter.now c.args.self.now.next c.args.self.now.input
+    hears_end (g.A.Adapter.answers c.args.context.now) g.A.Adapter.over c.args.adapter.now c.args.self.now.next c.args.self.now.input
     (g.W.Write.contents c.args.writer.now) bytes (subst (λ (x : Next). IsNext x c.args.self.now.input bytes) c.in-End.is next)

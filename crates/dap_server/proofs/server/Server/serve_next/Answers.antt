@@ -7,7 +7,7 @@ use Rattle.dap_server.proofs.server.Server.serve_next.Goals as goal
 pub returns-in-Ok-clause-serves : goal.returns-in-Ok-clause-serves
 returns-in-Ok-clause-serves g c =
     IfOk-weaker c.serve_message.result _ _
-    (λ more. serves_next g.A.Adapter.answers g.A.Adapter.over c.args.adapter.now c.serve_message.new.adapter c.args.self.now.next
+    (λ more. serves_next (g.A.Adapter.answers c.args.context.now) g.A.Adapter.over c.args.adapter.now c.serve_message.new.adapter c.args.self.now.next
     c.serve_message.new.self.next (held c.args.self.now.input) c.in-Ok.next c.next.new.self c.serve_message.new.self.input
     (g.R.Read.remaining c.args.reader.now) (g.R.Read.remaining c.next.new.reader) (g.W.Write.contents c.args.writer.now)
     (g.W.Write.contents c.serve_message.new.writer) c.in-Ok.ensures.next c.serve_message.ensures.input) c.serve_message.ensures.serves

@@ -1,0 +1,8 @@
+use Rattle.std.proofs.Common.{Some}
+use Rattle.serde_json.specs.Data.{object}
+use Rattle.serde_json.specs.View.{members_view}
+use Rattle.dap_requests.proofs.public.Saying.{says_one}
+use Rattle.dap_requests.proofs.said.tell.Goals as goal
+
+pub returns : goal.returns
+returns c = says_one c.args.answer.now c.note.new.self (Some (object (members_view c.text-2.new.self.made.entries))) c.note.ensures.adds
