@@ -3,4 +3,5 @@ mod Going
 mod Keeping
 mod Lawful
 mod Machines
+mod Opening
 mod Stopping
