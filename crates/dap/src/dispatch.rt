@@ -133,8 +133,8 @@ fn is_active(request: &Request) -> bool
     ensures { result ≡ is_active request.now }
 {
     let moving = is_move(request.kind);
-    let typed = is_typed(request);
-    moving || is_line(request.kind, typed)
+    let line = is_line(request.kind, is_typed(request));
+    moving || line
 }
 
 /// Whether a request of this kind is a line, where one is typed.
@@ -328,6 +328,6 @@ fn exception_info(alloc: Global, memo: &Memo, answer: &mut Answer) {
             body.text("breakMode", "always");
             answer.body(body);
         }
-        None => answer.refuse(111, "nothing was refused at the last stop"),
+        None => answer.refuse(111, "nothing was refused"),
     }
 }
