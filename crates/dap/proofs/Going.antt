@@ -29,14 +29,15 @@ use Rattle.dap_requests.proofs.public.Saying.{runs_after, runs_weaker}
 use Rattle.dap_server.specs.Kinds.{moves}
 use Rattle.dap_threads.specs.Threads.{branch_named}
 use Rattle.dap_views.specs.Kept.{unseen}
+use Rattle.dap_views.specs.Seen.{Sees}
 use Rattle.dap_views.specs.declared.program.Memo.{Memo}
 use Rattle.dap_views.specs.declared.program.Program.{Program}
 use Rattle.dap_views.specs.declared.sight.Sight.{Sight}
 use Rattle.dap.specs.Anew.{excepting}
 use Rattle.dap.specs.Asking.{Asks, IsAsked}
 use Rattle.dap.specs.Begins.{Begins, EndsFree}
-use Rattle.dap.specs.Goes.{Goes, GoesOn, IsSound, LaunchedGoes, Restarts}
-use Rattle.dap.specs.Kinds.{asks, changes}
+use Rattle.dap.specs.Goes.{Goes, GoesOn, IsSeen, IsSound, LaunchedGoes, Restarts, seen_as}
+use Rattle.dap.specs.Kinds.{asks, begins_run, changes, may_move}
 use Rattle.dap.specs.Launching.{IsBegun}
 use Rattle.dap.specs.Sets.{Sets, SetsBy}
 use Rattle.dap.specs.Steps.{Forward, Steps, thread_of}
@@ -215,6 +216,41 @@ sets-unseen request c p q b h = elim h [
   | inr refused ↦ inr (refused.0, ap unseen refused.1)
 ]
 
+-- nor does what a request sets change what is shown
+lines-sight : (d : Data) (c : Command) (p q : Program) (b : Answer) (own : Bool) → PlacesAsked own c d p b q → q.sight ≡ p.sight
+lines-sight d c p q b own h = elim h [
+  | inl still ↦ ap (λ (x : Program). x.sight) still.0
+  | inr anew ↦ ap (λ (x : Program). x.sight) anew.2.same
+]
+
+by-sight : (kind : Kind) (d : Data) (c : Command) (p q : Program) (b : Answer) → SetsBy kind d c p b q → q.sight ≡ p.sight
+by-sight Kind.SetBreakpoints d c p q b h = elim h [
+  | inl other ↦ ap (λ (x : Program). x.sight) other.1
+  | inr set ↦ lines-sight d c p q b (is_own p (path_in d)) set.1
+]
+by-sight Kind.SetDataBreakpoints d c p q b h = elim h [
+  | inl still ↦ ap (λ (x : Program). x.sight) still.0
+  | inr only ↦ ap (λ (x : Program). x.sight) only.2.1
+]
+by-sight Kind.SetExceptionBreakpoints d c p q b h = ap (λ (x : Program). x.sight) h
+by-sight Kind.Terminate d c p q b h = elim h [
+  | inl ended ↦ ap (λ (x : Program). x.sight) ended
+  | inr same ↦ ap (λ (x : Program). x.sight) same
+]
+by-sight Kind.ConfigurationDone d c p q b h = ap (λ (x : Program). x.sight) h.same
+by-sight _ d c p q b h = ap (λ (x : Program). x.sight) h
+
+sight-set : (request : Request) (c : Command) (p q : Program) (b : Answer) → Sets request c p b q → q.sight ≡ p.sight
+sight-set request c p q b h = elim h [
+  | inl set ↦ by-sight request.kind (view request.arguments) c p q b set
+  | inr refused ↦ ap (λ (x : Program). x.sight) refused.1
+]
+
+-- what is shown of a state is so where that stays
+seen-still : (d d' : AtDesk) (s t : Option Sight) → t ≡ s → d' ≡ d → Sees d.machine s → Sees d'.machine t
+seen-still d d' s t shown same seen =
+    subst (λ (x : AtDesk). Sees x.machine t) (sym same) (subst (λ (x : Option Sight). Sees d.machine x) (sym shown) seen)
+
 -- a kind that moves is no other
 not-both : (kind known : Kind) → moves kind ≡ true → moves known ≡ false → kind ≡ known → ⊥
 not-both kind known is none same =
@@ -252,6 +288,7 @@ moves_goes l request a b d' memo is over led goes keeps = record {
   evaluates = λ same. absurd (not-both request.kind Kind.Evaluate is refl same);
   sets = sets-moving request l.desk.machine.checked.main (unseen l.program) b is;
   keeps = keeps;
+  sees = λ seen same. seen-still l.desk d' l.program.sight l.program.sight refl same seen;
 }
 
 -- one that only reads the desk
@@ -268,6 +305,8 @@ look_goes l request a b q still none sets = record {
   evaluates = λ same. absurd (not-asked request.kind Kind.Evaluate none refl same);
   sets = sets-unseen request l.desk.machine.checked.main l.program q b sets;
   keeps = keeps_same b l.memo.seen.items;
+  sees = λ seen same.
+      seen-still l.desk l.desk l.program.sight q.sight (sight-set request l.desk.machine.checked.main l.program q b sets) refl seen;
 }
 
 -- one that is refused since it is over
@@ -281,9 +320,10 @@ over_goes l request a b is refused same = record {
   looks = λ same typed. refl;
   moved = λ it. inl (refused, same, refl);
   begins = λ it. inl (refused, same, refl);
-  evaluates = λ it. inl (refl, same);
+  evaluates = λ it. (l.program.sight, λ seen. seen, inl (refl, same));
   sets = inr (refused, refl);
   keeps = keeps_same b l.memo.seen.items;
+  sees = λ seen stays. seen;
 }
 
 -- an expression
@@ -301,9 +341,10 @@ typed_goes l request a b d' memo asking other running still led looks does refus
   looks = λ same none. looks none;
   moved = λ is. let no : true ≡ false = sym is ∙ still in absurd (cc);
   begins = λ same. absurd (other same);
-  evaluates = λ same. does;
+  evaluates = λ same. (l.program.sight, λ seen. seen, does);
   sets = sets-asking request l.desk.machine.checked.main (unseen l.program) b asking;
   keeps = keeps;
+  sees = λ seen same. seen-still l.desk d' l.program.sight l.program.sight refl same seen;
 }
 
 -- the first request to run
@@ -339,15 +380,14 @@ begins_goes l m request a b is running led begins sets keeps = record {
       sets-unseen request l.desk.machine.checked.main l.program m.program b
       (sets_as request Kind.ConfigurationDone l.desk.machine.checked.main l.program m.program b is sets);
   keeps = keeps;
+  sees = λ seen same.
+      seen-still l.desk m.desk l.program.sight m.program.sight (ap (λ (x : Program). x.sight) sets.same) same seen;
 }
 
--- what is shown of the state does not matter
-abbrev pub with_sight : Launched → Option Sight → Launched
-with_sight l sight = record l { program = record l.program { sight = sight } }
-
-pub goes_unseen : (l m : Launched) (request : Request) (a b : Answer) (s t : Option Sight) → LaunchedGoes (with_sight l s) request a b m →
-    LaunchedGoes l request a b (with_sight m t)
-goes_unseen l m request a b s t h = record {
+-- what is shown of the state may be made anew
+pub goes_unseen : (l m : Launched) (request : Request) (a b : Answer) (s t : Option Sight) → (IsSeen l → IsSeen (seen_as l s)) →
+    (IsSeen l → IsSeen (seen_as m t)) → LaunchedGoes (seen_as l s) request a b m → LaunchedGoes l request a b (seen_as m t)
+goes_unseen l m request a b s t kept all h = record {
   led = h.led;
   reads = h.reads;
   stays = h.stays;
@@ -355,10 +395,40 @@ goes_unseen l m request a b s t h = record {
   looks = h.looks;
   moved = h.moved;
   begins = h.begins;
-  evaluates = h.evaluates;
+  evaluates = λ is. let it = h.evaluates is in (it.0, λ seen. it.1 (kept seen), it.2);
   sets = h.sets;
   keeps = h.keeps;
+  sees = λ seen same. all seen;
 }
+
+-- the desk stays where nothing may move
+none-of : (a b c : Bool) → (a || b || c) ≡ false → (a ≡ false) × (b ≡ false) × (c ≡ false)
+none-of false false false is = (refl, refl, refl)
+none-of true b c is = absurd (cc)
+none-of false true c is = absurd (cc)
+none-of false false true is = absurd (cc)
+
+still-by : (P : Type 0) (kind : Kind) → moves kind ≡ false → begins_run kind ≡ false → (kind ≡ Kind.Evaluate → P) → (changes kind ≡ false → P) → P
+still-by P Kind.ConfigurationDone still none looks reads = absurd (cc)
+still-by P Kind.Evaluate still none looks reads = looks refl
+still-by P _ still none looks reads = reads (ap (λ (b : Bool). b || false) still)
+
+desk-still : (l m : Launched) (request : Request) (a b : Answer) → LaunchedGoes l request a b m → may_move request ≡ false → m.desk ≡ l.desk
+desk-still l m request a b h none =
+    let each = none-of (moves request.kind) (begins_run request.kind) (is_typed request) none in
+    still-by (m.desk ≡ l.desk) request.kind each.0 each.1 (λ same. h.looks same each.2) (λ reads. h.reads reads)
+
+-- what was looked at is so of this machine
+pub looked_at : (n m : AtMachine) (s t : Option Sight) → n ≡ m → (Sees n s → Sees n t) → Sees m s → Sees m t
+looked_at n m s t same h = subst (λ (x : AtMachine). Sees x s → Sees x t) same h
+
+-- what is looked at anew, where something may have moved, is so
+pub sees_on : (l m : Launched) (request : Request) (a b : Answer) (s t : Option Sight) (moved : Bool) (n : AtMachine) →
+    (IsSeen l → IsSeen (seen_as l s)) → LaunchedGoes (seen_as l s) request a b m → moved ≡ may_move request → n ≡ m.desk.machine →
+    ((moved ≡ false → Sees n m.program.sight) → Sees n t) → IsSeen l → IsSeen (seen_as m t)
+sees_on l m request a b s t moved n kept h is own renewed seen =
+    let there = subst (λ (x : AtMachine). (moved ≡ false → Sees x m.program.sight) → Sees x t) own renewed in
+    there (λ none. h.sees (kept seen) (desk-still (seen_as l s) m request a b h (sym is ∙ none)))
 
 -- the branch of a request's thread
 thread_found : (d : AtDesk) (m : AtMachine) (request : Request) (found : Option ℕ) → m ≡ d.machine
@@ -391,18 +461,19 @@ runs_in_thread a m b d d' machine request found k goes same is some answer h =
 same : (x : Option Launched) (request : Request) (a b : Answer) → moves request.kind ≡ false → asks request.kind ≡ false →
     ((l : Launched) → x ≡ Some l → Sets request l.desk.machine.checked.main l.program b l.program) → GoesOn x request a b x
 same None request a b still none sets = tt
-same (Some l) request a b still none sets = look_goes l request a b l.program still none (sets l refl)
+same (Some l) request a b still none sets = (look_goes l request a b l.program still none (sets l refl), λ seen. seen)
 
 -- what is launched goes on
 pub goes_on : (x y : Option Launched) (l m : Launched) (request : Request) (a b : Answer) → x ≡ Some l → y ≡ Some m → LaunchedGoes l request a b m →
-    GoesOn x request a b y
-goes_on x y l m request a b is there h =
-    let to : GoesOn (Some l) request a b (Some m) = h in
+    (IsSeen l → IsSeen m) → GoesOn x request a b y
+goes_on x y l m request a b is there h sees =
+    let to : GoesOn (Some l) request a b (Some m) = (h, sees) in
     subst (λ (z : Option Launched). GoesOn z request a b y) (sym is) (subst (λ (z : Option Launched). GoesOn (Some l) request a b z) (sym there) to)
 
 -- it goes on, or is begun anew
 pub goes_anew : (reads : List ℕ → Option (List ℕ) → Type 0) (x y : Option Launched) (l m : Launched) (request : Request) (a b : Answer) →
-    x ≡ Some l → y ≡ Some m → ((request.kind ≡ Kind.Restart) × Restarts reads l request b m) ⊎ LaunchedGoes l request a b m →
+    x ≡ Some l → y ≡ Some m → ((request.kind ≡ Kind.Restart) × Restarts reads l request b m)
+    ⊎ (LaunchedGoes l request a b m × (IsSeen l → IsSeen m)) →
     Goes reads x request a b y
 goes_anew reads x y l m request a b is there h =
     let to : Goes reads (Some l) request a b (Some m) = elim h [ inl anew ↦ inr anew | inr on ↦ inl on ] in
@@ -435,6 +506,7 @@ begun-excepting reads asked excepts l h = record {
       watched = h.fresh.unset.watched;
       waits = h.fresh.unset.waits;
       lasts = h.fresh.unset.lasts;
+      sight = h.fresh.unset.sight;
     };
     seen = h.fresh.seen;
     desk = h.fresh.desk;
@@ -455,18 +527,22 @@ goes_launched reads x y request a b excepts l arguments same none launches h the
 pub refused_goes : (x : Option Launched) (request : Request) (a b : Answer) → moves request.kind ≡ false → IsRefusal b.outcome → b.notes ≡ a.notes →
     GoesOn x request a b x
 refused_goes None request a b still refused notes = tt
-refused_goes (Some l) request a b still refused notes = record {
-  led = led_nowhere l.desk;
-  reads = λ reads. refl;
-  stays = λ ended. refl;
-  refused = inl refl;
-  looks = λ same typed. refl;
-  moved = λ is. let no : true ≡ false = sym is ∙ still in absurd (cc);
-  begins = λ same. inl (refused, notes, refl);
-  evaluates = λ same. inl (refl, notes);
-  sets = inr (refused, refl);
-  keeps = keeps_same b l.memo.seen.items;
-}
+refused_goes (Some l) request a b still refused notes = (
+  record {
+    led = led_nowhere l.desk;
+    reads = λ reads. refl;
+    stays = λ ended. refl;
+    refused = inl refl;
+    looks = λ same typed. refl;
+    moved = λ is. let no : true ≡ false = sym is ∙ still in absurd (cc);
+    begins = λ same. inl (refused, notes, refl);
+    evaluates = λ same. (l.program.sight, λ seen. seen, inl (refl, notes));
+    sets = inr (refused, refl);
+    keeps = keeps_same b l.memo.seen.items;
+    sees = λ seen stays. seen;
+  },
+  λ seen. seen,
+)
 
 -- nothing changes by a request of this kind
 pub goes_nowhere : (x y : Option Launched) (request : Request) (a b : Answer) (known : Kind) → request.kind ≡ known → moves known ≡ false →

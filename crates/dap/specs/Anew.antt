@@ -55,3 +55,4 @@ pub record GoesAnew (l anew : Launched) (b : Answer) (m : Launched) : Type 0 whe
   pub begins : Begins (record anew { program = kept }) m start b
   pub once : BeginsOnce b
   pub led : Led anew.desk m.desk
+  pub sight : m.program.sight ≡ anew.program.sight

@@ -12,6 +12,8 @@ use Rattle.dap_requests.specs.Said.{Runs}
 use Rattle.dap_requests.specs.Typed.{Evaluates, KeepsSome, is_typed}
 use Rattle.dap_server.specs.Kinds.{moves}
 use Rattle.dap_views.specs.Kept.{unseen}
+use Rattle.dap_views.specs.Seen.{Sees}
+use Rattle.dap_views.specs.declared.sight.Sight.{Sight}
 use Rattle.dap.specs.Anew.{GoesAnew, IsMeant, brought}
 use Rattle.dap.specs.Asking.{Asks, IsAsked, asked_by}
 use Rattle.dap.specs.Begins.{Begins}
@@ -24,10 +26,18 @@ use Rattle.dap.specs.Stops.{NotDone, StopsOnce}
 use Rattle.dap.specs.declared.face.Face.{Face}
 use Rattle.dap.specs.declared.launch.Launched.{Launched}
 
+-- what is shown of the state is so in the state of its machine
+abbrev pub IsSeen : Launched → Type 0
+IsSeen l = Sees l.desk.machine l.program.sight
+
+-- the same, where this is shown of the state
+abbrev pub seen_as : Launched → Option Sight → Launched
+seen_as l sight = record l { program = record l.program { sight = sight } }
+
 -- what a request that is answered so, from a to b, does to what is launched: the desk is what some commands of sessions
 -- leave, and the same where the request only reads, where it is refused, where words are only looked at, or where the
--- client was told that it is over; a request to run moves it as it should; a line that is typed does what it asks for;
--- and each sets what it asks for alone
+-- client was told that it is over; a request to run moves it as it should; a line that is typed does what it asks for,
+-- where its frame is one of the state; and each sets what it asks for alone
 pub record LaunchedGoes (l : Launched) (request : Request) (a b : Answer) (m : Launched) : Type 0 where
   pub led : Led l.desk m.desk
   pub reads : changes request.kind ≡ false → m.desk ≡ l.desk
@@ -39,9 +49,12 @@ pub record LaunchedGoes (l : Launched) (request : Request) (a b : Answer) (m : L
       (λ stop. Steps l.program l.memo.seen.items m.memo.seen.items l.desk request.kind request stop m.desk)
   pub begins : request.kind ≡ Kind.ConfigurationDone →
       (IsRefusal b.outcome × (b.notes ≡ a.notes) × (m.desk ≡ l.desk)) ⊎ Begins l m a b
-  pub evaluates : request.kind ≡ Kind.Evaluate → Evaluates l.program request l.desk a b m.desk
+  pub evaluates : request.kind ≡ Kind.Evaluate →
+      (sight : Option Sight) × (IsSeen l → IsSeen (seen_as l sight))
+      × Evaluates (seen_as l sight).program request l.desk a b m.desk
   pub sets : Sets request l.desk.machine.checked.main (unseen l.program) b (unseen m.program)
   pub keeps : KeepsSome b l.memo.seen.items m.memo.seen.items
+  pub sees : IsSeen l → m.desk ≡ l.desk → IsSeen m
 
 -- a restart launches what its arguments name, where they name a program, and else the same again, from the files as
 -- they are now; what the client had set is kept, and it begins; or all is as it was
@@ -51,10 +64,10 @@ Restarts reads l request b m =
     × IsBegun reads asked anew × GoesAnew l anew b m)
     ⊎ ((m ≡ l) × NotDone b)
 
--- what is launched goes on as a request says, and nothing else is launched
+-- what is launched goes on as a request says, and nothing else is launched; requests look at the state as it is
 abbrev pub GoesOn : Option Launched → Request → Answer → Answer → Option Launched → Type 0
 GoesOn None request a b None = Unit {0}
-GoesOn (Some l) request a b (Some m) = LaunchedGoes l request a b m
+GoesOn (Some l) request a b (Some m) = LaunchedGoes l request a b m × (IsSeen l → IsSeen m)
 GoesOn _ request a b _ = ⊥
 
 -- nothing was launched, and a launch begins what its arguments ask for; or a restart begins anew, or was refused

@@ -29,6 +29,7 @@ pub record IsUnset (asked : Asks) (source : List ℕ) (p : Program) : Type 0 whe
   pub watched : p.watched.items ≡ []
   pub waits : p.begun ≡ false
   pub lasts : p.ended ≡ false
+  pub sight : p.sight ≡ None
 
 -- such a program with a new desk on this machine
 pub record IsNew (asked : Asks) (source : List ℕ) (m : AtMachine) (l : Launched) : Type 0 where

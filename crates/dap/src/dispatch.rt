@@ -4,8 +4,9 @@ ghost use Rattle.dap_messages.specs.Notes.{IsRefusal};
 ghost use Rattle.dap_requests.specs.Typed.{is_typed};
 ghost use Rattle.dap_server.specs.Kinds.{moves};
 ghost use Rattle.dap_views.specs.Kept.{unseen};
-ghost use Rattle.dap.specs.Goes.{LaunchedGoes};
-ghost use Rattle.dap.specs.Kinds.{asks};
+ghost use Rattle.dap_views.specs.Seen.{Sees};
+ghost use Rattle.dap.specs.Goes.{IsSeen, LaunchedGoes};
+ghost use Rattle.dap.specs.Kinds.{asks, begins_run, may_move};
 ghost use Rattle.dap.specs.Sets.{Sets};
 
 use crate::begin::begin_once;
@@ -30,7 +31,8 @@ pub(crate) fn perform(
     request: &Request,
     answer: &mut Answer,
 )
-    ensures { LaunchedGoes launched.old request.now answer.old answer.new launched.new }
+    ensures goes { LaunchedGoes launched.old request.now answer.old answer.new launched.new }
+    ensures sees { IsSeen launched.old → IsSeen launched.new }
 {
     keep_sight(launched.desk.machine(), &mut launched.program.sight);
     act(alloc, launched, request, answer);
@@ -39,23 +41,47 @@ pub(crate) fn perform(
 }
 
 /// Whether the request may move something.
-fn may_move(request: &Request) -> bool {
-    is_move(request.kind) || request.kind == Kind::ConfigurationDone || is_typed(request)
+fn may_move(request: &Request) -> bool
+    ensures { result ≡ may_move request.now }
+{
+    is_move(request.kind) || begins_run(request.kind) || is_typed(request)
+}
+
+/// Whether a request of this kind begins a run.
+fn begins_run(kind: Kind) -> bool
+    ensures { result ≡ begins_run kind }
+{
+    matches!(kind, Kind::ConfigurationDone)
 }
 
 /// Looks at what the state offers anew where something may have moved.
-fn renew_sight(machine: &Machine, sight: &mut Option<Sight>, moved: bool) {
+fn renew_sight(machine: &Machine, sight: &mut Option<Sight>, moved: bool)
+    ensures { (moved ≡ false → Sees machine.now sight.old) → Sees machine.now sight.new }
+{
     if moved {
-        *sight = None;
+        look_anew(machine, sight);
+    } else {
+        keep_sight(machine, sight);
     }
-    keep_sight(machine, sight);
 }
 
-/// Looks at what the state offers, where that is not known. Without memory it stays unknown.
-fn keep_sight(machine: &Machine, sight: &mut Option<Sight>) {
+/// Looks at what the state offers, where that is not known.
+fn keep_sight(machine: &Machine, sight: &mut Option<Sight>)
+    ensures { Sees machine.now sight.old → Sees machine.now sight.new }
+{
     if sight.is_none() {
-        *sight = sight_of(machine).ok();
+        look_anew(machine, sight);
     }
+}
+
+/// Looks at what the state offers. Without memory it is not known.
+fn look_anew(machine: &Machine, sight: &mut Option<Sight>)
+    ensures { Sees machine.now sight.new }
+{
+    *sight = match sight_of(machine) {
+        Ok(found) => Some(found),
+        Err(_) => None,
+    };
 }
 
 /// Whether another request of this kind may change the desk.

@@ -4,7 +4,7 @@ ghost use Rattle.dap_messages.specs.Notes.{IsRefusal};
 ghost use Rattle.dap_messages.specs.declared.kind.Kind.{Kind as Asks};
 ghost use Rattle.dap_server.specs.Kinds.{moves};
 ghost use Rattle.dap.specs.Anew.{excepting};
-ghost use Rattle.dap.specs.Goes.{Comes, Goes, GoesOn, IsSound, LaunchedGoes, Restarts};
+ghost use Rattle.dap.specs.Goes.{Comes, Goes, GoesOn, IsSeen, IsSound, LaunchedGoes, Restarts};
 ghost use Rattle.dap.specs.Kinds.{ends};
 
 use crate::dispatch::perform;
@@ -259,7 +259,8 @@ fn ask_of<F: Sources>(
 )
     ensures { ((request.now.kind ≡ Asks.Restart)
         × Restarts (F.reads files.now) launched.old request.now answer.new launched.new)
-        ⊎ LaunchedGoes launched.old request.now answer.old answer.new launched.new }
+        ⊎ (LaunchedGoes launched.old request.now answer.old answer.new launched.new
+        × (IsSeen launched.old → IsSeen launched.new)) }
 {
     match request.kind {
         Kind::Restart => restart(alloc, files, launched, request, answer),
