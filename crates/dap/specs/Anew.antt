@@ -47,7 +47,7 @@ pub record KeepsSet (p q k : Program) : Type 0 where
   pub watched : q.source.items ≡ p.source.items → k.watched ≡ p.watched
   pub unwatched : q.source.items ≢ p.source.items → k.watched ≡ q.watched
 
--- with that kept it begins, and the answer tells how
+-- with that kept it begins, and the answer tells how; what is shown of the state is as where it was launched
 pub record GoesAnew (l anew : Launched) (b : Answer) (m : Launched) : Type 0 where
   pub kept : Program
   pub keeps : KeepsSet l.program anew.program kept

@@ -37,7 +37,8 @@ seen_as l sight = record l { program = record l.program { sight = sight } }
 -- what a request that is answered so, from a to b, does to what is launched: the desk is what some commands of sessions
 -- leave, and the same where the request only reads, where it is refused, where words are only looked at, or where the
 -- client was told that it is over; a request to run moves it as it should; a line that is typed does what it asks for,
--- where its frame is one of the state; and each sets what it asks for alone
+-- where its frame is one of the state; each sets what it asks for alone; and what is shown of the state is so where the
+-- desk stays
 pub record LaunchedGoes (l : Launched) (request : Request) (a b : Answer) (m : Launched) : Type 0 where
   pub led : Led l.desk m.desk
   pub reads : changes request.kind ≡ false → m.desk ≡ l.desk

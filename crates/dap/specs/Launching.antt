@@ -20,7 +20,8 @@ BeginsOn system (Some trace) m = IsLoaded system trace m
 abbrev pub BeginsAt : List ℕ → List ℕ → Option (List ℕ) → AtMachine → Type 0
 BeginsAt source stimulus trace m = (system : System) × AcceptedAs source stimulus system × BeginsOn system trace m
 
--- the program of this launch over this source, on which nothing is set, and which has not begun
+-- the program of this launch over this source, on which nothing is set, and which has not begun; nothing is shown of its
+-- state yet
 pub record IsUnset (asked : Asks) (source : List ℕ) (p : Program) : Type 0 where
   pub launch : asked_by p.launch ≡ asked
   pub text : p.source.items ≡ source

@@ -1,13 +1,17 @@
 // The frames of threads.
-ghost use Rattle.std.specs.Prelude.{◌≡◌, ◌++◌, ◌≤◌, ◌<◌, None, Some, codes, map, slice_get, IfOk, MatchOption, OnOk};
+ghost use Rattle.std.specs.Prelude.{◌≡◌, ◌++◌, ◌+◌, ◌≤◌, ◌<◌, false, true, None, Some, codes, map, slice_get, IfOk, MatchOption, OnOk};
 ghost use Rattle.std.specs.Option.{option_copied};
-ghost use Rattle.serde_json.specs.View.{view};
+ghost use Rattle.serde_json.specs.Data.{array, number, object, unsigned};
+ghost use Rattle.serde_json.specs.View.{items_view, members_view, view};
 ghost use Rattle.system_places.specs.SystemBranches.{branch_count};
 ghost use Rattle.dap_messages.specs.Arguments.{number_named};
 ghost use Rattle.dap_messages.specs.Notes.{IsRefusal};
+ghost use Rattle.dap_messages.specs.Written.{Has};
+ghost use Rattle.dap_moves.specs.Handles.{frame_id as model_id};
 ghost use Rattle.dap_views.specs.Around.{calls_around};
-ghost use Rattle.dap_threads.specs.Frames.{FindsFrame, FindsNamed, Misses, SeesCall, at_call, at_place, call_of, count_of};
+ghost use Rattle.dap_threads.specs.Frames.{FindsFrame, FindsNamed, Misses, SeesCall, at_call, at_place, call_of, count_of, frame_count};
 ghost use Rattle.dap_threads.specs.Frames as model;
+ghost use Rattle.dap_threads.specs.Stack.{IsStack, ListsFrames, ListsIds, asked_ids, first_in, is_asked, levels_by, levels_in};
 ghost use Rattle.dap_threads.specs.Threads.{branch_of, branch_named};
 
 use crate::places::places_in;
@@ -67,7 +71,10 @@ pub fn stack_trace(
     program: &Program,
     request: &Request,
     answer: &mut Answer,
-) {
+)
+    ensures { answer.new.lacks ≡ false
+        → ListsFrames machine.now program.now.index program.now.sight (view request.now.arguments) answer.new }
+{
     let Some(branch) = thread_in(request, machine, answer) else {
         return;
     };
@@ -88,38 +95,87 @@ fn stack(
     request: &Request,
     sight: &Sight,
     branch: u32,
-) -> Members {
-    let mut body = Members::new(alloc);
+) -> Members
+    requires { branch < branch_count machine.now.checked }
+    ensures { result.lacks ≡ false
+        → IsStack (first_in (view request.now.arguments)) (levels_in (view request.now.arguments)) branch
+        (frame_count machine.now program.now.index sight.now branch) (object (members_view result.made.entries)) }
+{
     match frames_of(alloc, machine, &program.index, sight, branch) {
         Ok(frames) => {
+            let (first, levels) = (first_in(request), levels_in(request));
             let frames = frames.as_slice();
-            let list = asked_frames(alloc, machine, program, request, sight, branch, frames);
-            body.list("stackFrames", list);
-            body.number("totalFrames", count_of(frames));
+            let list = asked_frames(
+                alloc, machine, program, sight, branch, frames, first, levels,
+            );
+            stack_body(alloc, list, count_of(frames))
         }
-        Err(_) => body.lack(),
+        Err(_) => lacking(alloc),
     }
+}
+
+/// Members that have no memory.
+fn lacking(alloc: Global) -> Members
+    ensures { result.lacks ≡ true }
+{
+    let mut members = Members::new(alloc);
+    members.lack();
+    members
+}
+
+/// These frames, of so many.
+fn stack_body(alloc: Global, list: Listed, count: u64) -> Members
+    ensures lists { Has result (codes "stackFrames") (array (items_view list.made.items)) }
+    ensures total { Has result (codes "totalFrames") (number (unsigned count)) }
+    ensures whole { result.lacks ≡ false → list.lacks ≡ false }
+{
+    let mut body = Members::new(alloc);
+    body.list("stackFrames", list);
+    body.number("totalFrames", count);
     body
 }
 
-/// The frames that are asked for.
+/// The index of the first frame that is asked for.
+fn first_in(request: &Request) -> u64
+    ensures { result ≡ first_in (view request.now.arguments) }
+{
+    request.number("startFrame").unwrap_or(0)
+}
+
+/// How many frames are asked for.
+fn levels_in(request: &Request) -> u64
+    ensures { result ≡ levels_in (view request.now.arguments) }
+{
+    levels_by(request.number("levels"))
+}
+
+/// The same, where there are so many levels.
+fn levels_by(levels: Option<u64>) -> u64
+    ensures { result ≡ levels_by levels }
+{
+    match levels {
+        Some(levels) => { if levels == 0 { MOST_FRAMES } else { levels } }
+        None => MOST_FRAMES,
+    }
+}
+
+/// The frames that are asked for, so many at most from the first on.
 fn asked_frames(
     alloc: Global,
     machine: &Machine,
     program: &Program,
-    request: &Request,
     sight: &Sight,
     branch: u32,
     frames: &[Frame],
-) -> Listed {
-    let first = request.number("startFrame").unwrap_or(0);
-    let levels = match request.number("levels") {
-        None | Some(0) => MOST_FRAMES,
-        Some(levels) => levels,
-    };
+    first: u64,
+    levels: u64,
+) -> Listed
+    requires { branch < branch_count machine.now.checked }
+    ensures { ListsIds result (asked_ids first levels branch (count_of frames.now)) }
+{
     let mut list = Listed::new(alloc);
     for index in 0..count_of(frames) {
-        if index >= first && index - first < levels {
+        if is_asked(first, levels, index) {
             let mut frame = shown(alloc, machine, program, sight, frames, index as usize);
             frame.number("id", id_of(branch, index));
             list.push(frame);
@@ -128,8 +184,17 @@ fn asked_frames(
     list
 }
 
+/// Whether the frame of this index is asked for.
+fn is_asked(first: u64, levels: u64, index: u64) -> bool
+    ensures { result ≡ is_asked first levels index }
+{
+    !(index < first) && index.saturating_sub(first) < levels
+}
+
 /// The number of the frame of this index.
-fn id_of(branch: u32, index: u64) -> u64 {
+fn id_of(branch: u32, index: u64) -> u64
+    ensures { branch < 4294967295 → index < 32768 → result ≡ model_id (branch + 1) index }
+{
     frame_id(branch.saturating_add(1), index.min(32_767) as u16)
 }
 
