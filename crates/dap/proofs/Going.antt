@@ -1,5 +1,6 @@
 -- What a session keeps.
-use Rattle.std.proofs.Common.{ℕ, codes, ◌≡◌, ◌⊎◌, ◌||◌, ◌&&◌, List, Bool, true, false, Option, None, Some, inl, inr, refl, sym, ◌∙◌, ap, subst}
+use Rattle.std.proofs.Common.{ℕ, codes, ◌≡◌, ◌⊎◌, ◌||◌, ◌&&◌, List, Bool, true, false, Option, None, Some, Vec, Global, inl, inr, refl, sym, ◌∙◌, ap, subst}
+use Rattle.std.specs.Prelude.{not}
 use Rattle.serde_json.specs.Data.{Data}
 use Rattle.serde_json.specs.View.{view}
 use Rattle.system.specs.declared.command.Command.{Command}
@@ -29,19 +30,16 @@ use Rattle.dap_requests.proofs.public.Saying.{runs_after, runs_weaker}
 use Rattle.dap_server.specs.Kinds.{moves}
 use Rattle.dap_threads.specs.Threads.{branch_named}
 use Rattle.dap_views.specs.Kept.{unseen}
-use Rattle.dap_views.specs.Seen.{Sees}
 use Rattle.dap_views.specs.declared.program.Memo.{Memo}
 use Rattle.dap_views.specs.declared.program.Program.{Program}
 use Rattle.dap_views.specs.declared.sight.Sight.{Sight}
-use Rattle.dap.specs.Anew.{excepting}
-use Rattle.dap.specs.Asking.{Asks, IsAsked}
-use Rattle.dap.specs.Begins.{Begins, EndsFree}
-use Rattle.dap.specs.Goes.{Goes, GoesOn, IsSeen, IsSound, LaunchedGoes, Restarts, seen_as}
-use Rattle.dap.specs.Kinds.{asks, begins_run, changes, may_move}
-use Rattle.dap.specs.Launching.{IsBegun}
-use Rattle.dap.specs.Sets.{Sets, SetsBy}
-use Rattle.dap.specs.Steps.{Forward, Steps, thread_of}
+use Rattle.dap.specs.Begins.{Begins, begun}
+use Rattle.dap.specs.Goes.{Goes, GoesOn, IsSeen, IsSound, LaunchedGoes, Restarts, TellsBy, seen_as}
+use Rattle.dap.specs.Kinds.{asks, begins, changes, is_active, types}
+use Rattle.dap.specs.Sets.{Sets, SetsBegun, SetsBy}
+use Rattle.dap.specs.Steps.{Forward, IsDenied, MayRefuse, Steps, thread_of}
 use Rattle.dap.specs.declared.launch.Launched.{Launched}
+use Rattle.dap.proofs.Seeing.{seen_still, sight_set}
 
 -- a desk that stays was led nowhere
 pub led_still : (d d' : AtDesk) → d' ≡ d → Led d d'
@@ -76,12 +74,6 @@ steps_forward a b program before after d d' kind request one two three four h =
     (λ (stop : Stop). Steps program before after d kind request stop d')
     (λ (stop : Stop) it. forward-as program before after d d' kind request stop one two three four it) h
 
--- one that only stops
-pub pauses : (a b : Answer) (d : AtDesk) → Runs a b d d (λ (stop : Stop). stop ≡ Stop.Pause) →
-    Runs a b d d (λ (stop : Stop). (stop ≡ Stop.Pause) × (d ≡ d))
-pauses a b d h =
-    runs_weaker a b d d (λ (stop : Stop). stop ≡ Stop.Pause) (λ (stop : Stop). (stop ≡ Stop.Pause) × (d ≡ d)) (λ stop is. (is, refl)) h
-
 -- what is kept in mind
 pub keeps_same : (b : Answer) (before : List Choice) → KeepsSome b before before
 keeps_same b before = inr (inl refl)
@@ -112,69 +104,118 @@ moves-none Kind.ConfigurationDone d c p b is = absurd (cc)
 moves-none _ d c p b is = refl
 
 sets-moving : (request : Request) (c : Command) (p : Program) (b : Answer) → moves request.kind ≡ true → Sets request c p b p
-sets-moving request c p b is = inl (moves-none request.kind (view request.arguments) c p b is)
+sets-moving request c p b is = moves-none request.kind (view request.arguments) c p b is
 
-pub ends_same : (p : Program) → EndsFree p p
-ends_same p = record { same = refl; debugged = λ free. refl }
+-- nor does a line
+typed-none : (kind : Kind) (d : Data) (c : Command) (p : Program) (b : Answer) → asks kind ≡ true → (kind ≡ Kind.ConfigurationDone → ⊥) → SetsBy kind d c p b p
+typed-none Kind.SetBreakpoints d c p b is other = absurd (cc)
+typed-none Kind.SetDataBreakpoints d c p b is other = absurd (cc)
+typed-none Kind.SetExceptionBreakpoints d c p b is other = absurd (cc)
+typed-none Kind.Terminate d c p b is other = absurd (cc)
+typed-none Kind.ConfigurationDone d c p b is other = absurd (other refl)
+typed-none _ d c p b is other = refl
 
--- nor does one that asks, where it is not done
-asks-none : (kind : Kind) (d : Data) (c : Command) (p : Program) (b : Answer) → asks kind ≡ true → SetsBy kind d c p b p
-asks-none Kind.SetBreakpoints d c p b is = absurd (cc)
-asks-none Kind.SetDataBreakpoints d c p b is = absurd (cc)
-asks-none Kind.SetExceptionBreakpoints d c p b is = absurd (cc)
-asks-none Kind.Terminate d c p b is = absurd (cc)
-asks-none Kind.ConfigurationDone d c p b is = ends_same p
-asks-none _ d c p b is = refl
+-- nor what would move something
+active-none : (kind : Kind) (typed : Bool) (d : Data) (c : Command) (p : Program) (b : Answer) → (moves kind || types kind typed) ≡ true → SetsBy kind d c p b p
+active-none Kind.SetBreakpoints typed d c p b is = absurd (cc)
+active-none Kind.SetDataBreakpoints typed d c p b is = absurd (cc)
+active-none Kind.SetExceptionBreakpoints typed d c p b is = absurd (cc)
+active-none Kind.Terminate typed d c p b is = absurd (cc)
+active-none Kind.ConfigurationDone typed d c p b is = absurd (cc)
+active-none _ typed d c p b is = refl
 
-sets-asking : (request : Request) (c : Command) (p : Program) (b : Answer) → asks request.kind ≡ true → Sets request c p b p
-sets-asking request c p b is = inl (asks-none request.kind (view request.arguments) c p b is)
+active-changes : (kind : Kind) (typed : Bool) → (moves kind || types kind typed) ≡ true → changes kind ≡ true
+active-changes Kind.Evaluate typed is = refl
+active-changes Kind.ConfigurationDone typed is = refl
+active-changes _ typed is = is
 
--- where nobody debugs it, it is over
-pub ends_free : (p : Program) → p.launch.free ≡ true → EndsFree p (record p { begun = true; ended = true })
-ends_free p free = record { same = refl; debugged = λ not. let no : true ≡ false = sym free ∙ not in absurd (cc) }
+-- nor the first request to run, where it is over
+first-none : (kind : Kind) (d : Data) (c : Command) (p : Program) (b : Answer) → begins kind ≡ true → p.ended ≡ true → IsRefusal b.outcome → SetsBy kind d c p b p
+first-none Kind.ConfigurationDone d c p b is ended refused = inr (inr ended, refused, refl)
+first-none _ d c p b is ended refused = absurd (cc)
 
-pub begins_only : (p : Program) → EndsFree p (record p { begun = true })
-begins_only p = record { same = refl; debugged = λ not. refl }
+first-changes : (kind : Kind) → begins kind ≡ true → changes kind ≡ true
+first-changes Kind.ConfigurationDone is = refl
+first-changes _ is = absurd (cc)
+
+-- it has begun; where nobody debugs it, it is over
+pub begun_free : (p : Program) → p.launch.free ≡ true → record p { begun = true; ended = true } ≡ begun p
+begun_free p free = ap (λ (f : Bool). record p { begun = true; ended = f || p.ended }) (sym free)
+
+pub begun_debugged : (p : Program) → p.launch.free ≡ false → record p { begun = true } ≡ begun p
+begun_debugged p free = ap (λ (f : Bool). record p { begun = true; ended = f || p.ended }) (sym free)
 
 -- what only shows sets nothing
-shows-none : (kind : Kind) (d : Data) (c : Command) (p : Program) (b : Answer) → (kind ≡ Kind.SetBreakpoints → ⊥) → (kind ≡ Kind.SetDataBreakpoints → ⊥) →
-    (kind ≡ Kind.SetExceptionBreakpoints → ⊥) → (kind ≡ Kind.Terminate → ⊥) → SetsBy kind d c p b p
-shows-none Kind.SetBreakpoints d c p b one two three four = absurd (one refl)
-shows-none Kind.SetDataBreakpoints d c p b one two three four = absurd (two refl)
-shows-none Kind.SetExceptionBreakpoints d c p b one two three four = absurd (three refl)
-shows-none Kind.Terminate d c p b one two three four = absurd (four refl)
-shows-none Kind.ConfigurationDone d c p b one two three four = ends_same p
-shows-none _ d c p b one two three four = refl
+shows-none : (kind : Kind) (d : Data) (c : Command) (p : Program) (b : Answer) → asks kind ≡ false → (kind ≡ Kind.SetBreakpoints → ⊥) →
+    (kind ≡ Kind.SetDataBreakpoints → ⊥) → (kind ≡ Kind.SetExceptionBreakpoints → ⊥) → (kind ≡ Kind.Terminate → ⊥) → SetsBy kind d c p b p
+shows-none Kind.SetBreakpoints d c p b none one two three four = absurd (one refl)
+shows-none Kind.SetDataBreakpoints d c p b none one two three four = absurd (two refl)
+shows-none Kind.SetExceptionBreakpoints d c p b none one two three four = absurd (three refl)
+shows-none Kind.Terminate d c p b none one two three four = absurd (four refl)
+shows-none Kind.ConfigurationDone d c p b none one two three four = absurd (cc)
+shows-none _ d c p b none one two three four = refl
 
-pub sets_none : (request : Request) (c : Command) (p : Program) (b : Answer) → (request.kind ≡ Kind.SetBreakpoints → ⊥) →
+pub sets_none : (request : Request) (c : Command) (p : Program) (b : Answer) → asks request.kind ≡ false → (request.kind ≡ Kind.SetBreakpoints → ⊥) →
     (request.kind ≡ Kind.SetDataBreakpoints → ⊥) → (request.kind ≡ Kind.SetExceptionBreakpoints → ⊥) → (request.kind ≡ Kind.Terminate → ⊥) →
     Sets request c p b p
-sets_none request c p b one two three four = inl (shows-none request.kind (view request.arguments) c p b one two three four)
+sets_none request c p b none one two three four = shows-none request.kind (view request.arguments) c p b none one two three four
 
 -- a request of a known kind sets what that does
 pub sets_as : (request : Request) (known : Kind) (c : Command) (p q : Program) (b : Answer) → request.kind ≡ known →
     SetsBy known (view request.arguments) c p b q → Sets request c p b q
-sets_as request known c p q b is h = inl (subst (λ (k : Kind). SetsBy k (view request.arguments) c p b q) (sym is) h)
+sets_as request known c p q b is h = subst (λ (k : Kind). SetsBy k (view request.arguments) c p b q) (sym is) h
+
+-- and tells what that does
+pub tells_as : (kind known : Kind) (a b : Answer) → kind ≡ known → TellsBy known a b → TellsBy kind a b
+tells_as kind known a b is h = subst (λ (k : Kind). TellsBy k a b) (sym is) h
+
+pub tells_none : (kind : Kind) (a b : Answer) → (kind ≡ Kind.SetBreakpoints → ⊥) → (kind ≡ Kind.Terminate → ⊥) → b.notes ≡ a.notes → TellsBy kind a b
+tells_none Kind.SetBreakpoints a b one two same = absurd (one refl)
+tells_none Kind.Terminate a b one two same = absurd (two refl)
+tells_none _ a b one two same = same
 
 -- what is held back where it is over
-pub held_is : (over moving asking : Bool) → (over && (moving || asking)) ≡ true → (moving ≡ true) ⊎ (asking ≡ true)
-held_is true true asking h = inl refl
-held_is true false asking h = inr h
-held_is false moving asking h = absurd (cc)
+pub held_over : (over held : Bool) → (over && held) ≡ true → over ≡ true
+held_over true held h = refl
+held_over false held h = absurd (cc)
 
-pub not_held : (over moving asking : Bool) → (over && (moving || asking)) ≡ false → over ≡ true → (moving ≡ false) × (asking ≡ false)
-not_held true true asking h is = absurd (cc)
-not_held true false asking h is = (refl, h)
-not_held false moving asking h is = absurd (cc)
+pub held_is : (over active first : Bool) → (over && (active || first)) ≡ true → (active ≡ true) ⊎ (first ≡ true)
+held_is true true first h = inl refl
+held_is true false first h = inr h
+held_is false active first h = absurd (cc)
 
-pub running_of : (over moving asking : Bool) → (over ≡ true → (moving ≡ false) × (asking ≡ false)) → asking ≡ true → over ≡ false
-running_of true moving asking h is = let no : true ≡ false = sym is ∙ (h refl).1 in absurd (cc)
-running_of false moving asking h is = refl
+pub not_held : (over active first : Bool) → (over && (active || first)) ≡ false → over ≡ true → (active ≡ false) × (first ≡ false)
+not_held true true first h is = absurd (cc)
+not_held true false first h is = (refl, h)
+not_held false active first h is = absurd (cc)
+
+-- and where it has not begun
+pub early_waits : (begun active : Bool) → (not begun && active) ≡ true → begun ≡ false
+early_waits true active h = absurd (cc)
+early_waits false active h = refl
+
+pub early_is : (begun active : Bool) → (not begun && active) ≡ true → active ≡ true
+early_is true active h = absurd (cc)
+early_is false active h = h
+
+pub not_early : (begun active : Bool) → (not begun && active) ≡ false → begun ≡ false → active ≡ false
+not_early true active h is = absurd (cc)
+not_early false active h is = h
+
+running-of : (over active first : Bool) → (over ≡ true → (active ≡ false) × (first ≡ false)) → first ≡ true → over ≡ false
+running-of true active first h is = let no : true ≡ false = sym is ∙ (h refl).1 in absurd (cc)
+running-of false active first h is = refl
 
 pub asks_still : (kind : Kind) → asks kind ≡ true → moves kind ≡ false
 asks_still Kind.ConfigurationDone is = refl
 asks_still Kind.Evaluate is = refl
 asks_still _ is = absurd (cc)
+
+-- a line that does not move anything was not typed
+untyped : (kind : Kind) (typed : Bool) → asks kind ≡ true → (kind ≡ Kind.ConfigurationDone → ⊥) → (moves kind || types kind typed) ≡ false → typed ≡ false
+untyped Kind.ConfigurationDone typed is other none = absurd (other refl)
+untyped Kind.Evaluate typed is other none = none
+untyped _ typed is other none = absurd (cc)
 
 -- what is shown does not matter
 stays-unseen : {A : Type 0} (asked : Option A) (p q : Program) (b : Answer) → Stays asked p b q → Stays asked (unseen p) b (unseen q)
@@ -206,50 +247,15 @@ by-unseen Kind.SetDataBreakpoints d c p q b h = elim h [
   | inr only ↦ inr (only.0, only.1, (only.2.0, ap unseen only.2.1))
 ]
 by-unseen Kind.SetExceptionBreakpoints d c p q b h = ap unseen h
-by-unseen Kind.Terminate d c p q b h = elim h [ inl ended ↦ inl (ap unseen ended) | inr same ↦ inr (ap unseen same) ]
-by-unseen Kind.ConfigurationDone d c p q b h = record { same = ap unseen h.same; debugged = h.debugged }
+by-unseen Kind.Terminate d c p q b h = (ap unseen h.0, h.1)
+by-unseen Kind.ConfigurationDone d c p q b h = elim h [
+  | inl begins ↦ inl (begins.0, begins.1, ap unseen begins.2)
+  | inr refused ↦ inr (refused.0, refused.1, ap unseen refused.2)
+]
 by-unseen _ d c p q b h = ap unseen h
 
 sets-unseen : (request : Request) (c : Command) (p q : Program) (b : Answer) → Sets request c p b q → Sets request c (unseen p) b (unseen q)
-sets-unseen request c p q b h = elim h [
-  | inl set ↦ inl (by-unseen request.kind (view request.arguments) c p q b set)
-  | inr refused ↦ inr (refused.0, ap unseen refused.1)
-]
-
--- nor does what a request sets change what is shown
-lines-sight : (d : Data) (c : Command) (p q : Program) (b : Answer) (own : Bool) → PlacesAsked own c d p b q → q.sight ≡ p.sight
-lines-sight d c p q b own h = elim h [
-  | inl still ↦ ap (λ (x : Program). x.sight) still.0
-  | inr anew ↦ ap (λ (x : Program). x.sight) anew.2.same
-]
-
-by-sight : (kind : Kind) (d : Data) (c : Command) (p q : Program) (b : Answer) → SetsBy kind d c p b q → q.sight ≡ p.sight
-by-sight Kind.SetBreakpoints d c p q b h = elim h [
-  | inl other ↦ ap (λ (x : Program). x.sight) other.1
-  | inr set ↦ lines-sight d c p q b (is_own p (path_in d)) set.1
-]
-by-sight Kind.SetDataBreakpoints d c p q b h = elim h [
-  | inl still ↦ ap (λ (x : Program). x.sight) still.0
-  | inr only ↦ ap (λ (x : Program). x.sight) only.2.1
-]
-by-sight Kind.SetExceptionBreakpoints d c p q b h = ap (λ (x : Program). x.sight) h
-by-sight Kind.Terminate d c p q b h = elim h [
-  | inl ended ↦ ap (λ (x : Program). x.sight) ended
-  | inr same ↦ ap (λ (x : Program). x.sight) same
-]
-by-sight Kind.ConfigurationDone d c p q b h = ap (λ (x : Program). x.sight) h.same
-by-sight _ d c p q b h = ap (λ (x : Program). x.sight) h
-
-sight-set : (request : Request) (c : Command) (p q : Program) (b : Answer) → Sets request c p b q → q.sight ≡ p.sight
-sight-set request c p q b h = elim h [
-  | inl set ↦ by-sight request.kind (view request.arguments) c p q b set
-  | inr refused ↦ ap (λ (x : Program). x.sight) refused.1
-]
-
--- what is shown of a state is so where that stays
-seen-still : (d d' : AtDesk) (s t : Option Sight) → t ≡ s → d' ≡ d → Sees d.machine s → Sees d'.machine t
-seen-still d d' s t shown same seen =
-    subst (λ (x : AtDesk). Sees x.machine t) (sym same) (subst (λ (x : Option Sight). Sees d.machine x) (sym shown) seen)
+sets-unseen request c p q b h = by-unseen request.kind (view request.arguments) c p q b h
 
 -- a kind that moves is no other
 not-both : (kind known : Kind) → moves kind ≡ true → moves known ≡ false → kind ≡ known → ⊥
@@ -270,168 +276,210 @@ done-or-same a b d d' goes h = elim h [ inl refused ↦ inl refused.2 | inr ends
 
 -- a request that asks a thread to move
 pub moves_goes : (l : Launched) (request : Request) (a b : Answer) (d' : AtDesk) (memo : Memo) → moves request.kind ≡ true →
-    (l.program.ended ≡ true → (moves request.kind ≡ false) × (asks request.kind ≡ false)) → Led l.desk d' →
+    (l.program.ended ≡ true → (is_active request ≡ false) × (begins request.kind ≡ false)) →
+    (l.program.begun ≡ false → is_active request ≡ false) → Led l.desk d' →
     Runs a b l.desk d'
     (λ (stop : Stop). Steps l.program l.memo.seen.items memo.seen.items l.desk request.kind request stop d') →
-    KeepsSome b l.memo.seen.items memo.seen.items →
+    (IsDone a.outcome → IsRefusal b.outcome → IsDenied l.desk request) → KeepsSome b l.memo.seen.items memo.seen.items →
     LaunchedGoes l request a b (record { program = l.program; memo = memo; desk = d' })
-moves_goes l request a b d' memo is over led goes keeps = record {
-  led = led;
-  reads = λ reads. absurd (unchanging request.kind is reads);
-  stays = λ ended. let no : true ≡ false = sym is ∙ (over ended).0 in absurd (cc);
-  refused =
-      done-or-same a b l.desk d'
-      (λ (stop : Stop). Steps l.program l.memo.seen.items memo.seen.items l.desk request.kind request stop d') goes;
-  looks = λ same none. absurd (not-both request.kind Kind.Evaluate is refl same);
-  moved = λ it. goes;
-  begins = λ same. absurd (not-both request.kind Kind.ConfigurationDone is refl same);
-  evaluates = λ same. absurd (not-both request.kind Kind.Evaluate is refl same);
-  sets = sets-moving request l.desk.machine.checked.main (unseen l.program) b is;
-  keeps = keeps;
-  sees = λ seen same. seen-still l.desk d' l.program.sight l.program.sight refl same seen;
-}
+moves_goes l request a b d' memo is over waits led goes denied keeps =
+    let active : is_active request ≡ true = ap (λ (m : Bool). m || types request.kind (is_typed request)) is in
+    record {
+      led = led;
+      reads = λ reads. absurd (unchanging request.kind is reads);
+      stays = λ ended. let no : true ≡ false = sym active ∙ (over ended).0 in absurd (cc);
+      waits = λ waiting other. let no : true ≡ false = sym active ∙ waits waiting in absurd (cc);
+      refused =
+          done-or-same a b l.desk d'
+          (λ (stop : Stop). Steps l.program l.memo.seen.items memo.seen.items l.desk request.kind request stop d') goes;
+      looks = λ same none. absurd (not-both request.kind Kind.Evaluate is refl same);
+      moved = λ it. goes;
+      denied = λ it done refused. inr (inr (denied done refused));
+      begins = λ same. absurd (not-both request.kind Kind.ConfigurationDone is refl same);
+      evaluates = λ same. absurd (not-both request.kind Kind.Evaluate is refl same);
+      sets = sets-moving request l.desk.machine.checked.main (unseen l.program) b is;
+      tells = λ reads. absurd (unchanging request.kind is reads);
+      keeps = keeps;
+      sees = λ seen same. seen_still l.desk d' l.program.sight l.program.sight refl same seen;
+    }
 
 -- one that only reads the desk
 pub look_goes : (l : Launched) (request : Request) (a b : Answer) (q : Program) → moves request.kind ≡ false → asks request.kind ≡ false →
-    Sets request l.desk.machine.checked.main l.program b q → LaunchedGoes l request a b (record { program = q; memo = l.memo; desk = l.desk })
-look_goes l request a b q still none sets = record {
+    Sets request l.desk.machine.checked.main l.program b q → TellsBy request.kind a b →
+    LaunchedGoes l request a b (record { program = q; memo = l.memo; desk = l.desk })
+look_goes l request a b q still none sets tells = record {
   led = led_nowhere l.desk;
   reads = λ reads. refl;
   stays = λ ended. refl;
+  waits = λ waiting other. refl;
   refused = inl refl;
   looks = λ same typed. refl;
   moved = λ is. let no : true ≡ false = sym is ∙ still in absurd (cc);
+  denied = λ is done refused. let no : true ≡ false = sym is ∙ still in absurd (cc);
   begins = λ same. absurd (not-asked request.kind Kind.ConfigurationDone none refl same);
   evaluates = λ same. absurd (not-asked request.kind Kind.Evaluate none refl same);
   sets = sets-unseen request l.desk.machine.checked.main l.program q b sets;
+  tells = λ reads. tells;
   keeps = keeps_same b l.memo.seen.items;
   sees = λ seen same.
-      seen-still l.desk l.desk l.program.sight q.sight (sight-set request l.desk.machine.checked.main l.program q b sets) refl seen;
+      seen_still l.desk l.desk l.program.sight q.sight (sight_set request l.desk.machine.checked.main l.program q b sets) refl seen;
 }
 
--- one that is refused since it is over
-pub over_goes : (l : Launched) (request : Request) (a b : Answer) → (moves request.kind ≡ true) ⊎ (asks request.kind ≡ true) → IsRefusal b.outcome →
-    b.notes ≡ a.notes → LaunchedGoes l request a b l
-over_goes l request a b is refused same = record {
+-- one that is held back
+held-goes : (l : Launched) (request : Request) (a b : Answer) → Sets request l.desk.machine.checked.main (unseen l.program) b (unseen l.program) →
+    changes request.kind ≡ true → MayRefuse l.program l.desk request → IsRefusal b.outcome → b.notes ≡ a.notes → LaunchedGoes l request a b l
+held-goes l request a b sets changing why refused same = record {
   led = led_nowhere l.desk;
   reads = λ reads. refl;
   stays = λ ended. refl;
+  waits = λ waiting other. refl;
   refused = inl refl;
   looks = λ same typed. refl;
   moved = λ it. inl (refused, same, refl);
+  denied = λ it done no. why;
   begins = λ it. inl (refused, same, refl);
   evaluates = λ it. (l.program.sight, λ seen. seen, inl (refl, same));
-  sets = inr (refused, refl);
+  sets = sets;
+  tells = λ reads. let no : true ≡ false = sym changing ∙ reads in absurd (cc);
   keeps = keeps_same b l.memo.seen.items;
   sees = λ seen stays. seen;
 }
 
+-- since it is over
+pub over_goes : (l : Launched) (request : Request) (a b : Answer) → l.program.ended ≡ true →
+    (is_active request ≡ true) ⊎ (begins request.kind ≡ true) → IsRefusal b.outcome → b.notes ≡ a.notes → LaunchedGoes l request a b l
+over_goes l request a b ended is refused same = elim is [
+  | inl active ↦ held-goes l request a b
+      (active-none request.kind (is_typed request) (view request.arguments) l.desk.machine.checked.main (unseen l.program) b active)
+      (active-changes request.kind (is_typed request) active) (inl ended) refused same
+  | inr first ↦ held-goes l request a b
+      (first-none request.kind (view request.arguments) l.desk.machine.checked.main (unseen l.program) b first ended refused)
+      (first-changes request.kind first) (inl ended) refused same
+]
+
+-- since it has not begun
+pub early_goes : (l : Launched) (request : Request) (a b : Answer) → l.program.begun ≡ false → is_active request ≡ true → IsRefusal b.outcome →
+    b.notes ≡ a.notes → LaunchedGoes l request a b l
+early_goes l request a b waits active refused same =
+    held-goes l request a b
+    (active-none request.kind (is_typed request) (view request.arguments) l.desk.machine.checked.main (unseen l.program) b active)
+    (active-changes request.kind (is_typed request) active) (inr (inl waits)) refused same
+
 -- an expression
 pub typed_goes : (l : Launched) (request : Request) (a b : Answer) (d' : AtDesk) (memo : Memo) → asks request.kind ≡ true →
-    (request.kind ≡ Kind.ConfigurationDone → ⊥) → l.program.ended ≡ false → moves request.kind ≡ false → Led l.desk d' →
+    (request.kind ≡ Kind.ConfigurationDone → ⊥) →
+    (l.program.ended ≡ true → (is_active request ≡ false) × (begins request.kind ≡ false)) →
+    (l.program.begun ≡ false → is_active request ≡ false) → Led l.desk d' →
     (is_typed request ≡ false → d' ≡ l.desk) → Evaluates l.program request l.desk a b d' → (d' ≡ l.desk) ⊎ (IsDone a.outcome → IsDone b.outcome) →
     KeepsSome b l.memo.seen.items memo.seen.items → LaunchedGoes l request a b (record { program = l.program; memo = memo; desk = d' })
-typed_goes l request a b d' memo asking other running still led looks does refused keeps = record {
-  led = led;
-  reads = λ reads.
-      let it : changes request.kind ≡ true = ap (λ (b : Bool). b || asks request.kind) still ∙ asking in
-      let no : true ≡ false = sym it ∙ reads in absurd (cc);
-  stays = λ ended. let no : true ≡ false = sym ended ∙ running in absurd (cc);
-  refused = refused;
-  looks = λ same none. looks none;
-  moved = λ is. let no : true ≡ false = sym is ∙ still in absurd (cc);
-  begins = λ same. absurd (other same);
-  evaluates = λ same. (l.program.sight, λ seen. seen, does);
-  sets = sets-asking request l.desk.machine.checked.main (unseen l.program) b asking;
-  keeps = keeps;
-  sees = λ seen same. seen-still l.desk d' l.program.sight l.program.sight refl same seen;
-}
+typed_goes l request a b d' memo asking other over waits led looks does refused keeps =
+    let still = asks_still request.kind asking in
+    let changing : changes request.kind ≡ true = ap (λ (m : Bool). m || asks request.kind) still ∙ asking in
+    record {
+      led = led;
+      reads = λ reads. let no : true ≡ false = sym changing ∙ reads in absurd (cc);
+      stays = λ ended. looks (untyped request.kind (is_typed request) asking other (over ended).0);
+      waits = λ waiting first. looks (untyped request.kind (is_typed request) asking other (waits waiting));
+      refused = refused;
+      looks = λ same none. looks none;
+      moved = λ is. let no : true ≡ false = sym is ∙ still in absurd (cc);
+      denied = λ is done no. let wrong : true ≡ false = sym is ∙ still in absurd (cc);
+      begins = λ same. absurd (other same);
+      evaluates = λ same. (l.program.sight, λ seen. seen, does);
+      sets = typed-none request.kind (view request.arguments) l.desk.machine.checked.main (unseen l.program) b asking other;
+      tells = λ reads. let no : true ≡ false = sym changing ∙ reads in absurd (cc);
+      keeps = keeps;
+      sees = λ seen same. seen_still l.desk d' l.program.sight l.program.sight refl same seen;
+    }
 
--- the first request to run
-begun-refused : (l m : Launched) (a b : Answer) → (IsRefusal b.outcome × (b.notes ≡ a.notes) × (m ≡ l)) ⊎ Begins l m a b →
+-- how the first request to run begins, or is refused
+abbrev BeginsOrNot : Launched → Launched → Answer → Answer → Type 0
+BeginsOrNot l m a b =
+    (IsRefusal b.outcome × (b.notes ≡ a.notes) × (m ≡ l) × (l.program.begun ≡ true))
+    ⊎ (Begins l m a b × (l.program.begun ≡ false) × (m.program ≡ begun l.program))
+
+begun-refused : (l m : Launched) (a b : Answer) → BeginsOrNot l m a b →
     (IsRefusal b.outcome × (b.notes ≡ a.notes) × (m.desk ≡ l.desk)) ⊎ Begins l m a b
 begun-refused l m a b h = elim h [
   | inl refused ↦ inl (refused.0, refused.1, ap (λ (x : Launched). x.desk) refused.2)
-  | inr begins ↦ inr begins
+  | inr begins ↦ inr begins.0
 ]
 
-begun-done : (l m : Launched) (a b : Answer) → (IsRefusal b.outcome × (b.notes ≡ a.notes) × (m ≡ l)) ⊎ Begins l m a b →
-    (m.desk ≡ l.desk) ⊎ (IsDone a.outcome → IsDone b.outcome)
+begun-done : (l m : Launched) (a b : Answer) → BeginsOrNot l m a b → (m.desk ≡ l.desk) ⊎ (IsDone a.outcome → IsDone b.outcome)
 begun-done l m a b h = elim h [
   | inl refused ↦ inl (ap (λ (x : Launched). x.desk) refused.2)
-  | inr begins ↦ elim begins [ inl stops ↦ inr stops.1.done | inr ends ↦ inr ends.1.done ]
+  | inr begins ↦ elim begins.0 [ inl stops ↦ inr stops.1.done | inr ends ↦ inr ends.1.done ]
 ]
 
-pub begins_goes : (l m : Launched) (request : Request) (a b : Answer) → request.kind ≡ Kind.ConfigurationDone → l.program.ended ≡ false →
-    Led l.desk m.desk → (IsRefusal b.outcome × (b.notes ≡ a.notes) × (m ≡ l)) ⊎ Begins l m a b → EndsFree l.program m.program →
+begun-sets : (l m : Launched) (a b : Answer) → l.program.ended ≡ false → BeginsOrNot l m a b → SetsBegun l.program b m.program
+begun-sets l m a b running h = elim h [
+  | inl refused ↦ inr (inl refused.3, refused.0, ap (λ (x : Launched). x.program) refused.2)
+  | inr begins ↦ inl (begins.1, running, begins.2)
+]
+
+begun-sight : (l m : Launched) (a b : Answer) → BeginsOrNot l m a b → m.program.sight ≡ l.program.sight
+begun-sight l m a b h = elim h [
+  | inl refused ↦ ap (λ (x : Launched). x.program.sight) refused.2
+  | inr begins ↦ ap (λ (x : Program). x.sight) begins.2
+]
+
+pub begins_goes : (l m : Launched) (request : Request) (a b : Answer) → request.kind ≡ Kind.ConfigurationDone →
+    (l.program.ended ≡ true → (is_active request ≡ false) × (begins request.kind ≡ false)) → Led l.desk m.desk → BeginsOrNot l m a b →
     KeepsSome b l.memo.seen.items m.memo.seen.items → LaunchedGoes l request a b m
-begins_goes l m request a b is running led begins sets keeps = record {
-  led = led;
-  reads = λ reads.
-      let it : changes request.kind ≡ true = ap (λ (k : Kind). changes k) is in
-      let no : true ≡ false = sym it ∙ reads in absurd (cc);
-  stays = λ ended. let no : true ≡ false = sym ended ∙ running in absurd (cc);
-  refused = begun-done l m a b begins;
-  looks = λ same none. let no : Kind.ConfigurationDone ≡ Kind.Evaluate = sym is ∙ same in absurd (cc);
-  moved = λ it. let no : true ≡ false = sym it ∙ ap (λ (k : Kind). moves k) is in absurd (cc);
-  begins = λ it. begun-refused l m a b begins;
-  evaluates = λ same. let no : Kind.ConfigurationDone ≡ Kind.Evaluate = sym is ∙ same in absurd (cc);
-  sets =
-      sets-unseen request l.desk.machine.checked.main l.program m.program b
-      (sets_as request Kind.ConfigurationDone l.desk.machine.checked.main l.program m.program b is sets);
-  keeps = keeps;
-  sees = λ seen same.
-      seen-still l.desk m.desk l.program.sight m.program.sight (ap (λ (x : Program). x.sight) sets.same) same seen;
-}
+begins_goes l m request a b is over led h keeps =
+    let changing : changes request.kind ≡ true = ap (λ (k : Kind). changes k) is in
+    let running = running-of l.program.ended (is_active request) (begins request.kind) over (ap (λ (k : Kind). begins k) is) in
+    record {
+      led = led;
+      reads = λ reads. let no : true ≡ false = sym changing ∙ reads in absurd (cc);
+      stays = λ ended. let no : true ≡ false = sym ended ∙ running in absurd (cc);
+      waits = λ waiting other. absurd (other is);
+      refused = begun-done l m a b h;
+      looks = λ same none. let no : Kind.ConfigurationDone ≡ Kind.Evaluate = sym is ∙ same in absurd (cc);
+      moved = λ it. let no : true ≡ false = sym it ∙ ap (λ (k : Kind). moves k) is in absurd (cc);
+      denied = λ it done refused. let no : true ≡ false = sym it ∙ ap (λ (k : Kind). moves k) is in absurd (cc);
+      begins = λ it. begun-refused l m a b h;
+      evaluates = λ same. let no : Kind.ConfigurationDone ≡ Kind.Evaluate = sym is ∙ same in absurd (cc);
+      sets =
+          sets-unseen request l.desk.machine.checked.main l.program m.program b
+          (sets_as request Kind.ConfigurationDone l.desk.machine.checked.main l.program m.program b is (begun-sets l m a b running h));
+      tells = λ reads. let no : true ≡ false = sym changing ∙ reads in absurd (cc);
+      keeps = keeps;
+      sees = λ seen same. seen_still l.desk m.desk l.program.sight m.program.sight (begun-sight l m a b h) same seen;
+    }
 
--- what is shown of the state may be made anew
-pub goes_unseen : (l m : Launched) (request : Request) (a b : Answer) (s t : Option Sight) → (IsSeen l → IsSeen (seen_as l s)) →
-    (IsSeen l → IsSeen (seen_as m t)) → LaunchedGoes (seen_as l s) request a b m → LaunchedGoes l request a b (seen_as m t)
-goes_unseen l m request a b s t kept all h = record {
-  led = h.led;
-  reads = h.reads;
-  stays = h.stays;
-  refused = h.refused;
-  looks = h.looks;
-  moved = h.moved;
-  begins = h.begins;
-  evaluates = λ is. let it = h.evaluates is in (it.0, λ seen. it.1 (kept seen), it.2);
-  sets = h.sets;
-  keeps = h.keeps;
-  sees = λ seen same. all seen;
-}
+-- what is shown of the state may be made anew, and what was refused before does not matter
+abbrev with-seen : Launched → Vec Choice Global → Launched
+with-seen m seen = record m { memo = record m.memo { seen = seen } }
 
--- the desk stays where nothing may move
-none-of : (a b c : Bool) → (a || b || c) ≡ false → (a ≡ false) × (b ≡ false) × (c ≡ false)
-none-of false false false is = (refl, refl, refl)
-none-of true b c is = absurd (cc)
-none-of false true c is = absurd (cc)
-none-of false false true is = absurd (cc)
+goes-seen : (l m : Launched) (request : Request) (a b : Answer) (seen : Vec Choice Global) → seen ≡ m.memo.seen → LaunchedGoes l request a b m →
+    LaunchedGoes l request a b (with-seen m seen)
+goes-seen l m request a b seen same h = subst (λ (v : Vec Choice Global). LaunchedGoes l request a b (with-seen m v)) (sym same) h
 
-still-by : (P : Type 0) (kind : Kind) → moves kind ≡ false → begins_run kind ≡ false → (kind ≡ Kind.Evaluate → P) → (changes kind ≡ false → P) → P
-still-by P Kind.ConfigurationDone still none looks reads = absurd (cc)
-still-by P Kind.Evaluate still none looks reads = looks refl
-still-by P _ still none looks reads = reads (ap (λ (b : Bool). b || false) still)
-
-desk-still : (l m : Launched) (request : Request) (a b : Answer) → LaunchedGoes l request a b m → may_move request ≡ false → m.desk ≡ l.desk
-desk-still l m request a b h none =
-    let each = none-of (moves request.kind) (begins_run request.kind) (is_typed request) none in
-    still-by (m.desk ≡ l.desk) request.kind each.0 each.1 (λ same. h.looks same each.2) (λ reads. h.reads reads)
-
--- what was looked at is so of this machine
-pub looked_at : (n m : AtMachine) (s t : Option Sight) → n ≡ m → (Sees n s → Sees n t) → Sees m s → Sees m t
-looked_at n m s t same h = subst (λ (x : AtMachine). Sees x s → Sees x t) same h
-
--- what is looked at anew, where something may have moved, is so
-pub sees_on : (l m : Launched) (request : Request) (a b : Answer) (s t : Option Sight) (moved : Bool) (n : AtMachine) →
-    (IsSeen l → IsSeen (seen_as l s)) → LaunchedGoes (seen_as l s) request a b m → moved ≡ may_move request → n ≡ m.desk.machine →
-    ((moved ≡ false → Sees n m.program.sight) → Sees n t) → IsSeen l → IsSeen (seen_as m t)
-sees_on l m request a b s t moved n kept h is own renewed seen =
-    let there = subst (λ (x : AtMachine). (moved ≡ false → Sees x m.program.sight) → Sees x t) own renewed in
-    there (λ none. h.sees (kept seen) (desk-still (seen_as l s) m request a b h (sym is ∙ none)))
+pub goes_unseen : (l m : Launched) (request : Request) (a b : Answer) (s t : Option Sight) (memo : Memo) → memo.seen ≡ m.memo.seen →
+    (IsSeen l → IsSeen (seen_as l s)) → (IsSeen l → IsSeen (seen_as m t)) → LaunchedGoes (seen_as l s) request a b m →
+    LaunchedGoes l request a b (record (seen_as m t) { memo = memo })
+goes_unseen l m request a b s t memo same kept all goes =
+    let h = goes-seen (seen_as l s) m request a b memo.seen same goes in
+    record {
+      led = h.led;
+      reads = h.reads;
+      stays = h.stays;
+      waits = h.waits;
+      refused = h.refused;
+      looks = h.looks;
+      moved = h.moved;
+      denied = h.denied;
+      begins = h.begins;
+      evaluates = λ is. let it = h.evaluates is in (it.0, λ seen. it.1 (kept seen), it.2);
+      sets = h.sets;
+      tells = h.tells;
+      keeps = h.keeps;
+      sees = λ seen same. all seen;
+    }
 
 -- the branch of a request's thread
-thread_found : (d : AtDesk) (m : AtMachine) (request : Request) (found : Option ℕ) → m ≡ d.machine
+pub thread_found : (d : AtDesk) (m : AtMachine) (request : Request) (found : Option ℕ) → m ≡ d.machine
     → found ≡ branch_named (branch_count m.checked) (number_named (codes "threadId") (view request.arguments)) → thread_of d request ≡ found
 thread_found d m request found same is =
     sym (is ∙ ap (λ (n : AtMachine). branch_named (branch_count n.checked) (number_named (codes "threadId") (view request.arguments))) same)
@@ -458,10 +506,10 @@ runs_in_thread a m b d d' machine request found k goes same is some answer h =
     (in_thread (λ (o : Option ℕ). Runs m b d d' (goes o)) d machine request found k same is some h)
 
 -- what comes of a request that is no move where nothing changes
-same : (x : Option Launched) (request : Request) (a b : Answer) → moves request.kind ≡ false → asks request.kind ≡ false →
+same : (x : Option Launched) (request : Request) (a b : Answer) → moves request.kind ≡ false → asks request.kind ≡ false → TellsBy request.kind a b →
     ((l : Launched) → x ≡ Some l → Sets request l.desk.machine.checked.main l.program b l.program) → GoesOn x request a b x
-same None request a b still none sets = tt
-same (Some l) request a b still none sets = (look_goes l request a b l.program still none (sets l refl), λ seen. seen)
+same None request a b still none tells sets = tt
+same (Some l) request a b still none tells sets = (look_goes l request a b l.program still none (sets l refl) tells, λ seen. seen)
 
 -- what is launched goes on
 pub goes_on : (x y : Option Launched) (l m : Launched) (request : Request) (a b : Answer) → x ≡ Some l → y ≡ Some m → LaunchedGoes l request a b m →
@@ -472,84 +520,20 @@ goes_on x y l m request a b is there h sees =
 
 -- it goes on, or is begun anew
 pub goes_anew : (reads : List ℕ → Option (List ℕ) → Type 0) (x y : Option Launched) (l m : Launched) (request : Request) (a b : Answer) →
-    x ≡ Some l → y ≡ Some m → ((request.kind ≡ Kind.Restart) × Restarts reads l request b m)
-    ⊎ (LaunchedGoes l request a b m × (IsSeen l → IsSeen m)) →
+    x ≡ Some l → y ≡ Some m →
+    ((request.kind ≡ Kind.Restart) × Restarts reads l request b m) ⊎ (LaunchedGoes l request a b m × (IsSeen l → IsSeen m)) →
     Goes reads x request a b y
 goes_anew reads x y l m request a b is there h =
     let to : Goes reads (Some l) request a b (Some m) = elim h [ inl anew ↦ inr anew | inr on ↦ inl on ] in
     subst (λ (z : Option Launched). Goes reads z request a b y) (sym is)
     (subst (λ (z : Option Launched). Goes reads (Some l) request a b z) (sym there) to)
 
--- nothing was launched, and still nothing is
-pub goes_none : (x y : Option Launched) (request : Request) (a b : Answer) → x ≡ None → y ≡ x → GoesOn x request a b y
-goes_none x y request a b is same =
-    let to : GoesOn None request a b None = tt in
-    subst (λ (z : Option Launched). GoesOn z request a b y) (sym is)
-    (subst (λ (z : Option Launched). GoesOn None request a b z) (sym (same ∙ is)) to)
-
--- what is begun is so too where refusals stop as exceptions or not
-begun-excepting : (reads : List ℕ → Option (List ℕ) → Type 0) (asked : Asks) (excepts : Bool) (l : Launched) → IsBegun reads asked l →
-    IsBegun reads asked (excepting excepts l)
-begun-excepting reads asked excepts l h = record {
-  source = h.source;
-  stimulus = h.stimulus;
-  trace = h.trace;
-  read = h.read;
-  machine = h.machine;
-  begins = h.begins;
-  fresh = record {
-    unset = record {
-      launch = h.fresh.unset.launch;
-      text = h.fresh.unset.text;
-      lines = h.fresh.unset.lines;
-      stops = h.fresh.unset.stops;
-      watched = h.fresh.unset.watched;
-      waits = h.fresh.unset.waits;
-      lasts = h.fresh.unset.lasts;
-      sight = h.fresh.unset.sight;
-    };
-    seen = h.fresh.seen;
-    desk = h.fresh.desk;
-  };
-}
-
--- something is launched
-pub goes_launched : (reads : List ℕ → Option (List ℕ) → Type 0) (x y : Option Launched) (request : Request) (a b : Answer) (excepts : Bool)
-    (l : Launched) (arguments : Data) → arguments ≡ view request.arguments → x ≡ None → request.kind ≡ Kind.Launch →
-    (asked : Asks) × IsAsked arguments asked × IsBegun reads asked l → y ≡ Some (excepting excepts l) → Goes reads x request a b y
-goes_launched reads x y request a b excepts l arguments same none launches h there =
-    let to : Goes reads None request a b (Some (excepting excepts l)) =
-    inr (launches, (h.0, subst (λ (d : Data). IsAsked d h.0) same h.1, begun-excepting reads h.0 excepts l h.2)) in
-    subst (λ (z : Option Launched). Goes reads z request a b y) (sym none)
-    (subst (λ (z : Option Launched). Goes reads None request a b z) (sym there) to)
-
--- what is refused changes nothing
-pub refused_goes : (x : Option Launched) (request : Request) (a b : Answer) → moves request.kind ≡ false → IsRefusal b.outcome → b.notes ≡ a.notes →
-    GoesOn x request a b x
-refused_goes None request a b still refused notes = tt
-refused_goes (Some l) request a b still refused notes = (
-  record {
-    led = led_nowhere l.desk;
-    reads = λ reads. refl;
-    stays = λ ended. refl;
-    refused = inl refl;
-    looks = λ same typed. refl;
-    moved = λ is. let no : true ≡ false = sym is ∙ still in absurd (cc);
-    begins = λ same. inl (refused, notes, refl);
-    evaluates = λ same. (l.program.sight, λ seen. seen, inl (refl, notes));
-    sets = inr (refused, refl);
-    keeps = keeps_same b l.memo.seen.items;
-    sees = λ seen stays. seen;
-  },
-  λ seen. seen,
-)
-
 -- nothing changes by a request of this kind
 pub goes_nowhere : (x y : Option Launched) (request : Request) (a b : Answer) (known : Kind) → request.kind ≡ known → moves known ≡ false →
-    asks known ≡ false → ((d : Data) (c : Command) (p : Program) → SetsBy known d c p b p) → y ≡ x → GoesOn x request a b y
-goes_nowhere x y request a b known is still none sets there =
+    asks known ≡ false → TellsBy known a b → ((d : Data) (c : Command) (p : Program) → SetsBy known d c p b p) → y ≡ x → GoesOn x request a b y
+goes_nowhere x y request a b known is still none tells sets there =
     subst (λ (z : Option Launched). GoesOn x request a b z) (sym there)
-    (same x request a b (ap (λ (k : Kind). moves k) is ∙ still) (ap (λ (k : Kind). asks k) is ∙ none)
+    (same x request a b (ap (λ (k : Kind). moves k) is ∙ still) (ap (λ (k : Kind). asks k) is ∙ none) (tells_as request.kind known a b is tells)
     (λ l at. sets_as request known l.desk.machine.checked.main l.program l.program b is
     (sets (view request.arguments) l.desk.machine.checked.main l.program)))
 

@@ -1,12 +1,12 @@
 -- What a restart keeps.
-use Rattle.std.proofs.Common.{ℕ, ◌≡◌, Vec, Global, sym, subst, ap, ◌∙◌}
+use Rattle.std.proofs.Common.{ℕ, ◌≡◌, Vec, Global, sym, subst, ap}
 use Rattle.dap_messages.specs.declared.answer.Answer.{Answer}
 use Rattle.dap_moves.specs.Led.{Led}
 use Rattle.dap_views.specs.declared.program.Asked.{Asked}
 use Rattle.dap_views.specs.declared.program.Program.{Program}
 use Rattle.locked_execution.specs.AtDesk.{AtDesk}
 use Rattle.dap.specs.Anew.{GoesAnew, KeepsSet}
-use Rattle.dap.specs.Begins.{Begins, EndsFree}
+use Rattle.dap.specs.Begins.{Begins, begun}
 use Rattle.dap.specs.Stops.{BeginsOnce}
 use Rattle.dap.specs.declared.launch.Launched.{Launched}
 
@@ -23,16 +23,16 @@ keeps-placed p q t k asked stops h is =
 -- all else is as it was launched
 pub goes_anew_by : (l anew t m : Launched) (k : Program) (asked : Vec Asked Global) (stops : Vec ℕ Global) (a b : Answer) →
     KeepsSet l.program anew.program t.program → t.memo ≡ anew.memo → t.desk ≡ anew.desk →
-    k ≡ record t.program { asked = asked; stops = stops } → Led t.desk m.desk → Begins (record t { program = k }) m a b → EndsFree k m.program →
-    BeginsOnce b → GoesAnew l anew b m
+    k ≡ record t.program { asked = asked; stops = stops } → Led t.desk m.desk → Begins (record t { program = k }) m a b →
+    m.program ≡ begun k → BeginsOnce b →
+    GoesAnew l anew b m
 goes_anew_by l anew t m k asked stops a b set memo desk placed led begins sets once = record {
   kept = k;
   keeps = keeps-placed l.program anew.program t.program k asked stops set placed;
   start = a;
   begins =
       subst (λ (x : Launched). Begins x m a b) (λ i. record { program = k; memo = memo i; desk = desk i }) begins;
+  sets = sets;
   once = once;
   led = subst (λ (d : AtDesk). Led d m.desk) desk led;
-  sight =
-      ap (λ (x : Program). x.sight) sets.same ∙ ap (λ (x : Program). x.sight) placed ∙ ap (λ (x : Program). x.sight) set.same;
 }

@@ -1,5 +1,5 @@
 -- What holds after the requests of a session.
-use Rattle.std.proofs.Common.{◌≡◌, ◌⊎◌, ◌+◌, ◌++◌, ◌∷◌, [], ℕ, List, length, Option, None, Some, false, true, inl, inr, sym, subst, ◌∙◌}
+use Rattle.std.proofs.Common.{◌≡◌, ◌⊎◌, ◌+◌, ◌++◌, ◌∷◌, [], ℕ, List, length, Option, None, Some, true, inl, inr, sym, subst, ap, ◌∙◌}
 use Rattle.std.specs.Prelude.{Ok, Err, OnOk, Result}
 use Rattle.std.specs.Io.KnownBytes.{IsAtEnd}
 use Rattle.dap_messages.specs.declared.answer.Answer.{Answer}
@@ -7,8 +7,9 @@ use Rattle.dap_messages.specs.declared.request.Request.{Request}
 use Rattle.dap_moves.proofs.public.Leading.{led_nowhere, led_on}
 use Rattle.dap_server.specs.Session.{Serves, Session}
 use Rattle.dap_views.specs.Seen.{Sees}
+use Rattle.dap_views.specs.declared.program.Program.{Program}
 use Rattle.dap_views.specs.declared.sight.Sight.{Sight}
-use Rattle.dap.specs.Goes.{Comes, Goes, GoesNew, GoesOn, IsSeen, is_over}
+use Rattle.dap.specs.Goes.{Comes, Goes, GoesNew, GoesOn, IsFresh, IsSeen, is_over}
 use Rattle.dap.specs.Laws.{IsLed, IsTrueOf, SessionIsLed, SessionSees}
 use Rattle.dap.specs.declared.face.Face.{Face}
 use Rattle.dap.specs.declared.launch.Launched.{Launched}
@@ -19,16 +20,16 @@ led-on : (reads : List ℕ → Option (List ℕ) → Type 0) (x y : Option Launc
 led-on reads None None request a b led goes = tt
 led-on reads None (Some m) request a b led goes = absurd goes
 led-on reads (Some l) None request a b led goes = absurd goes
-led-on reads (Some l) (Some m) request a b led goes = (led.0, led.1, led.2, led_on led.1.desk l.desk m.desk led.3 goes.0.led)
+led-on reads (Some l) (Some m) request a b led goes = (led.0, led.1, led.2, led.3, led_on led.2.desk l.desk m.desk led.4 goes.0.led)
 
 -- one that begins anew
 led-new : (reads : List ℕ → Option (List ℕ) → Type 0) (x y : Option Launched) (request : Request) (b : Answer) → IsLed reads x →
     GoesNew reads x request b y → IsLed reads y
 led-new reads None None request b led goes = absurd goes
 led-new reads (Some l) None request b led goes = absurd goes
-led-new reads None (Some m) request b led goes = (goes.1.0, m, goes.1.2, led_nowhere m.desk)
+led-new reads None (Some m) request b led goes = (goes.1.0, goes.1.1, m, goes.1.3, led_nowhere m.desk)
 led-new reads (Some l) (Some m) request b led goes = elim goes.1 [
-  | inl anew ↦ (anew.0, anew.1, anew.3, anew.4.led)
+  | inl anew ↦ (l.program.counting, anew.0, anew.1, anew.3, anew.4.led)
   | inr still ↦ subst (λ (n : Launched). IsLed reads (Some n)) (sym still.0) led
 ]
 
@@ -62,9 +63,12 @@ sees-new : (reads : List ℕ → Option (List ℕ) → Type 0) (x y : Option Lau
     GoesNew reads x request b y → IsTrueOf y
 sees-new reads None None request b seen goes = absurd goes
 sees-new reads (Some l) None request b seen goes = absurd goes
-sees-new reads None (Some m) request b seen goes = new-seen m goes.1.2.fresh.unset.sight
+sees-new reads None (Some m) request b seen goes = new-seen m goes.1.3.fresh.unset.sight
 sees-new reads (Some l) (Some m) request b seen goes = elim goes.1 [
-  | inl anew ↦ new-seen m (anew.4.sight ∙ anew.3.fresh.unset.sight)
+  | inl anew ↦
+      new-seen m
+      (ap (λ (p : Program). p.sight) anew.4.sets ∙ ap (λ (p : Program). p.sight) anew.4.keeps.same
+      ∙ anew.3.fresh.unset.sight)
   | inr still ↦ subst (λ (n : Launched). IsTrueOf (Some n)) (sym still.0) seen
 ]
 
@@ -84,10 +88,10 @@ session-sees reads a b next (Some request ∷ heard) sent seen session =
 session-sees reads a b next (None ∷ heard) sent seen session = session-sees reads a b (next + 1) heard session.1 seen session.3
 
 -- a session with a client that has just come, which ends well
-pub served : {X E : Type 0} (reads : List ℕ → Option (List ℕ) → Type 0) (r : Result X E) (a b : Face) (came left u v : Option (List ℕ)) → a.launched ≡ None → a.over ≡ false →
+pub served : {X E : Type 0} (reads : List ℕ → Option (List ℕ) → Type 0) (r : Result X E) (a b : Face) (came left u v : Option (List ℕ)) → IsFresh a →
     OnOk r ((after : ℕ) × Serves (Comes reads) is_over a 1 b after came left u v) → OnOk r ((b.over ≡ true) ⊎ IsAtEnd left) →
     OnOk r
-    ((first : Face) × (last : Face) × (after : ℕ) × (first.launched ≡ None) × (first.over ≡ false)
+    ((first : Face) × (last : Face) × (after : ℕ) × IsFresh first
     × Serves (Comes reads) is_over first 1 last after came left u v × ((last.over ≡ true) ⊎ IsAtEnd left))
-served reads (Ok x) a b came left u v none running h k = (a, b, h.0, none, running, h.1, k)
-served reads (Err e) a b came left u v none running h k = tt
+served reads (Ok x) a b came left u v fresh h k = (a, b, h.0, fresh, h.1, k)
+served reads (Err e) a b came left u v fresh h k = tt

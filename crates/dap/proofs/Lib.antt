@@ -3,4 +3,6 @@ mod Going
 mod Keeping
 mod Lawful
 mod Machines
+mod Opening
+mod Seeing
 mod Stopping

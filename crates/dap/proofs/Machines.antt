@@ -6,25 +6,26 @@ use Rattle.front_end.specs.Accepting.{AcceptedAs}
 use Rattle.machine.specs.AtMachine.{AtMachine}
 use Rattle.trace_file.specs.Loading.{IsLoaded}
 use Rattle.serde_json.specs.Data.{Data}
+use Rattle.dap_views.specs.declared.program.Counting.{Counting}
 use Rattle.dap.specs.Asking.{Asks, IsAsked}
 use Rattle.dap.specs.Files.{AreRead, text_of}
 use Rattle.dap.specs.Launching.{BeginsAt, BeginsOn, IsBegun, IsNew}
 use Rattle.dap.specs.declared.launch.Launched.{Launched}
 
 -- a program on it begins with these texts
-pub begun_on : (r : Option Launched) (asked : Asks) (source stimulus : List ℕ) (trace : Option (List ℕ)) (m : AtMachine)
-    → BeginsAt source stimulus trace m → IfSome r (λ (l : Launched). IsNew asked source m l)
-    → IfSome r (λ (l : Launched). (n : AtMachine) × BeginsAt source stimulus trace n × IsNew asked source n l)
-begun_on None asked source stimulus trace m h k = tt
-begun_on (Some l) asked source stimulus trace m h k = (m, h, k)
+pub begun_on : (r : Option Launched) (counting : Counting) (asked : Asks) (source stimulus : List ℕ) (trace : Option (List ℕ)) (m : AtMachine)
+    → BeginsAt source stimulus trace m → IfSome r (λ (l : Launched). IsNew asked counting source m l)
+    → IfSome r (λ (l : Launched). (n : AtMachine) × BeginsAt source stimulus trace n × IsNew asked counting source n l)
+begun_on None counting asked source stimulus trace m h k = tt
+begun_on (Some l) counting asked source stimulus trace m h k = (m, h, k)
 
 -- as is asked for, where these texts were read
-pub begun_as : (r : Option Launched) (reads : List ℕ → Option (List ℕ) → Type 0) (asked : Asks) (source stimulus : List ℕ)
+pub begun_as : (r : Option Launched) (reads : List ℕ → Option (List ℕ) → Type 0) (counting : Counting) (asked : Asks) (source stimulus : List ℕ)
     (trace : Option (List ℕ)) → AreRead reads asked source stimulus trace
-    → IfSome r (λ (l : Launched). (n : AtMachine) × BeginsAt source stimulus trace n × IsNew asked source n l)
-    → IfSome r (λ (l : Launched). IsBegun reads asked l)
-begun_as None reads asked source stimulus trace read h = tt
-begun_as (Some l) reads asked source stimulus trace read h = record {
+    → IfSome r (λ (l : Launched). (n : AtMachine) × BeginsAt source stimulus trace n × IsNew asked counting source n l)
+    → IfSome r (λ (l : Launched). IsBegun reads counting asked l)
+begun_as None reads counting asked source stimulus trace read h = tt
+begun_as (Some l) reads counting asked source stimulus trace read h = record {
   source = source;
   stimulus = stimulus;
   trace = trace;
@@ -35,11 +36,11 @@ begun_as (Some l) reads asked source stimulus trace read h = record {
 }
 
 -- as these arguments ask for
-pub begun_by : (r : Option Launched) (reads : List ℕ → Option (List ℕ) → Type 0) (arguments : Data) (asked : Asks) → IsAsked arguments asked
-    → IfSome r (λ (l : Launched). IsBegun reads asked l)
-    → IfSome r (λ (l : Launched). (named : Asks) × IsAsked arguments named × IsBegun reads named l)
-begun_by None reads arguments asked is h = tt
-begun_by (Some l) reads arguments asked is h = (asked, is, h)
+pub begun_by : (r : Option Launched) (reads : List ℕ → Option (List ℕ) → Type 0) (arguments : Data) (counting : Counting) (asked : Asks) → IsAsked arguments asked
+    → IfSome r (λ (l : Launched). IsBegun reads counting asked l)
+    → IfSome r (λ (l : Launched). (named : Asks) × IsAsked arguments named × IsBegun reads counting named l)
+begun_by None reads arguments counting asked is h = tt
+begun_by (Some l) reads arguments counting asked is h = (asked, is, h)
 
 -- it is that of the texts
 pub begins_at : {E : Type 0} (source s stimulus t : List ℕ) (system : System) (trace : Option (List ℕ)) (r : Result AtMachine E) → s ≡ source

@@ -1,19 +1,22 @@
 -- How a run ends that begins with an empty answer.
 use Rattle.std.proofs.Common.{ℕ, ◌≡◌, ◌⊎◌, ◌||◌, Bool, List, [], ◌∷◌, ◌++◌, inl, inr, ◌∙◌, ap, sym, refl, append_assoc, Option, None, Some, true, false}
 use Rattle.locked_execution.specs.AtDesk.{AtDesk}
-use Rattle.dap_messages.specs.Notes.{IsDone, IsRefusal, told_by}
+use Rattle.serde_json.specs.Data.{Data}
+use Rattle.dap_messages.specs.Notes.{Adds, IsDone, IsRefusal, effect_with, told_by}
 use Rattle.dap_messages.specs.declared.answer.Answer.{Answer}
+use Rattle.dap_messages.specs.declared.answer.Effect.{Effect}
 use Rattle.dap_messages.specs.declared.answer.Note.{Note}
 use Rattle.dap_messages.specs.declared.kind.Kind.{Kind}
 use Rattle.dap_messages.specs.declared.request.Request.{Request}
 use Rattle.dap_messages.specs.declared.told.Stop.{Stop}
 use Rattle.dap_messages.specs.declared.told.Told.{Told}
 use Rattle.dap_requests.specs.Said.{Runs, TellsEnd, TellsStop}
+use Rattle.dap_requests.proofs.public.Saying.{tells_one}
 use Rattle.dap_server.specs.Kinds.{moves}
 use Rattle.dap.specs.Goes.{Goes, GoesNew, GoesOn}
 use Rattle.dap.specs.Kinds.{ends}
 use Rattle.dap.specs.Steps.{Steps}
-use Rattle.dap.specs.Stops.{BeginsOnce, StopsOnce}
+use Rattle.dap.specs.Stops.{BeginsOnce, EndsWith, StopsOnce}
 use Rattle.dap.specs.declared.face.Face.{Face}
 use Rattle.dap.specs.declared.launch.Launched.{Launched}
 
@@ -92,16 +95,19 @@ moves_stop reads x y request a b empty done is goes early = elim goes [
   | inr anew ↦ absurd (no-new reads x y request b is anew)
 ]
 
--- a request to move does not end the session
-no-end : (kind : Kind) → moves kind ≡ true → ends kind ≡ false
-no-end Kind.Disconnect is = absurd (cc)
-no-end _ is = refl
-
+-- what does not end the session leaves it going on
 or-not : (a b : Bool) → b ≡ false → (a || b) ≡ a
 or-not true b none = refl
 or-not false b none = none
 
-pub stays_over : (x h : Face) (over : Bool) (kind : Kind) → h ≡ x → over ≡ (x.over || ends kind) → moves kind ≡ true → record h { over = over } ≡ x
-stays_over x h over kind same is moving =
-    let stays : over ≡ x.over = is ∙ or-not x.over (ends kind) (no-end kind moving) in
+pub stays_over : (x h : Face) (over : Bool) (kind : Kind) → h ≡ x → over ≡ (x.over || ends kind) → ends kind ≡ false → record h { over = over } ≡ x
+stays_over x h over kind same is none =
+    let stays : over ≡ x.over = is ∙ or-not x.over (ends kind) none in
     λ i. record (same i) { over = stays i }
+
+-- an event that has to come is the last
+pub tells_last : (a b : Answer) (told : Told) (body : Option Data) → effect_with a.effect told ≡ Effect.Due told → Adds a told body b → EndsWith b told
+tells_last a b told body due h = record {
+  effect = h.effect ∙ due;
+  last = λ full. (told_by a.notes.items, (tells_one a b told body h full).1);
+}

@@ -8,7 +8,7 @@ use Rattle.dap_messages.specs.declared.request.Request.{Request}
 use Rattle.dap_moves.specs.Led.{Led}
 use Rattle.dap_views.specs.declared.program.Program.{Program}
 use Rattle.dap.specs.Asking.{Asks, IsAsked}
-use Rattle.dap.specs.Begins.{Begins}
+use Rattle.dap.specs.Begins.{Begins, begun}
 use Rattle.dap.specs.Stops.{BeginsOnce}
 use Rattle.dap.specs.declared.launch.Launched.{Launched}
 
@@ -47,12 +47,12 @@ pub record KeepsSet (p q k : Program) : Type 0 where
   pub watched : q.source.items ≡ p.source.items → k.watched ≡ p.watched
   pub unwatched : q.source.items ≢ p.source.items → k.watched ≡ q.watched
 
--- with that kept it begins, and the answer tells how; what is shown of the state is as where it was launched
+-- with that kept it begins, and the answer tells how
 pub record GoesAnew (l anew : Launched) (b : Answer) (m : Launched) : Type 0 where
   pub kept : Program
   pub keeps : KeepsSet l.program anew.program kept
   pub start : Answer
   pub begins : Begins (record anew { program = kept }) m start b
+  pub sets : m.program ≡ begun kept
   pub once : BeginsOnce b
   pub led : Led anew.desk m.desk
-  pub sight : m.program.sight ≡ anew.program.sight

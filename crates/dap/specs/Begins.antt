@@ -1,12 +1,11 @@
 -- How a program begins.
-use Rattle.std.specs.Prelude.{◌≡◌, ◌⊎◌, List, true, false, None}
+use Rattle.std.specs.Prelude.{◌≡◌, ◌⊎◌, ◌||◌, List, true, false, None}
 use Rattle.runs.specs.declared.event.Choice.{Choice}
 use Rattle.locked_execution.specs.AtDesk.{AtDesk}
 use Rattle.dap_messages.specs.declared.answer.Answer.{Answer}
 use Rattle.dap_messages.specs.declared.told.Stop.{Stop}
 use Rattle.dap_requests.specs.Forth.{RunsBy, RunsFree, going_of}
 use Rattle.dap_requests.specs.Said.{TellsEnd, TellsStop}
-use Rattle.dap_views.specs.Kept.{SameButBegun}
 use Rattle.dap_views.specs.declared.program.Program.{Program}
 use Rattle.dap.specs.declared.launch.Launched.{Launched}
 
@@ -24,7 +23,6 @@ Begins l m a b =
     ((stop : Stop) × TellsStop a stop b × Starts l.program l.memo.seen.items m.memo.seen.items l.desk stop m.desk)
     ⊎ ((l.program.launch.free ≡ true) × TellsEnd a b × RunsFree l.program.launch.most l.desk m.desk)
 
--- it is over where nobody debugs it, and else as before
-pub record EndsFree (p q : Program) : Type 0 where
-  pub same : SameButBegun p q
-  pub debugged : p.launch.free ≡ false → q.ended ≡ p.ended
+-- the same, but that it has begun; where nobody debugs it, it is over too
+abbrev pub begun : Program → Program
+begun p = record p { begun = true; ended = p.launch.free || p.ended }

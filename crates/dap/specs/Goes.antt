@@ -1,5 +1,5 @@
 -- What a request does to what is launched.
-use Rattle.std.specs.Prelude.{◌≡◌, ◌⊎◌, ◌||◌, Bool, false, true, Option, None, Some, []}
+use Rattle.std.specs.Prelude.{◌≡◌, ◌⊎◌, ◌||◌, Bool, false, true, is_some, Option, None, Some, [], ◌∷◌}
 use Rattle.serde_json.specs.View.{view}
 use Rattle.machine.specs.Headline.{Headline}
 use Rattle.locked_execution.specs.AtDesk.{execution}
@@ -7,21 +7,25 @@ use Rattle.dap_messages.specs.Notes.{IsDone, IsRefusal}
 use Rattle.dap_messages.specs.declared.answer.Answer.{Answer}
 use Rattle.dap_messages.specs.declared.kind.Kind.{Kind}
 use Rattle.dap_messages.specs.declared.request.Request.{Request}
+use Rattle.dap_messages.specs.declared.told.Told.{Told}
 use Rattle.dap_moves.specs.Led.{Led}
-use Rattle.dap_requests.specs.Said.{Runs}
+use Rattle.dap_requests.specs.Said.{Runs, Tells}
 use Rattle.dap_requests.specs.Typed.{Evaluates, KeepsSome, is_typed}
 use Rattle.dap_server.specs.Kinds.{moves}
 use Rattle.dap_views.specs.Kept.{unseen}
 use Rattle.dap_views.specs.Seen.{Sees}
+use Rattle.dap_views.specs.declared.program.Counting.{Counting}
 use Rattle.dap_views.specs.declared.sight.Sight.{Sight}
 use Rattle.dap.specs.Anew.{GoesAnew, IsMeant, brought}
 use Rattle.dap.specs.Asking.{Asks, IsAsked, asked_by}
 use Rattle.dap.specs.Begins.{Begins}
+use Rattle.dap.specs.Early.{EarlyBy}
 use Rattle.dap.specs.Files.{Reads}
-use Rattle.dap.specs.Kinds.{changes, ends}
+use Rattle.dap.specs.Kinds.{changes, ends, opens}
 use Rattle.dap.specs.Launching.{IsBegun}
+use Rattle.dap.specs.Meeting.{ClientBy, excepts_behind}
 use Rattle.dap.specs.Sets.{Sets}
-use Rattle.dap.specs.Steps.{Steps}
+use Rattle.dap.specs.Steps.{MayRefuse, Steps}
 use Rattle.dap.specs.Stops.{NotDone, StopsOnce}
 use Rattle.dap.specs.declared.face.Face.{Face}
 use Rattle.dap.specs.declared.launch.Launched.{Launched}
@@ -34,26 +38,36 @@ IsSeen l = Sees l.desk.machine l.program.sight
 abbrev pub seen_as : Launched → Option Sight → Launched
 seen_as l sight = record l { program = record l.program { sight = sight } }
 
+-- which events a request of this kind tells that changes nothing on the desk: `terminate` that it is over; where
+-- breakpoints are set on lines that is not said here; all others tell none
+abbrev pub TellsBy : Kind → Answer → Answer → Type 0
+TellsBy Kind.Terminate a b = Tells a (Told.Terminated ∷ []) b
+TellsBy Kind.SetBreakpoints a b = Unit {0}
+TellsBy _ a b = b.notes ≡ a.notes
+
 -- what a request that is answered so, from a to b, does to what is launched: the desk is what some commands of sessions
--- leave, and the same where the request only reads, where it is refused, where words are only looked at, or where the
--- client was told that it is over; a request to run moves it as it should; a line that is typed does what it asks for,
--- where its frame is one of the state; each sets what it asks for alone; and what is shown of the state is so where the
--- desk stays
+-- leave, and the same where the request only reads, where it is refused, where words are only looked at, where the run
+-- has not begun, or where the client was told that it is over; a request to run moves it as it should, or is refused
+-- for one of three reasons; a line that is typed does what it asks for, where its frame is one of the state; each sets
+-- what it asks for alone; and what is shown of the state is so where the desk stays
 pub record LaunchedGoes (l : Launched) (request : Request) (a b : Answer) (m : Launched) : Type 0 where
   pub led : Led l.desk m.desk
   pub reads : changes request.kind ≡ false → m.desk ≡ l.desk
   pub stays : l.program.ended ≡ true → m.desk ≡ l.desk
+  pub waits : l.program.begun ≡ false → (request.kind ≡ Kind.ConfigurationDone → ⊥) → m.desk ≡ l.desk
   pub refused : (m.desk ≡ l.desk) ⊎ (IsDone a.outcome → IsDone b.outcome)
   pub looks : request.kind ≡ Kind.Evaluate → is_typed request ≡ false → m.desk ≡ l.desk
   pub moved : moves request.kind ≡ true →
       Runs a b l.desk m.desk
       (λ stop. Steps l.program l.memo.seen.items m.memo.seen.items l.desk request.kind request stop m.desk)
+  pub denied : moves request.kind ≡ true → IsDone a.outcome → IsRefusal b.outcome → MayRefuse l.program l.desk request
   pub begins : request.kind ≡ Kind.ConfigurationDone →
       (IsRefusal b.outcome × (b.notes ≡ a.notes) × (m.desk ≡ l.desk)) ⊎ Begins l m a b
   pub evaluates : request.kind ≡ Kind.Evaluate →
       (sight : Option Sight) × (IsSeen l → IsSeen (seen_as l sight))
       × Evaluates (seen_as l sight).program request l.desk a b m.desk
   pub sets : Sets request l.desk.machine.checked.main (unseen l.program) b (unseen m.program)
+  pub tells : changes request.kind ≡ false → TellsBy request.kind a b
   pub keeps : KeepsSome b l.memo.seen.items m.memo.seen.items
   pub sees : IsSeen l → m.desk ≡ l.desk → IsSeen m
 
@@ -62,7 +76,7 @@ pub record LaunchedGoes (l : Launched) (request : Request) (a b : Answer) (m : L
 abbrev pub Restarts : Reads → Launched → Request → Answer → Launched → Type 0
 Restarts reads l request b m =
     ((asked : Asks) × (anew : Launched) × IsMeant (brought request) (asked_by l.program.launch) asked
-    × IsBegun reads asked anew × GoesAnew l anew b m)
+    × IsBegun reads l.program.counting asked anew × GoesAnew l anew b m)
     ⊎ ((m ≡ l) × NotDone b)
 
 -- what is launched goes on as a request says, and nothing else is launched; requests look at the state as it is
@@ -75,7 +89,7 @@ GoesOn _ request a b _ = ⊥
 abbrev pub GoesNew : Reads → Option Launched → Request → Answer → Option Launched → Type 0
 GoesNew reads None request b (Some m) =
     (request.kind ≡ Kind.Launch)
-    × ((asked : Asks) × IsAsked (view request.arguments) asked × IsBegun reads asked m)
+    × ((counting : Counting) × (asked : Asks) × IsAsked (view request.arguments) asked × IsBegun reads counting asked m)
 GoesNew reads (Some l) request b (Some m) = (request.kind ≡ Kind.Restart) × Restarts reads l request b m
 GoesNew reads _ request b None = ⊥
 
@@ -88,11 +102,29 @@ abbrev pub IsSound : Option Launched → Type 0
 IsSound None = Unit {0}
 IsSound (Some l) = Headline (execution l.desk)
 
--- a request to move that comes before a launch is refused, and tells and changes nothing
+-- a request that is not heard before a launch, as one to move, is refused there, and tells and changes nothing
 abbrev pub RefusedEarly : Face → Request → Answer → Face → Type 0
 RefusedEarly x request answer y =
-    x.launched ≡ None → moves request.kind ≡ true
+    x.launched ≡ None → opens request.kind ≡ false
     → IsRefusal answer.outcome × (answer.notes.items ≡ []) × (y ≡ x)
+
+-- so is a second `initialize`
+abbrev pub RefusedAgain : Face → Request → Answer → Face → Type 0
+RefusedAgain x request answer y =
+    request.kind ≡ Kind.Initialize → is_some x.client ≡ true
+    → IsRefusal answer.outcome × (answer.notes.items ≡ []) × (y ≡ x)
+
+-- what comes of a request where nothing is launched, as the client is known, and as it has set
+abbrev pub Early : Reads → Face → Request → Answer → Answer → Option Launched → Type 0
+Early reads x request a b y =
+    x.launched ≡ None → EarlyBy request.kind reads x.client x.excepts (view request.arguments) a b y
+
+-- a session with a client that has just come
+pub record IsFresh (x : Face) : Type 0 where
+  pub launched : x.launched ≡ None
+  pub client : x.client ≡ None
+  pub excepts : x.excepts ≡ true
+  pub over : x.over ≡ false
 
 -- whether the client has ended the session
 abbrev pub is_over : Face → Bool
@@ -106,4 +138,9 @@ pub record Comes (reads : Reads) (x : Face) (request : Request) (answer : Answer
   pub sound : IsSound y.launched
   pub stops : moves request.kind ≡ true → StopsOnce answer
   pub early : RefusedEarly x request answer y
+  pub again : RefusedAgain x request answer y
+  pub first : Early reads x request empty answer y.launched
+  pub client : ClientBy request.kind x.client (view request.arguments) answer y.client
+  pub excepts :
+      y.excepts ≡ excepts_behind x.launched x.client request.kind (view request.arguments) x.excepts
   pub over : y.over ≡ (x.over || ends request.kind)

@@ -20,11 +20,31 @@ ends _ = false
 abbrev pub changes : Kind → Bool
 changes kind = moves kind || asks kind
 
--- whether it begins a run
-abbrev pub begins_run : Kind → Bool
-begins_run Kind.ConfigurationDone = true
-begins_run _ = false
+-- whether it is heard before a launch; all others are refused there
+abbrev pub opens : Kind → Bool
+opens Kind.Initialize = true
+opens Kind.Disconnect = true
+opens Kind.Launch = true
+opens Kind.Threads = true
+opens Kind.SetBreakpoints = true
+opens Kind.SetDataBreakpoints = true
+opens Kind.SetExceptionBreakpoints = true
+opens _ = false
 
--- whether a request may change the desk: one that moves, one that begins, and a line that is typed
+-- whether it begins the run
+abbrev pub begins : Kind → Bool
+begins Kind.ConfigurationDone = true
+begins _ = false
+
+-- whether it is a line, where one is typed
+abbrev pub types : Kind → Bool → Bool
+types Kind.Evaluate typed = typed
+types _ typed = false
+
+-- whether it asks a thread to move, or is a line that is typed
+abbrev pub is_active : Request → Bool
+is_active request = moves request.kind || types request.kind (is_typed request)
+
+-- whether a request may change the desk: one of these, or one that begins the run
 abbrev pub may_move : Request → Bool
-may_move request = moves request.kind || begins_run request.kind || is_typed request
+may_move request = is_active request || begins request.kind

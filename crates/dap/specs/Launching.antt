@@ -6,6 +6,7 @@ use Rattle.machine.specs.AtMachine.{AtMachine}
 use Rattle.trace_file.specs.Loading.{IsLoaded}
 use Rattle.locked_execution.specs.AtDesk.{AtDesk, new_desk}
 use Rattle.dap_moves.specs.Led.{Led}
+use Rattle.dap_views.specs.declared.program.Counting.{Counting}
 use Rattle.dap_views.specs.declared.program.Program.{Program}
 use Rattle.dap.specs.Asking.{Asks, asked_by}
 use Rattle.dap.specs.Files.{AreRead, Reads}
@@ -20,10 +21,11 @@ BeginsOn system (Some trace) m = IsLoaded system trace m
 abbrev pub BeginsAt : List ℕ → List ℕ → Option (List ℕ) → AtMachine → Type 0
 BeginsAt source stimulus trace m = (system : System) × AcceptedAs source stimulus system × BeginsOn system trace m
 
--- the program of this launch over this source, on which nothing is set, and which has not begun; nothing is shown of its
--- state yet
-pub record IsUnset (asked : Asks) (source : List ℕ) (p : Program) : Type 0 where
+-- the program of this launch over this source, for a client that counts so, on which nothing is set, and which has not
+-- begun; nothing is shown of its state yet
+pub record IsUnset (asked : Asks) (counting : Counting) (source : List ℕ) (p : Program) : Type 0 where
   pub launch : asked_by p.launch ≡ asked
+  pub counts : p.counting ≡ counting
   pub text : p.source.items ≡ source
   pub lines : p.asked.items ≡ []
   pub stops : p.stops.items ≡ []
@@ -33,21 +35,22 @@ pub record IsUnset (asked : Asks) (source : List ℕ) (p : Program) : Type 0 whe
   pub sight : p.sight ≡ None
 
 -- such a program with a new desk on this machine
-pub record IsNew (asked : Asks) (source : List ℕ) (m : AtMachine) (l : Launched) : Type 0 where
-  pub unset : IsUnset asked source l.program
+pub record IsNew (asked : Asks) (counting : Counting) (source : List ℕ) (m : AtMachine) (l : Launched) : Type 0 where
+  pub unset : IsUnset asked counting source l.program
   pub seen : l.memo.seen.items ≡ []
   pub desk : l.desk ≡ new_desk m
 
--- it is launched as is asked for, new, from the texts that were read of the files
-pub record IsBegun (reads : Reads) (asked : Asks) (l : Launched) : Type 0 where
+-- it is launched as is asked for, for a client that counts so, new, from the texts that were read of the files
+pub record IsBegun (reads : Reads) (counting : Counting) (asked : Asks) (l : Launched) : Type 0 where
   pub source : List ℕ
   pub stimulus : List ℕ
   pub trace : Option (List ℕ)
   pub read : AreRead reads asked source stimulus trace
   pub machine : AtMachine
   pub begins : BeginsAt source stimulus trace machine
-  pub fresh : IsNew asked source machine l
+  pub fresh : IsNew asked counting source machine l
 
 -- a desk that some commands of sessions leave of the one with which a program is launched
 abbrev pub Stands : Reads → AtDesk → Type 0
-Stands reads d = (asked : Asks) × (begun : Launched) × IsBegun reads asked begun × Led begun.desk d
+Stands reads d =
+    (counting : Counting) × (asked : Asks) × (begun : Launched) × IsBegun reads counting asked begun × Led begun.desk d

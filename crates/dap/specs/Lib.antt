@@ -1,11 +1,13 @@
 pub mod Anew
 pub mod Asking
 pub mod Begins
+pub mod Early
 pub mod Files
 pub mod Goes
 pub mod Kinds
 pub mod Launching
 pub mod Laws
+pub mod Meeting
 pub mod Sets
 pub mod Steps
 pub mod Stops

@@ -1,5 +1,5 @@
 -- What requests that ask a thread to move do to a desk.
-use Rattle.std.specs.Prelude.{ℕ, ◌≡◌, Bool, List, Option, None, Some, codes}
+use Rattle.std.specs.Prelude.{ℕ, ◌≡◌, ◌⊎◌, Bool, true, false, List, Option, None, Some, codes}
 use Rattle.serde_json.specs.View.{view}
 use Rattle.system_places.specs.SystemBranches.{branch_count}
 use Rattle.runs.specs.declared.event.Choice.{Choice}
@@ -9,6 +9,7 @@ use Rattle.dap_messages.specs.declared.kind.Kind.{Kind}
 use Rattle.dap_messages.specs.declared.request.Request.{Request}
 use Rattle.dap_messages.specs.declared.told.Stop.{Stop}
 use Rattle.dap_requests.specs.Back.{Backs, ReversesFor}
+use Rattle.dap_requests.specs.Denied.{NamesNoStep, NamesNoThread}
 use Rattle.dap_requests.specs.Forth.{RunsBy, StepsForth, alone, going_of, target_in}
 use Rattle.dap_threads.specs.Threads.{branch_named}
 use Rattle.dap_views.specs.declared.program.Program.{Program}
@@ -38,6 +39,19 @@ GoesOn program before after d request None stop d' = ⊥
 GoesOn program before after d request (Some k) stop d' =
     RunsBy (going_of program (only_of request k)) (Some k) d before stop d' after
 
+-- the thread is told to stand, as it does
+abbrev pub Stays : AtDesk → Option ℕ → Stop → AtDesk → Type 0
+Stays d None stop d' = ⊥
+Stays d (Some k) stop d' = (stop ≡ Stop.Pause) × (d' ≡ d)
+
+-- a request to move is denied where it names no thread that there is, or where `stepIn` names no step by its number
+abbrev pub IsDenied : AtDesk → Request → Type 0
+IsDenied d request = NamesNoThread d request ⊎ NamesNoStep request
+
+-- it is refused only where it is denied, where the run has not begun, and where it is over
+abbrev pub MayRefuse : Program → AtDesk → Request → Type 0
+MayRefuse program d request = (program.ended ≡ true) ⊎ (program.begun ≡ false) ⊎ IsDenied d request
+
 -- what a request does that is not refused, and how that went is told: a step forth or back is one of the branch of its
 -- thread, and a run begins there. `before` are the steps before which a run has stood, and `after` those that are kept
 -- in mind
@@ -54,5 +68,5 @@ Steps program before after d Kind.Continue request stop d' =
     GoesOn program before after d request (thread_of d request) stop d'
 Steps program before after d Kind.ReverseContinue request stop d' =
     ReversesFor program d request stop d' after
-Steps program before after d Kind.Pause request stop d' = (stop ≡ Stop.Pause) × (d' ≡ d)
+Steps program before after d Kind.Pause request stop d' = Stays d (thread_of d request) stop d'
 Steps program before after d _ request stop d' = Unit {0}

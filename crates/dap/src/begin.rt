@@ -1,13 +1,12 @@
 // The beginning of a program that was launched.
-ghost use Rattle.std.specs.Prelude.{◌≡◌, ◌⊎◌, true};
+ghost use Rattle.std.specs.Prelude.{◌≡◌, ◌⊎◌, true, false};
 ghost use Rattle.dap_messages.specs.Notes.{IsRefusal};
 ghost use Rattle.dap_moves.specs.Led.{Led};
 ghost use Rattle.dap_messages.specs.declared.told.Stop.{Stop as Stopped};
 ghost use Rattle.dap_requests.specs.Forth.{RunsFree};
 ghost use Rattle.dap_requests.specs.Said.{TellsEnd, TellsStop};
 ghost use Rattle.dap_requests.specs.Typed.{KeepsSome};
-ghost use Rattle.dap_views.specs.Kept.{SameButBegun};
-ghost use Rattle.dap.specs.Begins.{Begins, EndsFree, Starts};
+ghost use Rattle.dap.specs.Begins.{Begins, Starts, begun};
 
 use crate::launch::Launched;
 use dap_messages::{Answer, Members, Stop, Told};
@@ -17,12 +16,13 @@ use dap_views::{Memo, Program};
 use std::alloc::Global;
 
 /// Begins, unless it has begun already.
-#[tactic(auto, using(crate::proofs::Going::led_still, crate::proofs::Going::ends_same, crate::proofs::Going::keeps_same))]
+#[tactic(auto, using(crate::proofs::Going::led_still, crate::proofs::Going::keeps_same))]
 pub(crate) fn begin_once(alloc: Global, launched: &mut Launched, answer: &mut Answer)
     ensures led { Led launched.old.desk launched.new.desk }
     ensures begins { (IsRefusal answer.new.outcome × (answer.new.notes ≡ answer.old.notes)
-        × (launched.new ≡ launched.old)) ⊎ Begins launched.old launched.new answer.old answer.new }
-    ensures sets { EndsFree launched.old.program launched.new.program }
+        × (launched.new ≡ launched.old) × (launched.old.program.begun ≡ true))
+        ⊎ (Begins launched.old launched.new answer.old answer.new × (launched.old.program.begun ≡ false)
+        × (launched.new.program ≡ begun launched.old.program)) }
     ensures keeps { KeepsSome answer.new launched.old.memo.seen.items launched.new.memo.seen.items }
 {
     if launched.program.begun {
@@ -33,11 +33,11 @@ pub(crate) fn begin_once(alloc: Global, launched: &mut Launched, answer: &mut An
 }
 
 /// Begins, once the client has set what it wants to set: it stops before the first step, or goes on.
-#[tactic(auto, using(crate::proofs::Going::led_still, crate::proofs::Going::ends_same, crate::proofs::Going::keeps_same))]
+#[tactic(auto, using(crate::proofs::Going::led_still, crate::proofs::Going::keeps_same))]
 pub(crate) fn begin(alloc: Global, launched: &mut Launched, answer: &mut Answer)
     ensures led { Led launched.old.desk launched.new.desk }
     ensures begins { Begins launched.old launched.new answer.old answer.new }
-    ensures sets { EndsFree launched.old.program launched.new.program }
+    ensures sets { launched.new.program ≡ begun launched.old.program }
     ensures keeps { KeepsSome answer.new launched.old.memo.seen.items launched.new.memo.seen.items }
 {
     launched.program.begun = true;
@@ -56,7 +56,7 @@ pub(crate) fn begin(alloc: Global, launched: &mut Launched, answer: &mut Answer)
 }
 
 /// Begins a run that is debugged.
-#[tactic(auto, using(crate::proofs::Going::led_still, crate::proofs::Going::ends_same, crate::proofs::Going::keeps_same))]
+#[tactic(auto, using(crate::proofs::Going::led_still, crate::proofs::Going::keeps_same))]
 fn begin_stopping(
     alloc: Global,
     desk: &mut Desk,

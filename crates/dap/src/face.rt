@@ -1,21 +1,28 @@
 // A session: who the client is, and what is launched.
-ghost use Rattle.std.specs.Prelude.{◌≡◌, ◌⊎◌, ◌||◌, None, Some, true, false};
-ghost use Rattle.dap_messages.specs.Notes.{IsRefusal};
+ghost use Rattle.std.specs.Prelude.{◌≡◌, ◌⊎◌, ◌||◌, None, Some, true, false, is_some, unwrap_or};
+ghost use Rattle.std.specs.Option.{option_map};
+ghost use Rattle.serde_json.specs.View.{view};
+ghost use Rattle.dap_messages.specs.Notes.{IsDone, IsRefusal};
 ghost use Rattle.dap_messages.specs.declared.kind.Kind.{Kind as Asks};
-ghost use Rattle.dap_server.specs.Kinds.{moves};
+ghost use Rattle.dap_messages.specs.declared.told.Told.{Told as Tells};
+ghost use Rattle.dap_requests.specs.Sets.{filters_refused};
 ghost use Rattle.dap.specs.Anew.{excepting};
-ghost use Rattle.dap.specs.Goes.{Comes, Goes, GoesOn, IsSeen, IsSound, LaunchedGoes, Restarts};
-ghost use Rattle.dap.specs.Kinds.{ends};
+ghost use Rattle.dap.specs.Early.{EarlyBy, Launches};
+ghost use Rattle.dap.specs.Goes.{Comes, Early, Goes, IsFresh, IsSeen, IsSound, LaunchedGoes, Restarts};
+ghost use Rattle.dap.specs.Kinds.{ends, opens};
+ghost use Rattle.dap.specs.Meeting.{ClientBy, Meets, MeetsBy, base, counting_of, is_path, names_paths};
+ghost use Rattle.dap.specs.Meeting.{excepts_behind, excepts_by, excepts_early};
+ghost use Rattle.dap.specs.Stops.{EndsWith};
 
 use crate::dispatch::perform;
 use crate::launch::{Launched, start};
-use crate::restart::restart;
+use crate::restart::{note_none, restart};
 use crate::sources::Sources;
-use dap_messages::{Answer, Kind, Listed, Members, Request, Told};
+use dap_messages::{Answer, Kind, Listed, Members, Outcome, Request, Told};
 use dap_requests::{asks_for_refusals, set_before, set_data_before};
-use dap_server::is_move;
 use dap_views::Counting;
 use std::alloc::Global;
+use std::mem;
 
 /// A session with a client.
 #[derive(Drop)]
@@ -33,8 +40,7 @@ pub struct Face {
 impl Face {
     /// A session of which nothing is known yet.
     pub fn new(alloc: Global) -> Face
-        ensures launched { result.launched ≡ None }
-        ensures over { result.over ≡ false }
+        ensures { IsFresh result }
     {
         Face {
             alloc,
@@ -79,177 +85,205 @@ impl Face {
     /// Answers a request in this answer.
     fn hear<F: Sources>(&mut self, files: &F, request: &Request, answer: &mut Answer)
         ensures goes { Goes (F.reads files.now) self.old.launched request.now answer.old answer.new self.new.launched }
-        ensures early { self.old.launched ≡ None → moves request.now.kind ≡ true
+        ensures early { self.old.launched ≡ None → opens request.now.kind ≡ false
             → IsRefusal answer.new.outcome × (answer.new.notes ≡ answer.old.notes) × (self.new ≡ self.old) }
-    {
-        if is_move(request.kind) {
-            self.make_move(request, answer);
-        } else {
-            self.serve(files, request, answer);
-        }
-    }
-
-    /// Answers a request that asks a thread to move, or to stand.
-    #[tactic(auto, using(crate::proofs::Going::goes_on))]
-    fn make_move(&mut self, request: &Request, answer: &mut Answer)
-        ensures goes { GoesOn self.old.launched request.now answer.old answer.new self.new.launched }
-        ensures early { self.old.launched ≡ None
+        ensures again { request.now.kind ≡ Asks.Initialize → is_some self.old.client ≡ true
             → IsRefusal answer.new.outcome × (answer.new.notes ≡ answer.old.notes) × (self.new ≡ self.old) }
-    {
-        let alloc = self.alloc;
-        match &mut self.launched {
-            Some(launched) => perform(alloc, launched, request, answer),
-            None => self.refuse_early(answer),
-        }
-    }
-
-    /// Refuses a request before something is launched.
-    fn refuse_early(&self, answer: &mut Answer)
-        ensures { IsRefusal answer.new.outcome × (answer.new.notes ≡ answer.old.notes) }
-    {
-        match self.client {
-            Some(_) => answer.refuse(103, "nothing is launched yet"),
-            None => answer.refuse(102, "`initialize` comes first"),
-        }
-    }
-
-    /// Answers another request.
-    fn serve<F: Sources>(&mut self, files: &F, request: &Request, answer: &mut Answer)
-        requires { moves request.now.kind ≡ false }
-        ensures { Goes (F.reads files.now) self.old.launched request.now answer.old answer.new self.new.launched }
-    {
-        match self.client {
-            Some(counting) => self.serve_client(files, counting, request, answer),
-            None => self.meet(request, answer),
-        }
-    }
-
-    /// Answers another request of a client that has said how it counts.
-    fn serve_client<F: Sources>(
-        &mut self,
-        files: &F,
-        counting: Counting,
-        request: &Request,
-        answer: &mut Answer,
-    )
-        requires { moves request.now.kind ≡ false }
-        ensures { Goes (F.reads files.now) self.old.launched request.now answer.old answer.new self.new.launched }
+        ensures first { Early (F.reads files.now) self.old request.now answer.old answer.new self.new.launched }
+        ensures client { IsDone answer.old.outcome
+            → ClientBy request.now.kind self.old.client (view request.now.arguments) answer.new self.new.client }
+        ensures excepts { self.new.excepts ≡ excepts_behind self.old.launched self.old.client request.now.kind
+            (view request.now.arguments) self.old.excepts }
     {
         match request.kind {
             Kind::Initialize => self.initialize(request, answer),
-            Kind::Disconnect => answer.did(),
-            Kind::Launch => self.launch(files, counting, request, answer),
-            _ => self.ask(files, request, answer),
-        }
-    }
-
-    /// Answers another request before the client has said how it counts.
-    fn meet(&mut self, request: &Request, answer: &mut Answer)
-        requires { moves request.now.kind ≡ false }
-        ensures { GoesOn self.old.launched request.now answer.old answer.new self.new.launched }
-    {
-        match request.kind {
-            Kind::Initialize => self.initialize(request, answer),
-            Kind::Disconnect => answer.did(),
-            _ => self.refuse_early(answer),
+            _ => self.serve(files, request, answer),
         }
     }
 
     /// Answers `initialize`.
     fn initialize(&mut self, request: &Request, answer: &mut Answer)
-        ensures { self.new.launched ≡ self.old.launched }
+        ensures client { IsDone answer.old.outcome
+            → Meets self.old.client (view request.now.arguments) answer.new self.new.client }
+        ensures again { is_some self.old.client ≡ true → IsRefusal answer.new.outcome × (self.new ≡ self.old) }
+        ensures quiet { answer.new.notes ≡ answer.old.notes }
+        ensures launched { self.new.launched ≡ self.old.launched }
+        ensures excepts { self.new.excepts ≡ self.old.excepts }
     {
-        if request.text("pathFormat").unwrap_or("path") != "path" {
+        match self.client {
+            Some(_) => answer.refuse(107, "`initialize` was answered already"),
+            None => self.meet(request, answer),
+        }
+    }
+
+    /// Answers the first `initialize`.
+    fn meet(&mut self, request: &Request, answer: &mut Answer)
+        requires { self.old.client ≡ None }
+        ensures client { IsDone answer.old.outcome → MeetsBy (names_paths (view request.now.arguments))
+            (view request.now.arguments) answer.new self.new.client }
+        ensures quiet { answer.new.notes ≡ answer.old.notes }
+        ensures launched { self.new.launched ≡ self.old.launched }
+        ensures excepts { self.new.excepts ≡ self.old.excepts }
+    {
+        if names_paths(request) {
+            self.client = Some(counting_of(request));
+            answer.did();
+            answer.body(capabilities(self.alloc));
+        } else {
             answer.refuse(106, "only paths are understood, no URIs");
-            return;
-        }
-        self.client = Some(Counting {
-            lines: base(request.flag("linesStartAt1", true)),
-            columns: base(request.flag("columnsStartAt1", true)),
-        });
-        answer.did();
-        answer.body(capabilities(self.alloc));
-    }
-
-    /// Answers `launch`.
-    fn launch<F: Sources>(
-        &mut self,
-        files: &F,
-        counting: Counting,
-        request: &Request,
-        answer: &mut Answer,
-    )
-        requires launches { request.now.kind ≡ Asks.Launch }
-        requires stands { moves request.now.kind ≡ false }
-        ensures { Goes (F.reads files.now) self.old.launched request.now answer.old answer.new self.new.launched }
-    {
-        match &self.launched {
-            Some(_) => answer.refuse(107, "a program is launched already"),
-            None => self.launch_first(files, counting, request, answer),
         }
     }
 
-    /// Answers `launch` where nothing is launched.
-    fn launch_first<F: Sources>(
-        &mut self,
-        files: &F,
-        counting: Counting,
-        request: &Request,
-        answer: &mut Answer,
-    )
-        requires launches { request.now.kind ≡ Asks.Launch }
-        requires none { self.old.launched ≡ None }
-        ensures { Goes (F.reads files.now) self.old.launched request.now answer.old answer.new self.new.launched }
-    {
-        match start(self.alloc, files, counting, request.arguments(), answer) {
-            Some(found) => self.keep(found, answer),
-            None => {}
-        }
-    }
-
-    /// Keeps what was launched. Breakpoints can be judged only now, so `initialized` is told.
-    fn keep(&mut self, mut found: Launched, answer: &mut Answer)
-        ensures { self.new.launched ≡ Some (excepting self.old.excepts found) }
-    {
-        found.program.excepts = self.excepts;
-        self.launched = Some(found);
-        answer.tell(Told::Initialized);
-    }
-
-    /// Answers what may be asked of a program, where one is launched.
+    /// Answers another request.
     #[tactic(auto, using(crate::proofs::Going::goes_anew))]
-    fn ask<F: Sources>(&mut self, files: &F, request: &Request, answer: &mut Answer)
-        requires { moves request.now.kind ≡ false }
-        ensures { Goes (F.reads files.now) self.old.launched request.now answer.old answer.new self.new.launched }
+    fn serve<F: Sources>(&mut self, files: &F, request: &Request, answer: &mut Answer)
+        ensures goes { Goes (F.reads files.now) self.old.launched request.now answer.old answer.new self.new.launched }
+        ensures early { self.old.launched ≡ None → opens request.now.kind ≡ false
+            → IsRefusal answer.new.outcome × (answer.new.notes ≡ answer.old.notes) × (self.new ≡ self.old) }
+        ensures first { Early (F.reads files.now) self.old request.now answer.old answer.new self.new.launched }
+        ensures client { self.new.client ≡ self.old.client }
+        ensures excepts { self.new.excepts ≡ excepts_behind self.old.launched self.old.client request.now.kind
+            (view request.now.arguments) self.old.excepts }
     {
         let alloc = self.alloc;
         match &mut self.launched {
             Some(launched) => ask_of(alloc, files, launched, request, answer),
-            None => self.ask_early(request, answer),
+            None => self.serve_early(files, request, answer),
         }
     }
 
-    /// Answers what may be asked before something is launched.
-    fn ask_early(&mut self, request: &Request, answer: &mut Answer)
-        ensures { self.new.launched ≡ self.old.launched }
+    /// Answers another request where nothing is launched.
+    fn serve_early<F: Sources>(&mut self, files: &F, request: &Request, answer: &mut Answer)
+        requires { self.old.launched ≡ None }
+        ensures early { opens request.now.kind ≡ false
+            → IsRefusal answer.new.outcome × (answer.new.notes ≡ answer.old.notes) × (self.new ≡ self.old) }
+        ensures first { EarlyBy request.now.kind (F.reads files.now) self.old.client self.old.excepts
+            (view request.now.arguments) answer.old answer.new self.new.launched }
+        ensures client { self.new.client ≡ self.old.client }
+        ensures excepts { self.new.excepts
+            ≡ excepts_early self.old.client request.now.kind (view request.now.arguments) self.old.excepts }
     {
+        match self.client {
+            Some(counting) => self.serve_known(files, counting, request, answer),
+            None => refuse_unknown(request.kind, answer),
+        }
+    }
+
+    /// Answers another request of a client that has said how it counts, where nothing is launched.
+    fn serve_known<F: Sources>(
+        &mut self,
+        files: &F,
+        counting: Counting,
+        request: &Request,
+        answer: &mut Answer,
+    )
+        requires { self.old.launched ≡ None }
+        ensures early { opens request.now.kind ≡ false
+            → IsRefusal answer.new.outcome × (answer.new.notes ≡ answer.old.notes) × (self.new ≡ self.old) }
+        ensures first { EarlyBy request.now.kind (F.reads files.now) (Some counting) self.old.excepts
+            (view request.now.arguments) answer.old answer.new self.new.launched }
+        ensures client { self.new.client ≡ self.old.client }
+        ensures excepts { self.new.excepts
+            ≡ excepts_by request.now.kind (view request.now.arguments) self.old.excepts }
+    {
+        let alloc = self.alloc;
+        let excepts = self.excepts;
         match request.kind {
-            Kind::SetExceptionBreakpoints => self.set_exceptions(request, answer),
-            _ => tell_early(self.alloc, request, answer),
-        }
-    }
-
-    /// Answers `setExceptionBreakpoints` before something is launched.
-    fn set_exceptions(&mut self, request: &Request, answer: &mut Answer)
-        ensures { self.new.launched ≡ self.old.launched }
-    {
-        if let Some(excepts) = asks_for_refusals(request, answer) {
-            self.excepts = excepts;
+            Kind::Launch => {
+                self.launched = launch(alloc, files, counting, excepts, request, answer);
+            }
+            Kind::SetExceptionBreakpoints => {
+                set_filters(alloc, &mut self.excepts, request, answer);
+            }
+            _ => tell_early(alloc, request, answer),
         }
     }
 }
 
-/// Answers what is asked of a program that is launched, beside moves.
+/// Refuses a request of a client that is not known, but that to end.
+fn refuse_unknown(kind: Kind, answer: &mut Answer)
+    ensures refused { (kind ≡ Asks.Disconnect → ⊥) → IsRefusal answer.new.outcome }
+    ensures quiet { answer.new.notes ≡ answer.old.notes }
+{
+    match kind {
+        Kind::Disconnect => answer.did(),
+        _ => answer.refuse(102, "`initialize` comes first"),
+    }
+}
+
+/// Whether a client names files by paths.
+fn names_paths(request: &Request) -> bool
+    ensures { result ≡ names_paths (view request.now.arguments) }
+{
+    is_path(request.text("pathFormat"))
+}
+
+/// Whether files are named by paths, as they are where it is not said how.
+fn is_path(format: Option<&str>) -> bool
+    ensures { result ≡ is_path (option_map (λ s. s.now) format.entry) }
+{
+    match format {
+        Some(word) => word.as_bytes() == b"path".as_slice(),
+        None => true,
+    }
+}
+
+/// How a client counts.
+fn counting_of(request: &Request) -> Counting
+    ensures { result ≡ counting_of (view request.now.arguments) }
+{
+    Counting {
+        lines: base(request.flag("linesStartAt1", true)),
+        columns: base(request.flag("columnsStartAt1", true)),
+    }
+}
+
+/// Answers `launch` where nothing is launched: what it launches, if something.
+fn launch<F: Sources>(
+    alloc: Global,
+    files: &F,
+    counting: Counting,
+    excepts: bool,
+    request: &Request,
+    answer: &mut Answer,
+) -> Option<Launched>
+    ensures { Launches (F.reads files.now) counting excepts (view request.now.arguments) answer.new result }
+{
+    match start(alloc, files, counting, request.arguments(), answer) {
+        Some(found) => Some(keep(found, excepts, answer)),
+        None => {
+            note_none(answer);
+            None
+        }
+    }
+}
+
+/// Tells what was launched. Breakpoints can be judged only now, so `initialized` is told.
+fn keep(mut found: Launched, excepts: bool, answer: &mut Answer) -> Launched
+    ensures found { result ≡ excepting excepts found }
+    ensures done { IsDone answer.new.outcome }
+    ensures tells { EndsWith answer.new Tells.Initialized }
+{
+    found.program.excepts = excepts;
+    answer.outcome = Outcome::Done(None);
+    answer.tell(Told::Initialized);
+    found
+}
+
+/// Answers `setExceptionBreakpoints` before something is launched, and tells no event.
+fn set_filters(alloc: Global, excepts: &mut bool, request: &Request, answer: &mut Answer)
+    ensures excepts { excepts.new ≡ unwrap_or (filters_refused (view request.now.arguments)) excepts.old }
+    ensures quiet { answer.new.notes ≡ answer.old.notes }
+{
+    let notes = mem::replace(&mut answer.notes, Vec::new(alloc));
+    match asks_for_refusals(request, answer) {
+        Some(asked) => *excepts = asked,
+        None => {}
+    }
+    answer.notes = notes;
+}
+
+/// Answers what is asked of a program that is launched.
 fn ask_of<F: Sources>(
     alloc: Global,
     files: &F,
@@ -268,9 +302,22 @@ fn ask_of<F: Sources>(
     }
 }
 
-/// Answers before something is launched what needs nothing of a session.
-fn tell_early(alloc: Global, request: &Request, answer: &mut Answer) {
+/// Answers before something is launched what needs nothing of a session, and tells no event.
+fn tell_early(alloc: Global, request: &Request, answer: &mut Answer)
+    ensures refused { opens request.now.kind ≡ false → IsRefusal answer.new.outcome }
+    ensures quiet { answer.new.notes ≡ answer.old.notes }
+{
+    let notes = mem::replace(&mut answer.notes, Vec::new(alloc));
+    tell_none(alloc, request, answer);
+    answer.notes = notes;
+}
+
+/// Answers where nothing is launched what needs nothing of a session.
+fn tell_none(alloc: Global, request: &Request, answer: &mut Answer)
+    ensures { opens request.now.kind ≡ false → IsRefusal answer.new.outcome }
+{
     match request.kind {
+        Kind::Disconnect => answer.did(),
         Kind::Threads => {
             let mut body = Members::new(alloc);
             body.list("threads", Listed::new(alloc));
@@ -278,7 +325,6 @@ fn tell_early(alloc: Global, request: &Request, answer: &mut Answer) {
         }
         Kind::SetBreakpoints => set_before(alloc, request, answer),
         Kind::SetDataBreakpoints => set_data_before(alloc, request, answer),
-        Kind::Terminate => answer.tell(Told::Terminated),
         Kind::Attach => attach(answer),
         Kind::Other => unknown(answer),
         _ => answer.refuse(103, "nothing is launched yet"),
@@ -286,7 +332,9 @@ fn tell_early(alloc: Global, request: &Request, answer: &mut Answer) {
 }
 
 /// Refuses `attach`.
-pub(crate) fn attach(answer: &mut Answer) {
+pub(crate) fn attach(answer: &mut Answer)
+    ensures { IsRefusal answer.new.outcome }
+{
     answer.refuse(
         113,
         "there is nothing to attach to: `launch` starts the debugger on a source",
@@ -294,7 +342,9 @@ pub(crate) fn attach(answer: &mut Answer) {
 }
 
 /// Refuses a request that is not known.
-pub(crate) fn unknown(answer: &mut Answer) {
+pub(crate) fn unknown(answer: &mut Answer)
+    ensures { IsRefusal answer.new.outcome }
+{
     answer.refuse(101, "balsadbg does not know this request");
 }
 
@@ -306,7 +356,9 @@ fn ends_session(kind: Kind) -> bool
 }
 
 /// What is to be added to numbers of the client so that they count from 1.
-fn base(starts_at_one: bool) -> u64 {
+fn base(starts_at_one: bool) -> u64
+    ensures { result ≡ base starts_at_one }
+{
     if starts_at_one { 0 } else { 1 }
 }
 

@@ -61,7 +61,7 @@ pub(crate) fn start<F: Sources>(
     answer: &mut Answer,
 ) -> Option<Launched>
     ensures { IfSome result (λ launched. (asked : Asks)
-        × IsAsked (view arguments.now) asked × IsBegun (F.reads files.now) asked launched) }
+        × IsAsked (view arguments.now) asked × IsBegun (F.reads files.now) counting asked launched) }
 {
     match launch_of(alloc, arguments, answer) {
         Ok(asked) => start_as(alloc, files, counting, asked, answer),
@@ -88,7 +88,7 @@ pub(crate) fn start_as<F: Sources>(
     asked: Launch,
     answer: &mut Answer,
 ) -> Option<Launched>
-    ensures { IfSome result (λ launched. IsBegun (F.reads files.now) (asked_by asked) launched) }
+    ensures { IfSome result (λ launched. IsBegun (F.reads files.now) counting (asked_by asked) launched) }
 {
     match texts_of(alloc, files, &asked, answer) {
         Ok(texts) => start_on(alloc, counting, asked, texts, answer),
@@ -109,7 +109,7 @@ fn start_on(
 ) -> Option<Launched>
     ensures { IfSome result (λ launched. (m : AtMachine)
         × BeginsAt texts.source.items texts.stimulus.items (text_of texts.trace) m
-        × IsNew (asked_by asked) texts.source.items m launched) }
+        × IsNew (asked_by asked) counting texts.source.items m launched) }
 {
     match machine_of(alloc, &asked, &texts, counting, answer) {
         Ok(machine) => launched_on(alloc, asked, texts, counting, machine, answer),
@@ -129,7 +129,7 @@ fn launched_on(
     machine: Machine,
     answer: &mut Answer,
 ) -> Option<Launched>
-    ensures { IfSome result (IsNew (asked_by asked) texts.source.items machine) }
+    ensures { IfSome result (IsNew (asked_by asked) counting texts.source.items machine) }
 {
     match program_of(alloc, asked, texts, counting) {
         Ok(program) => Some(Launched {
@@ -170,7 +170,7 @@ fn program_of(
     texts: Texts,
     counting: Counting,
 ) -> Result<Program, AllocError>
-    ensures { IfOk result (IsUnset (asked_by launch) texts.source.items) }
+    ensures { IfOk result (IsUnset (asked_by launch) counting texts.source.items) }
 {
     match seen_in(alloc, texts.source.as_slice()) {
         Ok((index, lines)) => Ok(unset(alloc, launch, texts.source, index, lines, counting)),
@@ -194,7 +194,7 @@ fn unset(
     lines: Lines,
     counting: Counting,
 ) -> Program
-    ensures { IsUnset (asked_by launch) source.items result }
+    ensures { IsUnset (asked_by launch) counting source.items result }
 {
     Program {
         launch,

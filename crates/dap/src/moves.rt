@@ -1,14 +1,12 @@
 // Requests that ask a thread to move, or to stand.
-ghost use Rattle.std.specs.Prelude.{◌≡◌};
-ghost use Rattle.locked_execution.specs.AtDesk.{AtDesk};
-ghost use Rattle.dap_messages.specs.declared.told.Stop as stops;
+ghost use Rattle.dap_messages.specs.Notes.{IsDone, IsRefusal};
 ghost use Rattle.dap_moves.specs.Led.{Led};
 ghost use Rattle.dap_requests.specs.Said.{Runs};
 ghost use Rattle.dap_requests.specs.Typed.{KeepsSome};
-ghost use Rattle.dap.specs.Steps.{Backward, Forward, GoesOn, Steps, thread_of};
+ghost use Rattle.dap.specs.Steps.{Backward, Forward, GoesOn, IsDenied, Stays, Steps, thread_of};
 
 use dap_messages::{Answer, Kind, Request, Stop};
-use dap_moves::{Desk, Machine};
+use dap_moves::Desk;
 use dap_requests::{back_in, go_in, reverse, step_in, stop};
 use dap_threads::thread_in;
 use dap_views::{Memo, Program};
@@ -27,13 +25,14 @@ pub(crate) fn make_move(
     ensures goes { Runs answer.old answer.new desk.old desk.new
         (λ stop. Steps program.now memo.old.seen.items memo.new.seen.items desk.old request.now.kind request.now stop
         desk.new) }
+    ensures denied { IsDone answer.old.outcome → IsRefusal answer.new.outcome → IsDenied desk.old request.now }
     ensures keeps { KeepsSome answer.new memo.old.seen.items memo.new.seen.items }
 {
     match request.kind {
         Kind::StepBack => back(alloc, desk, program, memo, request, answer),
         Kind::Continue => go(alloc, desk, program, memo, request, answer),
         Kind::ReverseContinue => reverse(alloc, desk, program, memo, request, answer),
-        Kind::Pause => pause(alloc, desk.machine(), request, answer),
+        Kind::Pause => pause(alloc, desk, request, answer),
         _ => step(alloc, desk, program, memo, request, answer),
     }
 }
@@ -50,6 +49,7 @@ fn step(
     ensures led { Led desk.old desk.new }
     ensures goes { Runs answer.old answer.new desk.old desk.new
         (λ stop. Forward program.now.excepts desk.old request.now (thread_of desk.old request.now) stop desk.new) }
+    ensures denied { IsDone answer.old.outcome → IsRefusal answer.new.outcome → IsDenied desk.old request.now }
     ensures keeps { KeepsSome answer.new memo.old.seen.items memo.new.seen.items }
 {
     match thread_in(request, desk.machine(), answer) {
@@ -71,6 +71,7 @@ fn go(
     ensures goes { Runs answer.old answer.new desk.old desk.new
         (λ stop. GoesOn program.now memo.old.seen.items memo.new.seen.items desk.old request.now
         (thread_of desk.old request.now) stop desk.new) }
+    ensures denied { IsDone answer.old.outcome → IsRefusal answer.new.outcome → IsDenied desk.old request.now }
     ensures keeps { KeepsSome answer.new memo.old.seen.items memo.new.seen.items }
 {
     match thread_in(request, desk.machine(), answer) {
@@ -94,6 +95,7 @@ fn back(
     ensures led { Led desk.old desk.new }
     ensures goes { Runs answer.old answer.new desk.old desk.new
         (λ stop. Backward program.now.excepts desk.old (thread_of desk.old request.now) stop desk.new) }
+    ensures denied { IsDone answer.old.outcome → IsRefusal answer.new.outcome → IsDenied desk.old request.now }
     ensures keeps { KeepsSome answer.new memo.old.seen.items memo.new.seen.items }
 {
     match thread_in(request, desk.machine(), answer) {
@@ -103,10 +105,12 @@ fn back(
 }
 
 /// Answers `pause`. It is read only once a run has ended, so nothing moves: it tells that the thread stands.
-fn pause(alloc: Global, machine: &Machine, request: &Request, answer: &mut Answer)
-    ensures { (d : AtDesk) → Runs answer.old answer.new d d (λ stop. stop ≡ stops.Stop.Pause) }
+fn pause(alloc: Global, desk: &Desk, request: &Request, answer: &mut Answer)
+    ensures goes { Runs answer.old answer.new desk.now desk.now
+        (λ stop. Stays desk.now (thread_of desk.now request.now) stop desk.now) }
+    ensures denied { IsDone answer.old.outcome → IsRefusal answer.new.outcome → IsDenied desk.now request.now }
 {
-    match thread_in(request, machine, answer) {
+    match thread_in(request, desk.machine(), answer) {
         Some(branch) => stop(alloc, answer, Stop::Pause, branch, ""),
         None => {}
     }

@@ -36,8 +36,8 @@ pub(crate) fn restart<F: Sources>(
     }
 }
 
-/// Keeps in mind that nothing is launched anew: where that was not refused, there was no memory.
-fn note_none(answer: &mut Answer)
+/// Keeps in mind that nothing is launched: where that was not refused, there was no memory.
+pub(crate) fn note_none(answer: &mut Answer)
     ensures { NotDone answer.new }
 {
     match answer.outcome {
@@ -92,7 +92,7 @@ fn started_again<F: Sources>(
 ) -> Option<Launched>
     ensures { IfSome result (λ launched. (asked : Asks)
         × IsMeant (brought request.now) (asked_by program.now.launch) asked
-        × IsBegun (F.reads files.now) asked launched) }
+        × IsBegun (F.reads files.now) program.now.counting asked launched) }
 {
     match brought_by(request) {
         Some(arguments) => start(alloc, files, program.counting, arguments, answer),
@@ -138,7 +138,7 @@ fn start_same<F: Sources>(
     program: &Program,
     answer: &mut Answer,
 ) -> Option<Launched>
-    ensures { IfSome result (IsBegun (F.reads files.now) (asked_by program.now.launch)) }
+    ensures { IfSome result (IsBegun (F.reads files.now) program.now.counting (asked_by program.now.launch)) }
 {
     match same_launch(alloc, &program.launch) {
         Ok(asked) => start_as(alloc, files, program.counting, asked, answer),

@@ -1,8 +1,8 @@
 // A session over a reader and a writer.
-ghost use Rattle.std.specs.Prelude.{ℕ, ◌≡◌, ◌⊎◌, None, OnOk, false, true};
+ghost use Rattle.std.specs.Prelude.{ℕ, ◌≡◌, ◌⊎◌, OnOk, true};
 ghost use Rattle.std.specs.Io.KnownBytes.{IsAtEnd};
 ghost use Rattle.dap_server.specs.Session.{Serves};
-ghost use Rattle.dap.specs.Goes.{Comes, is_over};
+ghost use Rattle.dap.specs.Goes.{Comes, IsFresh, is_over};
 ghost use Rattle.dap.specs.declared.face.Face.{Face as Facing};
 
 use crate::{Face, Sources};
@@ -43,8 +43,7 @@ pub fn serve<R: Read, W: Write, F: Sources>(
     writer: &mut W,
     files: &F,
 ) -> Result<(), Fault>
-    ensures { OnOk result ((first : Facing) × (last : Facing) × (after : ℕ) × (first.launched ≡ None)
-        × (first.over ≡ false)
+    ensures { OnOk result ((first : Facing) × (last : Facing) × (after : ℕ) × IsFresh first
         × Serves (Comes (F.reads files.now)) is_over first 1 last after (R.remaining reader.old)
         (R.remaining reader.new) (W.contents writer.old) (W.contents writer.new)
         × ((last.over ≡ true) ⊎ IsAtEnd (R.remaining reader.new))) }

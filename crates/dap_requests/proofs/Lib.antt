@@ -1,4 +1,5 @@
 pub mod public
+mod Denying
 mod Forward
 mod Lines
 mod Placed

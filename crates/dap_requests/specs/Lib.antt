@@ -1,4 +1,5 @@
 pub mod Back
+pub mod Denied
 pub mod Forth
 pub mod Reading
 pub mod Said

@@ -14,6 +14,10 @@ pub fn targets(
     request: &Request,
     answer: &mut Answer,
 ) {
+    if request.number("frameId").is_none() {
+        answer.refuse(104, "`frameId` is missing or no number");
+        return;
+    }
     let Some((branch, _)) = frame_in(alloc, machine, program, request, answer) else {
         return;
     };

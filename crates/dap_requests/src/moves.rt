@@ -1,5 +1,6 @@
 // Requests to run: forth and back. Each that succeeds ends with one `stopped`.
-ghost use Rattle.std.specs.Prelude.{◌≡◌, ◌⊎◌, ◌++◌, [], ◌∷◌, MatchOption, Some, slice_get};
+ghost use Rattle.std.specs.Prelude.{◌≡◌, ◌⊎◌, ◌++◌, [], ◌∷◌, MatchOption, None, Some, codes, is_some, slice_get};
+ghost use Rattle.serde_json.specs.View.{view};
 ghost use Rattle.runs.specs.Choices.{choice_of};
 ghost use Rattle.runs.specs.Object.{Reaches};
 ghost use Rattle.runs.specs.Ready.{ReadyList};
@@ -11,10 +12,12 @@ ghost use Rattle.dap_moves.specs.Led.{Led};
 ghost use Rattle.dap_moves.specs.Moves.{targets};
 ghost use Rattle.dap_moves.specs.TakingBack.{GoesBack};
 ghost use Rattle.dap_moves.specs.declared.back.Back as moved;
-ghost use Rattle.dap_messages.specs.Notes.{IsRefusal};
+ghost use Rattle.dap_messages.specs.Arguments.{number_named, part_named};
+ghost use Rattle.dap_messages.specs.Notes.{IsDone, IsRefusal};
 ghost use Rattle.dap_messages.specs.declared.kind.Kind as asks;
 ghost use Rattle.dap_messages.specs.declared.told.Stop.{Stop as Stopped};
 ghost use Rattle.dap_requests.specs.Back.{Backs, Remembers, Reverses, ReversesFor, SeenBehind, stop_back, stop_behind};
+ghost use Rattle.dap_requests.specs.Denied.{NamesNoStep, NamesNoThread};
 ghost use Rattle.dap_requests.specs.Forth.{AreSeen, RunsBy, RunsFree, StepsForth, Takes, alone, going_of, stop_at, stop_of, target_in};
 ghost use Rattle.dap_requests.specs.Said.{Runs, TellsOutputs, TellsStop};
 
@@ -47,6 +50,7 @@ pub fn step_in(
     ensures system { desk.new.machine.checked ≡ desk.old.machine.checked }
     ensures goes { Runs answer.old answer.new desk.old desk.new
         (λ stop. StepsForth program.now.excepts desk.old branch (target_in request.now) stop desk.new) }
+    ensures denied { IsDone answer.old.outcome → IsRefusal answer.new.outcome → NamesNoStep request.now }
     ensures keeps { Remembers desk.old desk.new answer.new memo.old.seen.items memo.new.seen.items }
 {
     match target_asked(request, answer) {
@@ -58,7 +62,8 @@ pub fn step_in(
 /// The number of the step that is asked for among those that it can be, from 0. `stepIn` may name one, and is refused
 /// where it names none by a number from 1 on.
 fn target_asked(request: &Request, answer: &mut Answer) -> Option<u64>
-    ensures { MatchOption result (IsRefusal answer.new.outcome × (answer.new.notes ≡ answer.old.notes))
+    ensures { MatchOption result
+        (IsRefusal answer.new.outcome × (answer.new.notes ≡ answer.old.notes) × NamesNoStep request.now)
         (λ number. (number ≡ target_in request.now) × (answer.new ≡ answer.old)) }
 {
     match request.kind {
@@ -70,16 +75,55 @@ fn target_asked(request: &Request, answer: &mut Answer) -> Option<u64>
 /// The number of the step that `stepIn` names, from 0; the first where it names none.
 fn target_named(request: &Request, answer: &mut Answer) -> Option<u64>
     requires { request.now.kind ≡ asks.Kind.StepIn }
-    ensures { MatchOption result (IsRefusal answer.new.outcome × (answer.new.notes ≡ answer.old.notes))
+    ensures { MatchOption result
+        (IsRefusal answer.new.outcome × (answer.new.notes ≡ answer.old.notes) × NamesNoStep request.now)
         (λ number. (number ≡ target_in request.now) × (answer.new ≡ answer.old)) }
 {
     match request.number("targetId") {
-        Some(number) if number >= 1 => Some(number - 1),
-        None if request.part("targetId").is_none() => Some(0),
-        _ => {
-            answer.refuse(104, "`targetId` is no number from 1 on");
-            None
-        }
+        Some(number) => target_numbered(request, number, answer),
+        None => target_unnumbered(request, answer),
+    }
+}
+
+/// The step that `stepIn` names by this number, from 0.
+fn target_numbered(request: &Request, number: u64, answer: &mut Answer) -> Option<u64>
+    requires step { request.now.kind ≡ asks.Kind.StepIn }
+    requires named { number_named (codes "targetId") (view request.now.arguments) ≡ Some number }
+    ensures { MatchOption result
+        (IsRefusal answer.new.outcome × (answer.new.notes ≡ answer.old.notes) × NamesNoStep request.now)
+        (λ target. (target ≡ target_in request.now) × (answer.new ≡ answer.old)) }
+{
+    if number > 0 {
+        Some(number - 1)
+    } else {
+        answer.refuse(104, "`targetId` is no number from 1 on");
+        None
+    }
+}
+
+/// The first step, where `stepIn` names none.
+fn target_unnumbered(request: &Request, answer: &mut Answer) -> Option<u64>
+    requires step { request.now.kind ≡ asks.Kind.StepIn }
+    requires named { number_named (codes "targetId") (view request.now.arguments) ≡ None }
+    ensures { MatchOption result
+        (IsRefusal answer.new.outcome × (answer.new.notes ≡ answer.old.notes) × NamesNoStep request.now)
+        (λ target. (target ≡ target_in request.now) × (answer.new ≡ answer.old)) }
+{
+    if names_target(request) {
+        answer.refuse(104, "`targetId` is no number from 1 on");
+        None
+    } else {
+        Some(0)
+    }
+}
+
+/// Whether the request names a step.
+fn names_target(request: &Request) -> bool
+    ensures { result ≡ is_some (part_named (codes "targetId") (view request.now.arguments)) }
+{
+    match request.part("targetId") {
+        Some(_) => true,
+        None => false,
     }
 }
 
@@ -648,6 +692,7 @@ pub fn reverse(
     ensures system { desk.new.machine.checked ≡ desk.old.machine.checked }
     ensures goes { Runs answer.old answer.new desk.old desk.new
         (λ stop. ReversesFor program.now desk.old request.now stop desk.new memo.new.seen.items) }
+    ensures denied { IsDone answer.old.outcome → IsRefusal answer.new.outcome → NamesNoThread desk.old request.now }
     ensures keeps { Remembers desk.old desk.new answer.new memo.old.seen.items memo.new.seen.items }
 {
     match thread_in(request, desk.machine(), answer) {

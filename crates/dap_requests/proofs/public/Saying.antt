@@ -43,6 +43,15 @@ tells_one a b t body h = λ full. elim h.events [
 done_same : (x y : Outcome) → y ≡ x → IsDone x → IsDone y
 done_same x y same h = subst (λ (o : Outcome). IsDone o) (sym same) h
 
+-- what is done is not refused
+not-both : (o : Outcome) → IsDone o → IsRefusal o → ⊥
+not-both (Outcome.Done body) done refused = refused
+not-both (Outcome.Refused number words) done refused = done
+
+pub never_refused : (a m b : Answer) (stop : Stop) (X : Type 0) → m ≡ a → TellsStop m stop b → IsDone a.outcome → IsRefusal b.outcome → X
+never_refused a m b stop X same tells done refused =
+    absurd (not-both b.outcome (tells.done (subst (λ (x : Answer). IsDone x.outcome) (sym same) done)) refused)
+
 -- some, and then others
 pub tells_on : (a m b : Answer) (ts us : List Told) → Tells a ts m → Tells m us b → Tells a (ts ++ us) b
 tells_on a m b ts us h k = λ full.

@@ -1,12 +1,12 @@
 use Rattle.std.proofs.Common.{inl, inr}
-use Rattle.dap.proofs.Going.{begins_only, ends_free}
+use Rattle.dap.proofs.Going.{begun_debugged, begun_free}
 use Rattle.dap.proofs.begin.begin.Goals as goal
 
 pub returns-then-launched-clause-sets : goal.returns-then-launched-clause-sets
-returns-then-launched-clause-sets c = ends_free c.args.launched.now.program c.if-launched.true
+returns-then-launched-clause-sets c = begun_free c.args.launched.now.program c.if-launched.true
 
 pub returns-else-launched-clause-sets : goal.returns-else-launched-clause-sets
-returns-else-launched-clause-sets c = begins_only c.args.launched.now.program
+returns-else-launched-clause-sets c = begun_debugged c.args.launched.now.program c.if-launched.false
 
 pub returns-then-launched-clause-begins : goal.returns-then-launched-clause-begins
 returns-then-launched-clause-begins c = inr (c.if-launched.true, c.begin_free.ensures.ends, c.begin_free.ensures.runs)

@@ -1,29 +1,57 @@
-use Rattle.std.proofs.Common.{inl}
+use Rattle.std.proofs.Common.{None, refl}
 use Rattle.dap_messages.specs.declared.kind.Kind.{Kind}
-use Rattle.dap.proofs.Going.{sets_as, sets_none}
+use Rattle.dap_messages.specs.declared.told.Told.{Told}
+use Rattle.dap_requests.proofs.public.Saying.{tells_one}
+use Rattle.dap.proofs.Going.{sets_as, sets_none, tells_as, tells_none}
+use Rattle.dap.proofs.Stopping.{tells_last}
 use Rattle.dap.proofs.dispatch.look.Goals as goal
 
-pub returns-in-SetBreakpoints : goal.returns-in-SetBreakpoints
-returns-in-SetBreakpoints c =
+pub returns-in-SetBreakpoints-clause-sets : goal.returns-in-SetBreakpoints-clause-sets
+returns-in-SetBreakpoints-clause-sets c =
     sets_as c.args.request.now Kind.SetBreakpoints c.args.machine.now.checked.main c.args.program.now c.set_lines.new.program
     c.set_lines.new.answer c.in-SetBreakpoints.is c.set_lines.ensures
 
-pub returns-in-SetDataBreakpoints : goal.returns-in-SetDataBreakpoints
-returns-in-SetDataBreakpoints c =
-    sets_as c.args.request.now Kind.SetDataBreakpoints c.args.machine.now.checked.main c.args.program.now c.set_data.new.program
-    c.set_data.new.answer c.in-SetDataBreakpoints.is c.set_data.ensures
+pub returns-in-SetBreakpoints-clause-tells : goal.returns-in-SetBreakpoints-clause-tells
+returns-in-SetBreakpoints-clause-tells c =
+    tells_as c.args.request.now.kind Kind.SetBreakpoints c.args.answer.now c.set_lines.new.answer c.in-SetBreakpoints.is tt
 
-pub returns-in-SetExceptionBreakpoints : goal.returns-in-SetExceptionBreakpoints
-returns-in-SetExceptionBreakpoints c =
-    sets_as c.args.request.now Kind.SetExceptionBreakpoints c.args.machine.now.checked.main c.args.program.now c.set_exceptions.new.program
-    c.set_exceptions.new.answer c.in-SetExceptionBreakpoints.is c.set_exceptions.ensures
+pub returns-in-SetDataBreakpoints-clause-sets : goal.returns-in-SetDataBreakpoints-clause-sets
+returns-in-SetDataBreakpoints-clause-sets c =
+    sets_as c.args.request.now Kind.SetDataBreakpoints c.args.machine.now.checked.main c.args.program.now c.watch.new.program
+    c.watch.new.answer c.in-SetDataBreakpoints.is c.watch.ensures.sets
 
-pub returns-in-Terminate : goal.returns-in-Terminate
-returns-in-Terminate c =
+pub returns-in-SetDataBreakpoints-clause-tells : goal.returns-in-SetDataBreakpoints-clause-tells
+returns-in-SetDataBreakpoints-clause-tells c =
+    tells_as c.args.request.now.kind Kind.SetDataBreakpoints c.args.answer.now c.watch.new.answer c.in-SetDataBreakpoints.is
+    c.watch.ensures.quiet
+
+pub returns-in-SetExceptionBreakpoints-clause-sets : goal.returns-in-SetExceptionBreakpoints-clause-sets
+returns-in-SetExceptionBreakpoints-clause-sets c =
+    sets_as c.args.request.now Kind.SetExceptionBreakpoints c.args.machine.now.checked.main c.args.program.now c.filter.new.program
+    c.filter.new.answer c.in-SetExceptionBreakpoints.is c.filter.ensures.sets
+
+pub returns-in-SetExceptionBreakpoints-clause-tells : goal.returns-in-SetExceptionBreakpoints-clause-tells
+returns-in-SetExceptionBreakpoints-clause-tells c =
+    tells_as c.args.request.now.kind Kind.SetExceptionBreakpoints c.args.answer.now c.filter.new.answer c.in-SetExceptionBreakpoints.is
+    c.filter.ensures.quiet
+
+pub returns-in-Terminate-clause-sets : goal.returns-in-Terminate-clause-sets
+returns-in-Terminate-clause-sets c =
     sets_as c.args.request.now Kind.Terminate c.args.machine.now.checked.main c.args.program.now c.terminate.new.program
-    c.terminate.new.answer c.in-Terminate.is (inl c.terminate.ensures)
+    c.terminate.new.answer c.in-Terminate.is
+    (c.terminate.ensures.over, tells_last c.args.answer.now c.terminate.new.answer Told.Terminated None refl c.terminate.ensures.tells)
 
-pub returns-in_default : goal.returns-in_default
-returns-in_default c =
-    sets_none c.args.request.now c.args.machine.now.checked.main c.args.program.now c.show.new.answer c.in_default.not-SetBreakpoints
+pub returns-in-Terminate-clause-tells : goal.returns-in-Terminate-clause-tells
+returns-in-Terminate-clause-tells c =
+    tells_as c.args.request.now.kind Kind.Terminate c.args.answer.now c.terminate.new.answer c.in-Terminate.is
+    (tells_one c.args.answer.now c.terminate.new.answer Told.Terminated None c.terminate.ensures.tells)
+
+pub returns-in_default-clause-sets : goal.returns-in_default-clause-sets
+returns-in_default-clause-sets c =
+    sets_none c.args.request.now c.args.machine.now.checked.main c.args.program.now c.show.new.answer c.requires c.in_default.not-SetBreakpoints
     c.in_default.not-SetDataBreakpoints c.in_default.not-SetExceptionBreakpoints c.in_default.not-Terminate
+
+pub returns-in_default-clause-tells : goal.returns-in_default-clause-tells
+returns-in_default-clause-tells c =
+    tells_none c.args.request.now.kind c.args.answer.now c.show.new.answer c.in_default.not-SetBreakpoints c.in_default.not-Terminate
+    c.show.ensures

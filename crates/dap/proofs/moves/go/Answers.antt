@@ -1,10 +1,10 @@
-use Rattle.std.proofs.Common.{ℕ, Bool, Option, Some, refl, subst, inr}
+use Rattle.std.proofs.Common.{ℕ, Bool, Option, Some, refl, subst, inl, inr, ◌∙◌}
 use Rattle.dap_messages.specs.declared.told.Stop.{Stop}
 use Rattle.dap_requests.specs.Forth.{RunsBy, alone, going_of}
 use Rattle.dap_requests.specs.Said.{TellsStop}
-use Rattle.dap.specs.Steps.{GoesOn, thread_of}
-use Rattle.dap_requests.proofs.public.Saying.{runs_refused}
-use Rattle.dap.proofs.Going.{keeps_run, keeps_same, runs_in_thread}
+use Rattle.dap.specs.Steps.{GoesOn, IsDenied, thread_of}
+use Rattle.dap_requests.proofs.public.Saying.{never_refused, runs_refused}
+use Rattle.dap.proofs.Going.{keeps_run, keeps_same, runs_in_thread, thread_found}
 use Rattle.dap.proofs.moves.go.Goals as goal
 
 pub returns-in-Some-clause-goes : goal.returns-in-Some-clause-goes
@@ -24,6 +24,17 @@ returns-in-None-clause-goes c =
     runs_refused c.args.answer.now c.thread_in.new.answer c.args.desk.now c.args.desk.now
     (λ (stop : Stop). GoesOn c.args.program.now c.args.memo.now.seen.items c.args.memo.now.seen.items c.args.desk.now c.args.request.now (thread_of c.args.desk.now c.args.request.now) stop c.args.desk.now) c.in-None.ensures.outcome.0
     c.in-None.ensures.outcome.1 refl
+
+pub returns-in-Some-clause-denied : goal.returns-in-Some-clause-denied
+returns-in-Some-clause-denied c =
+    never_refused c.args.answer.now c.thread_in.new.answer c.go_in.new.answer c.go_in.ensures.goes.0
+    (IsDenied c.args.desk.now c.args.request.now) c.in-Some.ensures.outcome c.go_in.ensures.goes.1
+
+pub returns-in-None-clause-denied : goal.returns-in-None-clause-denied
+returns-in-None-clause-denied c = λ done refused.
+    inl
+    (thread_found c.args.desk.now c.machine.result.now c.args.request.now c.thread_in.result c.machine.ensures c.thread_in.ensures.thread
+    ∙ c.in-None.is)
 
 pub returns-in-Some-clause-keeps : goal.returns-in-Some-clause-keeps
 returns-in-Some-clause-keeps c =

@@ -1,6 +1,7 @@
+use Rattle.std.proofs.Common.{inl}
 use Rattle.dap_messages.specs.declared.kind.Kind.{Kind}
 use Rattle.dap_requests.proofs.public.Saying.{keeps_of}
-use Rattle.dap.proofs.Going.{keeps_same, pauses, steps_as, steps_forward}
+use Rattle.dap.proofs.Going.{keeps_same, steps_as, steps_forward}
 use Rattle.dap.proofs.moves.make_move.Goals as goal
 
 pub returns-in-StepBack-clause-goes : goal.returns-in-StepBack-clause-goes
@@ -27,11 +28,13 @@ returns-in-ReverseContinue-clause-keeps c =
 pub returns-in-Pause-clause-goes : goal.returns-in-Pause-clause-goes
 returns-in-Pause-clause-goes c =
     steps_as c.args.answer.now c.pause.new.answer c.args.program.now c.args.memo.now.seen.items c.args.memo.now.seen.items c.args.desk.now
-    c.args.desk.now c.args.request.now.kind Kind.Pause c.args.request.now c.in-Pause.is (pauses c.args.answer.now c.pause.new.answer
-    c.args.desk.now (c.pause.ensures c.args.desk.now))
+    c.args.desk.now c.args.request.now.kind Kind.Pause c.args.request.now c.in-Pause.is c.pause.ensures.goes
 
 pub returns-in-Pause-clause-keeps : goal.returns-in-Pause-clause-keeps
 returns-in-Pause-clause-keeps c = keeps_same c.pause.new.answer c.args.memo.now.seen.items
+
+pub returns-in-ReverseContinue-clause-denied : goal.returns-in-ReverseContinue-clause-denied
+returns-in-ReverseContinue-clause-denied c = λ done refused. inl (c.reverse.ensures.denied done refused)
 
 pub returns-in_default-clause-goes : goal.returns-in_default-clause-goes
 returns-in_default-clause-goes c =

@@ -1,8 +1,10 @@
 use Rattle.std.proofs.Common.{refl}
 use Rattle.dap_messages.specs.declared.told.Stop.{Stop}
 use Rattle.dap_requests.specs.Back.{ReversesFor}
+use Rattle.dap_requests.specs.Denied.{NamesNoThread}
+use Rattle.dap_requests.proofs.Denying.{no_thread}
 use Rattle.dap_requests.proofs.Forward.{remembers_same, reverses_thread}
-use Rattle.dap_requests.proofs.public.Saying.{runs_on, runs_refused}
+use Rattle.dap_requests.proofs.public.Saying.{never_refused, runs_on, runs_refused}
 use Rattle.dap_requests.proofs.moves.reverse.Goals as goal
 
 pub returns-in-Some-clause-goes : goal.returns-in-Some-clause-goes
@@ -23,6 +25,15 @@ returns-in-None-clause-goes c =
     runs_refused c.args.answer.now c.thread_in.new.answer c.args.desk.now c.args.desk.now
     (λ (stop : Stop). ReversesFor c.args.program.now c.args.desk.now c.args.request.now stop c.args.desk.now c.args.memo.now.seen.items) c.in-None.ensures.outcome.0
     c.in-None.ensures.outcome.1 refl
+
+pub returns-in-Some-clause-denied : goal.returns-in-Some-clause-denied
+returns-in-Some-clause-denied c =
+    never_refused c.args.answer.now c.thread_in.new.answer c.reverse_in.new.answer c.reverse_in.ensures.goes.0
+    (NamesNoThread c.args.desk.now c.args.request.now) c.in-Some.ensures.outcome c.reverse_in.ensures.goes.1
+
+pub returns-in-None-clause-denied : goal.returns-in-None-clause-denied
+returns-in-None-clause-denied c = λ done refused.
+    no_thread c.args.desk.now c.machine.result.now c.args.request.now c.thread_in.result c.machine.ensures c.thread_in.ensures.thread c.in-None.is
 
 pub returns-in-None-clause-keeps : goal.returns-in-None-clause-keeps
 returns-in-None-clause-keeps c =

@@ -1,19 +1,17 @@
-use Rattle.std.proofs.Common.{refl}
-use Rattle.dap_messages.specs.declared.kind.Kind.{Kind}
-use Rattle.dap.proofs.Going.{goes_nowhere, refused_goes}
+use Rattle.std.proofs.Common.{Some, ap, refl, sym, ◌∙◌, true, false}
+use Rattle.serde_json.specs.View.{view}
+use Rattle.dap_views.specs.declared.program.Counting.{Counting}
+use Rattle.dap.specs.Meeting.{names_paths}
+use Rattle.dap.proofs.Opening.{meets_by}
 use Rattle.dap.proofs.face.Face.meet.Goals as goal
 
-pub returns-in-Initialize : goal.returns-in-Initialize
-returns-in-Initialize c =
-    goes_nowhere c.args.self.now.launched c.initialize.new.self.launched c.args.request.now c.args.answer.now c.initialize.new.answer
-    Kind.Initialize c.in-Initialize.is refl refl (λ arguments c p. refl) c.initialize.ensures
+pub returns-then-names_paths-clause-client : goal.returns-then-names_paths-clause-client
+returns-then-names_paths-clause-client c = λ done.
+    meets_by (names_paths (view c.args.request.now.arguments)) true (view c.args.request.now.arguments) c.body.new.self
+    (Some c.counting_of.result) (sym c.names_paths.ensures ∙ c.if-names_paths.true)
+    (c.body.ensures.done (c.did.ensures.done done), ap (λ (k : Counting). Some k) c.counting_of.ensures)
 
-pub returns-in-Disconnect : goal.returns-in-Disconnect
-returns-in-Disconnect c =
-    goes_nowhere c.args.self.now.launched c.args.self.now.launched c.args.request.now c.args.answer.now c.did.new.self Kind.Disconnect
-    c.in-Disconnect.is refl refl (λ arguments c p. refl) refl
-
-pub returns-in_default : goal.returns-in_default
-returns-in_default c =
-    refused_goes c.args.self.now.launched c.args.request.now c.args.answer.now c.refuse_early.new.answer c.requires c.refuse_early.ensures.0
-    c.refuse_early.ensures.1
+pub returns-else-names_paths-clause-client : goal.returns-else-names_paths-clause-client
+returns-else-names_paths-clause-client c = λ done.
+    meets_by (names_paths (view c.args.request.now.arguments)) false (view c.args.request.now.arguments) c.refuse.new.self
+    c.args.self.now.client (sym c.names_paths.ensures ∙ c.if-names_paths.false) (c.refuse.ensures.refused, c.requires)
