@@ -1,20 +1,23 @@
 -- Which frames are listed.
-use Rattle.std.proofs.Common.{◌≡◌, ◌<◌, ◌≤◌, ◌+◌, ◌++◌, ◌∷◌, [], ◌∙◌, ℕ, List, Option, Some, None, codes, false, true, map, max, min, length, sym, ap, subst, arith, lit<}
-use Rattle.std.proofs.Math.Nat.{min-le_right}
+use Rattle.std.proofs.Common.{◌≡◌, ◌++◌, ◌∷◌, [], ◌∙◌, ℕ, List, Option, Some, None, codes, false, map, sym, ap, subst}
 use Rattle.std.proofs.lemmas.List.{map-append}
 use Rattle.serde_json.specs.Data.{Data, array, number, object, unsigned}
 use Rattle.serde_json.specs.Find.{get, get_member}
 use Rattle.serde_json.specs.View.{items_view, members_view, view}
 use Rattle.machine.specs.AtMachine.{AtMachine}
-use Rattle.system.specs.declared.system.System.{System}
-use Rattle.system_places.specs.SystemBranches.{branch_count, branches_of}
+use Rattle.system_places.specs.SystemBranches.{branch_count}
+use Rattle.dap_messages.specs.Arguments.{number_named}
+use Rattle.dap_messages.specs.Notes.{IsDoneWith, IsRefusal}
 use Rattle.dap_messages.specs.Written.{Has, Puts, Pushes}
+use Rattle.dap_messages.specs.declared.answer.Answer.{Answer}
 use Rattle.dap_messages.specs.declared.members.Listed.{Listed}
 use Rattle.dap_messages.specs.declared.members.Members.{Members}
 use Rattle.dap_messages.proofs.public.Held.{has_put}
-use Rattle.dap_threads.specs.Frames.{count_of}
-use Rattle.dap_threads.specs.Stack.{IsStack, ListsIds, asked_ids}
-use Rattle.dap_threads.specs.declared.frames.Frame.{Frame}
+use Rattle.dap_views.specs.declared.index.Index.{Index}
+use Rattle.dap_views.specs.declared.sight.Sight.{Sight}
+use Rattle.dap_threads.specs.Frames.{frame_count}
+use Rattle.dap_threads.specs.Stack.{IsStack, ListsFor, ListsFrames, ListsIds, asked_ids, first_in, levels_in}
+use Rattle.dap_threads.specs.Threads.{branch_named}
 
 -- one more is listed
 pub listed_more : (before after : Listed) (bare frame : Members) (ids : List ℕ) (id made : ℕ) → ListsIds before ids → made ≡ id →
@@ -29,18 +32,6 @@ listed_more before after bare frame ids id made h is puts push = λ full.
     ∙ ap (λ (x : Option Data). map (λ (n : ℕ). Some (number (unsigned n))) ids ++ x ∷ []) here
     ∙ sym (map-append (λ (n : ℕ). Some (number (unsigned n))) ids (id ∷ []))
 
--- a branch has a number below the greatest
-pub few_branches : (system : System) (branch : ℕ) → branch < branch_count system → branch < 4294967295
-few_branches system branch h =
-    let most : branch_count system ≤ 4294967295 = min-le_right (branches_of system.main + length system.environment) 4294967295 in
-    omega arith
-
--- a frame has few above it
-pub few_frames : (frames : List Frame) (count k : ℕ) → count ≡ count_of frames → k < count → k < 32768
-few_frames frames count k is h =
-    let most : count_of frames ≤ 1000 = min-le_right (max (length frames) 1) 1000 in
-    omega arith
-
 -- the list and the count are told
 pub stack_told : (body : Members) (list : Listed) (first levels branch count told : ℕ) → told ≡ count →
     Has body (codes "stackFrames") (array (items_view list.made.items)) → Has body (codes "totalFrames") (number (unsigned told)) →
@@ -52,3 +43,20 @@ stack_told body list first levels branch count told is lists total whole ids ful
   ids = ids (whole full);
   total = total full ∙ ap (λ (n : ℕ). Some (number (unsigned n))) is;
 }
+
+-- a request that names no thread is refused
+pub lists_none : (m : AtMachine) (index : Index) (seen : Option Sight) (d : Data) (b : Answer) (found : Option ℕ) →
+    found ≡ branch_named (branch_count m.checked) (number_named (codes "threadId") d) → found ≡ None → IsRefusal b.outcome →
+    ListsFrames m index seen d b
+lists_none m index seen d b found is none refused =
+    let to : ListsFor m index seen d None b = refused in
+    subst (λ (o : Option ℕ). ListsFor m index seen d o b) (sym none ∙ is) to
+
+-- of one that names a thread the frames are listed
+pub lists_some : (m : AtMachine) (index : Index) (seen : Option Sight) (sight : Sight) (d body : Data) (b : Answer) (found : Option ℕ) (k : ℕ) →
+    found ≡ branch_named (branch_count m.checked) (number_named (codes "threadId") d) → found ≡ Some k → seen ≡ Some sight →
+    IsDoneWith body b.outcome → IsStack (first_in d) (levels_in d) k (frame_count m index sight k) body → ListsFrames m index seen d b
+lists_some m index seen sight d body b found k is some shown done stack =
+    let to : ListsFor m index (Some sight) d (Some k) b = (body, done, stack) in
+    subst (λ (o : Option ℕ). ListsFor m index seen d o b) (sym some ∙ is)
+    (subst (λ (s : Option Sight). ListsFor m index s d (Some k) b) (sym shown) to)

@@ -4,13 +4,14 @@ use Rattle.std.proofs.Common.{◌≡◌, ◌<◌, ◌≤◌, ◌+◌, ◌-◌, �
 use Rattle.std.proofs.Math.Nat.{mod-lt, min-le_right}
 use Rattle.std.proofs.Math.Pow.{split}
 use Rattle.std.proofs.lemmas.Bool.Decides.{nat_tests}
+use Rattle.dap_messages.specs.declared.answer.Answer.{Answer}
 use Rattle.dap_moves.specs.Handles.{frame_id}
 use Rattle.dap_views.specs.declared.index.Index.{Index}
 use Rattle.dap_views.specs.declared.sight.Sight.{Sight}
 use Rattle.machine.specs.AtMachine.{AtMachine}
 use Rattle.runs.proofs.public.Options.{some-injective}
 use Rattle.system_places.specs.SystemBranches.{branch_count}
-use Rattle.dap_threads.specs.Frames.{FindsFrame, HasNoFrame, IsFrame, SeesCall, count_of, frame_count, frames_of}
+use Rattle.dap_threads.specs.Frames.{FindsFrame, FindsNamed, HasNoFrame, IsFrame, Misses, SeesCall, count_of, frame_count, frames_of}
 use Rattle.dap_threads.specs.declared.frames.Frame.{Frame}
 use Rattle.dap_threads.specs.Threads.{branch_of}
 
@@ -133,3 +134,25 @@ pub among_frames :
 among_frames m index sight id count branch r frames found tells ec e ef h =
     let P : List Frame → Type 0 = λ fs. IsAmong branch fs r.1 found in
     found-among m index sight id count branch r found tells ec e (subst P ef h)
+
+-- what is found by a number that is named
+pub finds_named : (m : AtMachine) (index : Index) (seen : Option Sight) (sight : Sight) (named : Option ℕ) (id : ℕ) (found : Option (ℕ × ℕ)) → seen ≡ Some sight →
+    named ≡ Some id → FindsFrame m index sight id found → FindsNamed m index seen named found
+finds_named m index seen sight named id found shown is h =
+    let to : FindsNamed m index (Some sight) (Some id) found = h in
+    subst (λ (s : Option Sight). FindsNamed m index s named found) (sym shown)
+    (subst (λ (o : Option ℕ). FindsNamed m index (Some sight) o found) (sym is) to)
+
+pub misses_named : (m : AtMachine) (index : Index) (seen : Option Sight) (sight : Sight) (named : Option ℕ) (id : ℕ) (b : Answer) → seen ≡ Some sight →
+    named ≡ Some id → Misses m index (Some sight) (Some id) b → Misses m index seen named b
+misses_named m index seen sight named id b shown is h =
+    subst (λ (s : Option Sight). Misses m index s named b) (sym shown)
+    (subst (λ (o : Option ℕ). Misses m index (Some sight) o b) (sym is) h)
+
+-- any frame, where none is named
+pub finds_any : (m : AtMachine) (index : Index) (seen : Option Sight) (sight : Sight) (named : Option ℕ) (one : ℕ × ℕ) → seen ≡ Some sight →
+    named ≡ None → FindsNamed m index seen named (Some one)
+finds_any m index seen sight named one shown none =
+    let to : FindsNamed m index (Some sight) None (Some one) = tt in
+    subst (λ (s : Option Sight). FindsNamed m index s named (Some one)) (sym shown)
+    (subst (λ (o : Option ℕ). FindsNamed m index (Some sight) o (Some one)) (sym none) to)

@@ -1,6 +1,5 @@
 // The frames of threads.
-ghost use Rattle.std.specs.Prelude.{◌≡◌, ◌++◌, ◌+◌, ◌≤◌, ◌<◌, false, true, None, Some, codes, map, slice_get, IfOk, MatchOption, OnOk};
-ghost use Rattle.std.specs.Option.{option_copied};
+ghost use Rattle.std.specs.Prelude.{◌≡◌, ◌++◌, ◌+◌, ◌≤◌, ◌<◌, false, true, None, Some, codes, map, slice_get, IfOk, IfSome, MatchOption, OnOk};
 ghost use Rattle.serde_json.specs.Data.{array, number, object, unsigned};
 ghost use Rattle.serde_json.specs.View.{items_view, members_view, view};
 ghost use Rattle.system_places.specs.SystemBranches.{branch_count};
@@ -41,6 +40,7 @@ pub fn thread_in(request: &Request, machine: &Machine, answer: &mut Answer) -> O
         (number_named (codes "threadId") (view request.now.arguments)) }
     ensures outcome { MatchOption result (IsRefusal answer.new.outcome × (answer.new.notes ≡ answer.old.notes))
         (λ _. answer.new ≡ answer.old) }
+    ensures counted { IfSome result (λ branch. branch < 4294967295) }
 {
     let Some(number) = request.number("threadId") else {
         answer.refuse(104, "`threadId` is missing or no number");
@@ -55,7 +55,8 @@ pub fn thread_in(request: &Request, machine: &Machine, answer: &mut Answer) -> O
 
 /// The branch of the thread of this number, where there are so many.
 fn branch_of(number: u64, count: u32) -> Option<u32>
-    ensures { result ≡ branch_of count number }
+    ensures branch { result ≡ branch_of count number }
+    ensures counted { IfSome result (λ branch. branch < 4294967295) }
 {
     if number >= 1 && number <= u64::from(count) {
         Some((number - 1) as u32)
@@ -96,7 +97,7 @@ fn stack(
     sight: &Sight,
     branch: u32,
 ) -> Members
-    requires { branch < branch_count machine.now.checked }
+    requires { branch < 4294967295 }
     ensures { result.lacks ≡ false
         → IsStack (first_in (view request.now.arguments)) (levels_in (view request.now.arguments)) branch
         (frame_count machine.now program.now.index sight.now branch) (object (members_view result.made.entries)) }
@@ -170,7 +171,7 @@ fn asked_frames(
     first: u64,
     levels: u64,
 ) -> Listed
-    requires { branch < branch_count machine.now.checked }
+    requires { branch < 4294967295 }
     ensures { ListsIds result (asked_ids first levels branch (count_of frames.now)) }
 {
     let mut list = Listed::new(alloc);
@@ -193,9 +194,11 @@ fn is_asked(first: u64, levels: u64, index: u64) -> bool
 
 /// The number of the frame of this index.
 fn id_of(branch: u32, index: u64) -> u64
-    ensures { branch < 4294967295 → index < 32768 → result ≡ model_id (branch + 1) index }
+    requires counted { branch < 4294967295 }
+    requires few { index < 1000 }
+    ensures { result ≡ model_id (branch + 1) index }
 {
-    frame_id(branch.saturating_add(1), index.min(32_767) as u16)
+    frame_id(branch + 1, index as u16)
 }
 
 /// The frame of this index: that of a place, or of a call around the first one; or of a branch that is done.
@@ -355,15 +358,15 @@ fn at_place(machine: &Machine, index: &Index, actions: &[LocalAction], number: u
 {
     Frame {
         action: Some(number),
-        call: call_of(machine, index, actions.get(number)),
+        call: call_of(machine, index, actions, number),
     }
 }
 
-/// The instance whose names are seen where the action stands; the root where there is none.
-fn call_of(machine: &Machine, index: &Index, offered: Option<&LocalAction>) -> usize
-    ensures { result ≡ call_of machine.now index.now (option_copied offered) }
+/// The instance whose names are seen where the action at this index stands; the root where there is none.
+fn call_of(machine: &Machine, index: &Index, actions: &[LocalAction], number: usize) -> usize
+    ensures { result ≡ call_of machine.now index.now (slice_get actions.now number) }
 {
-    match offered {
+    match actions.get(number) {
         Some(offered) => index.instance_at(machine, &offered.place),
         None => 0,
     }
@@ -408,7 +411,8 @@ fn add_places(
 
 /// How many of these frames there are to see.
 fn count_of(frames: &[Frame]) -> u64
-    ensures { result ≡ count_of frames.now }
+    ensures count { result ≡ count_of frames.now }
+    ensures few { result ≤ 1000 }
 {
     (frames.len() as u64).max(1).min(MOST_FRAMES)
 }
