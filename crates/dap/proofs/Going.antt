@@ -34,11 +34,12 @@ use Rattle.dap_views.specs.declared.program.Memo.{Memo}
 use Rattle.dap_views.specs.declared.program.Program.{Program}
 use Rattle.dap_views.specs.declared.sight.Sight.{Sight}
 use Rattle.dap.specs.Begins.{Begins, begun}
-use Rattle.dap.specs.Goes.{Goes, GoesOn, IsSound, LaunchedGoes, Restarts, TellsBy}
+use Rattle.dap.specs.Goes.{Goes, GoesOn, IsSeen, IsSound, LaunchedGoes, Restarts, TellsBy, seen_as}
 use Rattle.dap.specs.Kinds.{asks, begins, changes, is_active, types}
 use Rattle.dap.specs.Sets.{Sets, SetsBegun, SetsBy}
 use Rattle.dap.specs.Steps.{Forward, IsDenied, MayRefuse, Steps, thread_of}
 use Rattle.dap.specs.declared.launch.Launched.{Launched}
+use Rattle.dap.proofs.Seeing.{seen_still, sight_set}
 
 -- a desk that stays was led nowhere
 pub led_still : (d d' : AtDesk) → d' ≡ d → Led d d'
@@ -299,6 +300,7 @@ moves_goes l request a b d' memo is over waits led goes denied keeps =
       sets = sets-moving request l.desk.machine.checked.main (unseen l.program) b is;
       tells = λ reads. absurd (unchanging request.kind is reads);
       keeps = keeps;
+      sees = λ seen same. seen_still l.desk d' l.program.sight l.program.sight refl same seen;
     }
 
 -- one that only reads the desk
@@ -319,6 +321,8 @@ look_goes l request a b q still none sets tells = record {
   sets = sets-unseen request l.desk.machine.checked.main l.program q b sets;
   tells = λ reads. tells;
   keeps = keeps_same b l.memo.seen.items;
+  sees = λ seen same.
+      seen_still l.desk l.desk l.program.sight q.sight (sight_set request l.desk.machine.checked.main l.program q b sets) refl seen;
 }
 
 -- one that is held back
@@ -334,10 +338,11 @@ held-goes l request a b sets changing why refused same = record {
   moved = λ it. inl (refused, same, refl);
   denied = λ it done no. why;
   begins = λ it. inl (refused, same, refl);
-  evaluates = λ it. inl (refl, same);
+  evaluates = λ it. (l.program.sight, λ seen. seen, inl (refl, same));
   sets = sets;
   tells = λ reads. let no : true ≡ false = sym changing ∙ reads in absurd (cc);
   keeps = keeps_same b l.memo.seen.items;
+  sees = λ seen stays. seen;
 }
 
 -- since it is over
@@ -380,10 +385,11 @@ typed_goes l request a b d' memo asking other over waits led looks does refused 
       moved = λ is. let no : true ≡ false = sym is ∙ still in absurd (cc);
       denied = λ is done no. let wrong : true ≡ false = sym is ∙ still in absurd (cc);
       begins = λ same. absurd (other same);
-      evaluates = λ same. does;
+      evaluates = λ same. (l.program.sight, λ seen. seen, does);
       sets = typed-none request.kind (view request.arguments) l.desk.machine.checked.main (unseen l.program) b asking other;
       tells = λ reads. let no : true ≡ false = sym changing ∙ reads in absurd (cc);
       keeps = keeps;
+      sees = λ seen same. seen_still l.desk d' l.program.sight l.program.sight refl same seen;
     }
 
 -- how the first request to run begins, or is refused
@@ -411,6 +417,12 @@ begun-sets l m a b running h = elim h [
   | inr begins ↦ inl (begins.1, running, begins.2)
 ]
 
+begun-sight : (l m : Launched) (a b : Answer) → BeginsOrNot l m a b → m.program.sight ≡ l.program.sight
+begun-sight l m a b h = elim h [
+  | inl refused ↦ ap (λ (x : Launched). x.program.sight) refused.2
+  | inr begins ↦ ap (λ (x : Program). x.sight) begins.2
+]
+
 pub begins_goes : (l m : Launched) (request : Request) (a b : Answer) → request.kind ≡ Kind.ConfigurationDone →
     (l.program.ended ≡ true → (is_active request ≡ false) × (begins request.kind ≡ false)) → Led l.desk m.desk → BeginsOrNot l m a b →
     KeepsSome b l.memo.seen.items m.memo.seen.items → LaunchedGoes l request a b m
@@ -433,12 +445,10 @@ begins_goes l m request a b is over led h keeps =
           (sets_as request Kind.ConfigurationDone l.desk.machine.checked.main l.program m.program b is (begun-sets l m a b running h));
       tells = λ reads. let no : true ≡ false = sym changing ∙ reads in absurd (cc);
       keeps = keeps;
+      sees = λ seen same. seen_still l.desk m.desk l.program.sight m.program.sight (begun-sight l m a b h) same seen;
     }
 
--- what is shown of the state does not matter, nor what was refused before
-abbrev pub with_sight : Launched → Option Sight → Launched
-with_sight l sight = record l { program = record l.program { sight = sight } }
-
+-- what is shown of the state may be made anew, and what was refused before does not matter
 abbrev with-seen : Launched → Vec Choice Global → Launched
 with-seen m seen = record m { memo = record m.memo { seen = seen } }
 
@@ -447,10 +457,10 @@ goes-seen : (l m : Launched) (request : Request) (a b : Answer) (seen : Vec Choi
 goes-seen l m request a b seen same h = subst (λ (v : Vec Choice Global). LaunchedGoes l request a b (with-seen m v)) (sym same) h
 
 pub goes_unseen : (l m : Launched) (request : Request) (a b : Answer) (s t : Option Sight) (memo : Memo) → memo.seen ≡ m.memo.seen →
-    LaunchedGoes (with_sight l s) request a b m →
-    LaunchedGoes l request a b (record (with_sight m t) { memo = memo })
-goes_unseen l m request a b s t memo same goes =
-    let h = goes-seen (with_sight l s) m request a b memo.seen same goes in
+    (IsSeen l → IsSeen (seen_as l s)) → (IsSeen l → IsSeen (seen_as m t)) → LaunchedGoes (seen_as l s) request a b m →
+    LaunchedGoes l request a b (record (seen_as m t) { memo = memo })
+goes_unseen l m request a b s t memo same kept all goes =
+    let h = goes-seen (seen_as l s) m request a b memo.seen same goes in
     record {
       led = h.led;
       reads = h.reads;
@@ -461,10 +471,11 @@ goes_unseen l m request a b s t memo same goes =
       moved = h.moved;
       denied = h.denied;
       begins = h.begins;
-      evaluates = h.evaluates;
+      evaluates = λ is. let it = h.evaluates is in (it.0, λ seen. it.1 (kept seen), it.2);
       sets = h.sets;
       tells = h.tells;
       keeps = h.keeps;
+      sees = λ seen same. all seen;
     }
 
 -- the branch of a request's thread
@@ -498,18 +509,19 @@ runs_in_thread a m b d d' machine request found k goes same is some answer h =
 same : (x : Option Launched) (request : Request) (a b : Answer) → moves request.kind ≡ false → asks request.kind ≡ false → TellsBy request.kind a b →
     ((l : Launched) → x ≡ Some l → Sets request l.desk.machine.checked.main l.program b l.program) → GoesOn x request a b x
 same None request a b still none tells sets = tt
-same (Some l) request a b still none tells sets = look_goes l request a b l.program still none (sets l refl) tells
+same (Some l) request a b still none tells sets = (look_goes l request a b l.program still none (sets l refl) tells, λ seen. seen)
 
 -- what is launched goes on
 pub goes_on : (x y : Option Launched) (l m : Launched) (request : Request) (a b : Answer) → x ≡ Some l → y ≡ Some m → LaunchedGoes l request a b m →
-    GoesOn x request a b y
-goes_on x y l m request a b is there h =
-    let to : GoesOn (Some l) request a b (Some m) = h in
+    (IsSeen l → IsSeen m) → GoesOn x request a b y
+goes_on x y l m request a b is there h sees =
+    let to : GoesOn (Some l) request a b (Some m) = (h, sees) in
     subst (λ (z : Option Launched). GoesOn z request a b y) (sym is) (subst (λ (z : Option Launched). GoesOn (Some l) request a b z) (sym there) to)
 
 -- it goes on, or is begun anew
 pub goes_anew : (reads : List ℕ → Option (List ℕ) → Type 0) (x y : Option Launched) (l m : Launched) (request : Request) (a b : Answer) →
-    x ≡ Some l → y ≡ Some m → ((request.kind ≡ Kind.Restart) × Restarts reads l request b m) ⊎ LaunchedGoes l request a b m →
+    x ≡ Some l → y ≡ Some m →
+    ((request.kind ≡ Kind.Restart) × Restarts reads l request b m) ⊎ (LaunchedGoes l request a b m × (IsSeen l → IsSeen m)) →
     Goes reads x request a b y
 goes_anew reads x y l m request a b is there h =
     let to : Goes reads (Some l) request a b (Some m) = elim h [ inl anew ↦ inr anew | inr on ↦ inl on ] in

@@ -1,13 +1,16 @@
 -- What holds after the requests of a session.
-use Rattle.std.proofs.Common.{◌≡◌, ◌⊎◌, ◌+◌, ◌++◌, ◌∷◌, [], ℕ, List, length, Option, None, Some, true, inl, inr, sym, subst}
+use Rattle.std.proofs.Common.{◌≡◌, ◌⊎◌, ◌+◌, ◌++◌, ◌∷◌, [], ℕ, List, length, Option, None, Some, true, inl, inr, sym, subst, ap, ◌∙◌}
 use Rattle.std.specs.Prelude.{Ok, Err, OnOk, Result}
 use Rattle.std.specs.Io.KnownBytes.{IsAtEnd}
 use Rattle.dap_messages.specs.declared.answer.Answer.{Answer}
 use Rattle.dap_messages.specs.declared.request.Request.{Request}
 use Rattle.dap_moves.proofs.public.Leading.{led_nowhere, led_on}
 use Rattle.dap_server.specs.Session.{Serves, Session}
-use Rattle.dap.specs.Goes.{Comes, Goes, GoesNew, GoesOn, IsFresh, is_over}
-use Rattle.dap.specs.Laws.{IsLed, SessionIsLed}
+use Rattle.dap_views.specs.Seen.{Sees}
+use Rattle.dap_views.specs.declared.program.Program.{Program}
+use Rattle.dap_views.specs.declared.sight.Sight.{Sight}
+use Rattle.dap.specs.Goes.{Comes, Goes, GoesNew, GoesOn, IsFresh, IsSeen, is_over}
+use Rattle.dap.specs.Laws.{IsLed, IsTrueOf, SessionIsLed, SessionSees}
 use Rattle.dap.specs.declared.face.Face.{Face}
 use Rattle.dap.specs.declared.launch.Launched.{Launched}
 
@@ -17,7 +20,7 @@ led-on : (reads : List ℕ → Option (List ℕ) → Type 0) (x y : Option Launc
 led-on reads None None request a b led goes = tt
 led-on reads None (Some m) request a b led goes = absurd goes
 led-on reads (Some l) None request a b led goes = absurd goes
-led-on reads (Some l) (Some m) request a b led goes = (led.0, led.1, led.2, led.3, led_on led.2.desk l.desk m.desk led.4 goes.led)
+led-on reads (Some l) (Some m) request a b led goes = (led.0, led.1, led.2, led.3, led_on led.2.desk l.desk m.desk led.4 goes.0.led)
 
 -- one that begins anew
 led-new : (reads : List ℕ → Option (List ℕ) → Type 0) (x y : Option Launched) (request : Request) (b : Answer) → IsLed reads x →
@@ -44,6 +47,45 @@ session-is-led reads a b next (Some request ∷ heard) sent led session =
     session-is-led reads session.0 b (next + length session.1) heard session.2
     (led-one reads a.launched session.0.launched request session.4.answered.empty session.4.answer led session.4.answered.goes) session.5
 session-is-led reads a b next (None ∷ heard) sent led session = session-is-led reads a b (next + 1) heard session.1 led session.3
+
+-- of what has just begun nothing is shown
+new-seen : (m : Launched) → m.program.sight ≡ None → IsSeen m
+new-seen m none = let to : Sees m.desk.machine None = tt in subst (λ (s : Option Sight). Sees m.desk.machine s) (sym none) to
+
+-- what is shown is so, behind one request
+sees-on : (x y : Option Launched) (request : Request) (a b : Answer) → IsTrueOf x → GoesOn x request a b y → IsTrueOf y
+sees-on None None request a b seen goes = tt
+sees-on None (Some m) request a b seen goes = absurd goes
+sees-on (Some l) None request a b seen goes = absurd goes
+sees-on (Some l) (Some m) request a b seen goes = goes.1 seen
+
+sees-new : (reads : List ℕ → Option (List ℕ) → Type 0) (x y : Option Launched) (request : Request) (b : Answer) → IsTrueOf x →
+    GoesNew reads x request b y → IsTrueOf y
+sees-new reads None None request b seen goes = absurd goes
+sees-new reads (Some l) None request b seen goes = absurd goes
+sees-new reads None (Some m) request b seen goes = new-seen m goes.1.3.fresh.unset.sight
+sees-new reads (Some l) (Some m) request b seen goes = elim goes.1 [
+  | inl anew ↦
+      new-seen m
+      (ap (λ (p : Program). p.sight) anew.4.sets ∙ ap (λ (p : Program). p.sight) anew.4.keeps.same
+      ∙ anew.3.fresh.unset.sight)
+  | inr still ↦ subst (λ (n : Launched). IsTrueOf (Some n)) (sym still.0) seen
+]
+
+sees-one : (reads : List ℕ → Option (List ℕ) → Type 0) (x y : Option Launched) (request : Request) (a b : Answer) → IsTrueOf x →
+    Goes reads x request a b y → IsTrueOf y
+sees-one reads x y request a b seen goes = elim goes [
+  | inl on ↦ sees-on x y request a b seen on
+  | inr anew ↦ sees-new reads x y request b seen anew
+]
+
+-- behind all of them
+pub session-sees : (reads : List ℕ → Option (List ℕ) → Type 0) → SessionSees reads
+session-sees reads a b next [] sent seen session = subst (λ (f : Face). IsTrueOf f.launched) (sym session.1) seen
+session-sees reads a b next (Some request ∷ heard) sent seen session =
+    session-sees reads session.0 b (next + length session.1) heard session.2
+    (sees-one reads a.launched session.0.launched request session.4.answered.empty session.4.answer seen session.4.answered.goes) session.5
+session-sees reads a b next (None ∷ heard) sent seen session = session-sees reads a b (next + 1) heard session.1 seen session.3
 
 -- a session with a client that has just come, which ends well
 pub served : {X E : Type 0} (reads : List ℕ → Option (List ℕ) → Type 0) (r : Result X E) (a b : Face) (came left u v : Option (List ℕ)) → IsFresh a →

@@ -4,4 +4,5 @@ mod Keeping
 mod Lawful
 mod Machines
 mod Opening
+mod Seeing
 mod Stopping

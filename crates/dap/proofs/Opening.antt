@@ -116,6 +116,7 @@ begun-excepting reads counting asked excepts l h = record {
       watched = h.fresh.unset.watched;
       waits = h.fresh.unset.waits;
       lasts = h.fresh.unset.lasts;
+      sight = h.fresh.unset.sight;
     };
     seen = h.fresh.seen;
     desk = h.fresh.desk;

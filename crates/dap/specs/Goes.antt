@@ -13,7 +13,9 @@ use Rattle.dap_requests.specs.Said.{Runs, Tells}
 use Rattle.dap_requests.specs.Typed.{Evaluates, KeepsSome, is_typed}
 use Rattle.dap_server.specs.Kinds.{moves}
 use Rattle.dap_views.specs.Kept.{unseen}
+use Rattle.dap_views.specs.Seen.{Sees}
 use Rattle.dap_views.specs.declared.program.Counting.{Counting}
+use Rattle.dap_views.specs.declared.sight.Sight.{Sight}
 use Rattle.dap.specs.Anew.{GoesAnew, IsMeant, brought}
 use Rattle.dap.specs.Asking.{Asks, IsAsked, asked_by}
 use Rattle.dap.specs.Begins.{Begins}
@@ -28,6 +30,14 @@ use Rattle.dap.specs.Stops.{NotDone, StopsOnce}
 use Rattle.dap.specs.declared.face.Face.{Face}
 use Rattle.dap.specs.declared.launch.Launched.{Launched}
 
+-- what is shown of the state is so in the state of its machine
+abbrev pub IsSeen : Launched → Type 0
+IsSeen l = Sees l.desk.machine l.program.sight
+
+-- the same, where this is shown of the state
+abbrev pub seen_as : Launched → Option Sight → Launched
+seen_as l sight = record l { program = record l.program { sight = sight } }
+
 -- which events a request of this kind tells that changes nothing on the desk: `terminate` that it is over; where
 -- breakpoints are set on lines that is not said here; all others tell none
 abbrev pub TellsBy : Kind → Answer → Answer → Type 0
@@ -38,7 +48,8 @@ TellsBy _ a b = b.notes ≡ a.notes
 -- what a request that is answered so, from a to b, does to what is launched: the desk is what some commands of sessions
 -- leave, and the same where the request only reads, where it is refused, where words are only looked at, where the run
 -- has not begun, or where the client was told that it is over; a request to run moves it as it should, or is refused
--- for one of three reasons; a line that is typed does what it asks for; and each sets what it asks for alone
+-- for one of three reasons; a line that is typed does what it asks for, where its frame is one of the state; each sets
+-- what it asks for alone; and what is shown of the state is so where the desk stays
 pub record LaunchedGoes (l : Launched) (request : Request) (a b : Answer) (m : Launched) : Type 0 where
   pub led : Led l.desk m.desk
   pub reads : changes request.kind ≡ false → m.desk ≡ l.desk
@@ -52,10 +63,13 @@ pub record LaunchedGoes (l : Launched) (request : Request) (a b : Answer) (m : L
   pub denied : moves request.kind ≡ true → IsDone a.outcome → IsRefusal b.outcome → MayRefuse l.program l.desk request
   pub begins : request.kind ≡ Kind.ConfigurationDone →
       (IsRefusal b.outcome × (b.notes ≡ a.notes) × (m.desk ≡ l.desk)) ⊎ Begins l m a b
-  pub evaluates : request.kind ≡ Kind.Evaluate → Evaluates l.program request l.desk a b m.desk
+  pub evaluates : request.kind ≡ Kind.Evaluate →
+      (sight : Option Sight) × (IsSeen l → IsSeen (seen_as l sight))
+      × Evaluates (seen_as l sight).program request l.desk a b m.desk
   pub sets : Sets request l.desk.machine.checked.main (unseen l.program) b (unseen m.program)
   pub tells : changes request.kind ≡ false → TellsBy request.kind a b
   pub keeps : KeepsSome b l.memo.seen.items m.memo.seen.items
+  pub sees : IsSeen l → m.desk ≡ l.desk → IsSeen m
 
 -- a restart launches what its arguments name, where they name a program, and else the same again, from the files as
 -- they are now; what the client had set is kept, and it begins; or all is as it was
@@ -65,10 +79,10 @@ Restarts reads l request b m =
     × IsBegun reads l.program.counting asked anew × GoesAnew l anew b m)
     ⊎ ((m ≡ l) × NotDone b)
 
--- what is launched goes on as a request says, and nothing else is launched
+-- what is launched goes on as a request says, and nothing else is launched; requests look at the state as it is
 abbrev pub GoesOn : Option Launched → Request → Answer → Answer → Option Launched → Type 0
 GoesOn None request a b None = Unit {0}
-GoesOn (Some l) request a b (Some m) = LaunchedGoes l request a b m
+GoesOn (Some l) request a b (Some m) = LaunchedGoes l request a b m × (IsSeen l → IsSeen m)
 GoesOn _ request a b _ = ⊥
 
 -- nothing was launched, and a launch begins what its arguments ask for; or a restart begins anew, or was refused

@@ -44,3 +44,7 @@ types _ typed = false
 -- whether it asks a thread to move, or is a line that is typed
 abbrev pub is_active : Request → Bool
 is_active request = moves request.kind || types request.kind (is_typed request)
+
+-- whether a request may change the desk: one of these, or one that begins the run
+abbrev pub may_move : Request → Bool
+may_move request = is_active request || begins request.kind

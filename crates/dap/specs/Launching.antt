@@ -22,7 +22,7 @@ abbrev pub BeginsAt : List ℕ → List ℕ → Option (List ℕ) → AtMachine 
 BeginsAt source stimulus trace m = (system : System) × AcceptedAs source stimulus system × BeginsOn system trace m
 
 -- the program of this launch over this source, for a client that counts so, on which nothing is set, and which has not
--- begun
+-- begun; nothing is shown of its state yet
 pub record IsUnset (asked : Asks) (counting : Counting) (source : List ℕ) (p : Program) : Type 0 where
   pub launch : asked_by p.launch ≡ asked
   pub counts : p.counting ≡ counting
@@ -32,6 +32,7 @@ pub record IsUnset (asked : Asks) (counting : Counting) (source : List ℕ) (p :
   pub watched : p.watched.items ≡ []
   pub waits : p.begun ≡ false
   pub lasts : p.ended ≡ false
+  pub sight : p.sight ≡ None
 
 -- such a program with a new desk on this machine
 pub record IsNew (asked : Asks) (counting : Counting) (source : List ℕ) (m : AtMachine) (l : Launched) : Type 0 where

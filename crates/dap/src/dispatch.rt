@@ -6,8 +6,9 @@ ghost use Rattle.dap_messages.specs.declared.told.Told.{Told as Tells};
 ghost use Rattle.dap_requests.specs.Sets.{SetsExcepts, SetsWatched};
 ghost use Rattle.dap_server.specs.Kinds.{moves};
 ghost use Rattle.dap_views.specs.Kept.{unseen};
-ghost use Rattle.dap.specs.Goes.{LaunchedGoes, TellsBy};
-ghost use Rattle.dap.specs.Kinds.{asks, begins, is_active, types};
+ghost use Rattle.dap_views.specs.Seen.{Sees};
+ghost use Rattle.dap.specs.Goes.{IsSeen, LaunchedGoes, TellsBy};
+ghost use Rattle.dap.specs.Kinds.{asks, begins, is_active, may_move, types};
 ghost use Rattle.dap.specs.Sets.{Sets};
 
 use crate::begin::begin_once;
@@ -33,7 +34,8 @@ pub(crate) fn perform(
     request: &Request,
     answer: &mut Answer,
 )
-    ensures { LaunchedGoes launched.old request.now answer.old answer.new launched.new }
+    ensures goes { LaunchedGoes launched.old request.now answer.old answer.new launched.new }
+    ensures sees { IsSeen launched.old → IsSeen launched.new }
 {
     keep_sight(launched.desk.machine(), &mut launched.program.sight);
     act(alloc, launched, request, answer);
@@ -43,23 +45,42 @@ pub(crate) fn perform(
 }
 
 /// Whether the request may move something.
-fn may_move(request: &Request) -> bool {
-    is_move(request.kind) || request.kind == Kind::ConfigurationDone || is_typed(request)
+fn may_move(request: &Request) -> bool
+    ensures { result ≡ may_move request.now }
+{
+    let active = is_active(request);
+    let first = is_first(request.kind);
+    active || first
 }
 
 /// Looks at what the state offers anew where something may have moved.
-fn renew_sight(machine: &Machine, sight: &mut Option<Sight>, moved: bool) {
+fn renew_sight(machine: &Machine, sight: &mut Option<Sight>, moved: bool)
+    ensures { (moved ≡ false → Sees machine.now sight.old) → Sees machine.now sight.new }
+{
     if moved {
-        *sight = None;
+        look_anew(machine, sight);
+    } else {
+        keep_sight(machine, sight);
     }
-    keep_sight(machine, sight);
 }
 
-/// Looks at what the state offers, where that is not known. Without memory it stays unknown.
-fn keep_sight(machine: &Machine, sight: &mut Option<Sight>) {
+/// Looks at what the state offers, where that is not known.
+fn keep_sight(machine: &Machine, sight: &mut Option<Sight>)
+    ensures { Sees machine.now sight.old → Sees machine.now sight.new }
+{
     if sight.is_none() {
-        *sight = sight_of(machine).ok();
+        look_anew(machine, sight);
     }
+}
+
+/// Looks at what the state offers. Without memory it is not known.
+fn look_anew(machine: &Machine, sight: &mut Option<Sight>)
+    ensures { Sees machine.now sight.new }
+{
+    *sight = match sight_of(machine) {
+        Ok(found) => Some(found),
+        Err(_) => None,
+    };
 }
 
 /// Forgets the refusal of before where the client was told of another stop.

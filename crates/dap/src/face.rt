@@ -8,7 +8,7 @@ ghost use Rattle.dap_messages.specs.declared.told.Told.{Told as Tells};
 ghost use Rattle.dap_requests.specs.Sets.{filters_refused};
 ghost use Rattle.dap.specs.Anew.{excepting};
 ghost use Rattle.dap.specs.Early.{EarlyBy, Launches};
-ghost use Rattle.dap.specs.Goes.{Comes, Early, Goes, IsFresh, IsSound, LaunchedGoes, Restarts};
+ghost use Rattle.dap.specs.Goes.{Comes, Early, Goes, IsFresh, IsSeen, IsSound, LaunchedGoes, Restarts};
 ghost use Rattle.dap.specs.Kinds.{ends, opens};
 ghost use Rattle.dap.specs.Meeting.{ClientBy, Meets, MeetsBy, base, counting_of, is_path, names_paths};
 ghost use Rattle.dap.specs.Meeting.{excepts_behind, excepts_by, excepts_early};
@@ -291,7 +291,8 @@ fn ask_of<F: Sources>(
 )
     ensures { ((request.now.kind ≡ Asks.Restart)
         × Restarts (F.reads files.now) launched.old request.now answer.new launched.new)
-        ⊎ LaunchedGoes launched.old request.now answer.old answer.new launched.new }
+        ⊎ (LaunchedGoes launched.old request.now answer.old answer.new launched.new
+        × (IsSeen launched.old → IsSeen launched.new)) }
 {
     match request.kind {
         Kind::Restart => restart(alloc, files, launched, request, answer),

@@ -1,6 +1,6 @@
 -- What typed lines do to a desk.
-use Rattle.std.proofs.Common.{◌≡◌, ◌⊎◌, ℕ, Bool, true, false, List, [], ◌∷◌, ◌++◌, None, codes, inl, inr, sym, ap, subst, ◌∙◌}
-use Rattle.system.specs.declared.system.System.{System}
+use Rattle.std.proofs.Common.{◌≡◌, ◌⊎◌, ℕ, Bool, true, false, List, [], ◌∷◌, ◌++◌, None, Some, codes, inl, inr, sym, ap, subst, ◌∙◌}
+use Rattle.machine.specs.AtMachine.{AtMachine}
 use Rattle.serde_json.specs.View.{view}
 use Rattle.runs.specs.declared.event.Choice.{Choice}
 use Rattle.locked_execution.specs.AtDesk.{AtDesk}
@@ -16,7 +16,7 @@ use Rattle.dap_messages.specs.declared.answer.Note.{Note}
 use Rattle.dap_messages.specs.declared.request.Request.{Request}
 use Rattle.dap_messages.specs.declared.told.Stop.{Stop}
 use Rattle.dap_messages.specs.declared.told.Told.{Told}
-use Rattle.dap_threads.specs.Frames.{HasFrame}
+use Rattle.dap_threads.specs.Frames.{FindsNamed}
 use Rattle.dap_views.specs.declared.program.Program.{Program}
 use Rattle.dap_requests.specs.Back.{Backs, Reverses}
 use Rattle.dap_requests.specs.Said.{TellsStop, TellsTexts}
@@ -79,16 +79,16 @@ line_rewinds x d d' k a m b line back kept one off other same lacks done h = eli
 ]
 
 -- what the line of a request does
-pub evaluates_line : (x : Program) (request : Request) (d d' : AtDesk) (system : System) (k : ℕ) (line : List ℕ) (a m b : Answer) → system ≡ d.machine.checked →
-    HasFrame system (number_named (codes "frameId") (view request.arguments)) k → line ≡ line_in request → m ≡ a →
+pub evaluates_line : (x : Program) (request : Request) (d d' : AtDesk) (machine : AtMachine) (k call : ℕ) (line : List ℕ) (a m b : Answer) → machine ≡ d.machine →
+    FindsNamed machine x.index x.sight (number_named (codes "frameId") (view request.arguments)) (Some (k, call)) → line ≡ line_in request → m ≡ a →
     DoesNothing d m b d' ⊎ LineDoes x d k line m b d' → Evaluates x request d a b d'
-evaluates_line x request d d' system k line a m b own frame is same h =
+evaluates_line x request d d' machine k call line a m b own frame is same h =
     let named = number_named (codes "frameId") (view request.arguments) in
-    let here = subst (λ (s : System). HasFrame s named k) own frame in
+    let here = subst (λ (n : AtMachine). FindsNamed n x.index x.sight named (Some (k, call))) own frame in
     let does = subst (λ (y : Answer). DoesNothing d y b d' ⊎ LineDoes x d k line y b d') same h in
     elim does [
       | inl none ↦ inl none
-      | inr done ↦ inr (k, here, subst (λ (l : List ℕ). LineDoes x d k l a b d') is done)
+      | inr done ↦ inr (k, (call, here), subst (λ (l : List ℕ). LineDoes x d k l a b d') is done)
     ]
 
 -- a desk that stays

@@ -108,5 +108,6 @@ DoesNothing d a b d' = (d' ≡ d) × (b.notes ≡ a.notes)
 abbrev pub Evaluates : Program → Request → AtDesk → Answer → Answer → AtDesk → Type 0
 Evaluates program request d a b d' =
     DoesNothing d a b d'
-    ⊎ ((k : ℕ) × HasFrame d.machine.checked (number_named (codes "frameId") (view request.arguments)) k
+    ⊎ ((k : ℕ)
+    × HasFrame d.machine program.index program.sight (number_named (codes "frameId") (view request.arguments)) k
     × LineDoes program d k (line_in request) a b d')

@@ -1,14 +1,18 @@
 -- The numbers of threads and frames.
+use Rattle.std.specs.Prelude.{MatchOption, slice_get}
 use Rattle.std.proofs.Common.{◌≡◌, ◌<◌, ◌≤◌, ◌+◌, ◌-◌, ◌^◌, ◌/◌, ◌%◌, ◌&&◌, ◌∙◌, ℕ, List, Option, Some, None, Bool, true, false, refl, sym, ap, subst, min, max, length, if◌then◌else◌, arith, lit<, nat_lt}
 use Rattle.std.proofs.Math.Nat.{mod-lt, min-le_right}
 use Rattle.std.proofs.Math.Pow.{split}
 use Rattle.std.proofs.lemmas.Bool.Decides.{nat_tests}
+use Rattle.dap_messages.specs.declared.answer.Answer.{Answer}
 use Rattle.dap_moves.specs.Handles.{frame_id}
-use Rattle.local_actions.specs.declared.action.LocalAction.{LocalAction}
+use Rattle.dap_views.specs.declared.index.Index.{Index}
+use Rattle.dap_views.specs.declared.sight.Sight.{Sight}
+use Rattle.machine.specs.AtMachine.{AtMachine}
 use Rattle.runs.proofs.public.Options.{some-injective}
-use Rattle.system.specs.declared.system.System.{System}
 use Rattle.system_places.specs.SystemBranches.{branch_count}
-use Rattle.dap_threads.specs.Frames.{HasNoFrame, IsFrame, frame_count, places_below}
+use Rattle.dap_threads.specs.Frames.{FindsFrame, FindsNamed, HasNoFrame, IsFrame, Misses, SeesCall, count_of, frame_count, frames_of}
+use Rattle.dap_threads.specs.declared.frames.Frame.{Frame}
 use Rattle.dap_threads.specs.Threads.{branch_of}
 
 -- what is told of the parts of a number by `frame_of`
@@ -46,68 +50,109 @@ branch-there count branch small =
     ∙ ap (λ n. Some n) less
 
 -- a frame has few frames above it
-frame-small : (system : System) (actions : List LocalAction) (branch k : ℕ) → k < frame_count system actions branch → k < 2 ^ 15
-frame-small system actions branch k h =
-    let most : frame_count system actions branch ≤ 1000 = min-le_right (max (places_below system actions branch (length actions)) 1) 1000 in
+frame-small : (m : AtMachine) (index : Index) (sight : Sight) (branch k : ℕ) → k < frame_count m index sight branch → k < 2 ^ 15
+frame-small m index sight branch k h =
+    let most : frame_count m index sight branch ≤ 1000 = min-le_right (max (length (frames_of m index sight branch)) 1) 1000 in
     let low : 1000 < 2 ^ 15 = lit< tt in
     omega arith
 
--- the frame of the parts of a number
-pub is-frame :
-    (system : System) (actions : List LocalAction) (id count frames branch : ℕ) (r : ℕ × ℕ)
-    → TellsParts id r
-    → count ≡ branch_count system
-    → branch_of count r.0 ≡ Some branch
-    → frames ≡ frame_count system actions branch
-    → r.1 < frames
-    → IsFrame system actions id branch r.1
-is-frame system actions id count frames branch r tells ec e ef small =
-    let found = branch-found count r.0 branch e in
-    let P : ℕ → Type 0 = λ t. frame_id t r.1 ≡ id in
-    let Q : ℕ → Type 0 = λ n. branch < n in
-    let R : ℕ → Type 0 = λ n. r.1 < n in
-    (subst P (sym found.0) (parts-of id r tells), subst Q ec found.1, subst R ef small)
-
 -- a frame of the number is that of its parts
-parts-are : (system : System) (actions : List LocalAction) (id branch k : ℕ) (r : ℕ × ℕ) → TellsParts id r → IsFrame system actions id branch k → r ≡ (branch + 1, k)
-parts-are system actions id branch k r tells f = tells (branch + 1) k (frame-small system actions branch k f.2) f.0
+parts-are : (m : AtMachine) (index : Index) (sight : Sight) (id branch k : ℕ) (r : ℕ × ℕ) → TellsParts id r → IsFrame m index sight id branch k → r ≡ (branch + 1, k)
+parts-are m index sight id branch k r tells f = tells (branch + 1) k (frame-small m index sight branch k f.2) f.0
 
 -- the branch of the thread is found where there is a frame
 frame-branch :
-    (system : System) (actions : List LocalAction) (id count branch k : ℕ) (r : ℕ × ℕ)
+    (m : AtMachine) (index : Index) (sight : Sight) (id count branch k : ℕ) (r : ℕ × ℕ)
     → TellsParts id r
-    → count ≡ branch_count system
-    → IsFrame system actions id branch k
+    → count ≡ branch_count m.checked
+    → IsFrame m index sight id branch k
     → branch_of count r.0 ≡ Some branch
-frame-branch system actions id count branch k r tells ec f =
+frame-branch m index sight id count branch k r tells ec f =
     let Q : ℕ → Type 0 = λ n. branch < n in
-    ap (λ q. branch_of count q.0) (parts-are system actions id branch k r tells f) ∙ branch-there count branch (subst Q (sym ec) f.1)
+    ap (λ q. branch_of count q.0) (parts-are m index sight id branch k r tells f) ∙ branch-there count branch (subst Q (sym ec) f.1)
 
 -- none, where no branch is found
 pub no-branch :
-    (system : System) (actions : List LocalAction) (id count : ℕ) (r : ℕ × ℕ)
+    (m : AtMachine) (index : Index) (sight : Sight) (id count : ℕ) (r : ℕ × ℕ)
     → TellsParts id r
-    → count ≡ branch_count system
+    → count ≡ branch_count m.checked
     → branch_of count r.0 ≡ None
-    → HasNoFrame system actions id
-no-branch system actions id count r tells ec none branch k f =
-    let both : None ≡ Some branch = sym none ∙ frame-branch system actions id count branch k r tells ec f in cc
+    → HasNoFrame m index sight id
+no-branch m index sight id count r tells ec none branch k f =
+    let both : None ≡ Some branch = sym none ∙ frame-branch m index sight id count branch k r tells ec f in cc
 
 -- none, where the index is behind the frames of the branch
-pub none-behind :
-    (system : System) (actions : List LocalAction) (id count frames found : ℕ) (r : ℕ × ℕ)
+none-behind :
+    (m : AtMachine) (index : Index) (sight : Sight) (id count found : ℕ) (r : ℕ × ℕ)
     → TellsParts id r
-    → count ≡ branch_count system
+    → count ≡ branch_count m.checked
     → branch_of count r.0 ≡ Some found
-    → frames ≡ frame_count system actions found
-    → frames ≤ r.1
-    → HasNoFrame system actions id
-none-behind system actions id count frames found r tells ec e ef behind branch k f =
+    → frame_count m index sight found ≤ r.1
+    → HasNoFrame m index sight id
+none-behind m index sight id count found r tells ec e behind branch k f =
     let same : branch ≡ found =
-    some-injective branch found (sym (frame-branch system actions id count branch k r tells ec f) ∙ e) in
-    let index : r.1 ≡ k = ap (λ q. q.1) (parts-are system actions id branch k r tells f) in
-    let P : ℕ → Type 0 = λ b. k < frame_count system actions b in
-    let R : ℕ → Type 0 = λ n. k < n in
-    let S : ℕ → Type 0 = λ n. n < frames in
-    let before : r.1 < frames = subst S (sym index) (subst R (sym ef) (subst P same f.2)) in
+    some-injective branch found (sym (frame-branch m index sight id count branch k r tells ec f) ∙ e) in
+    let here : r.1 ≡ k = ap (λ q. q.1) (parts-are m index sight id branch k r tells f) in
+    let P : ℕ → Type 0 = λ b. k < frame_count m index sight b in
+    let S : ℕ → Type 0 = λ n. n < frame_count m index sight found in
+    let before : r.1 < frame_count m index sight found = subst S (sym here) (subst P same f.2) in
     absurd (omega (arith, before, behind))
+
+-- what is told of the frame of this index among those of a branch
+abbrev pub IsAmong : ℕ → List Frame → ℕ → Option (ℕ × ℕ) → Type 0
+IsAmong branch frames k found =
+    MatchOption found (count_of frames ≤ k)
+    (λ one. (one.0 ≡ branch) × (k < count_of frames) × SeesCall (slice_get frames k) one.1)
+
+-- that is what is found
+found-among :
+    (m : AtMachine) (index : Index) (sight : Sight) (id count branch : ℕ) (r : ℕ × ℕ) (found : Option (ℕ × ℕ))
+    → TellsParts id r
+    → count ≡ branch_count m.checked
+    → branch_of count r.0 ≡ Some branch
+    → IsAmong branch (frames_of m index sight branch) r.1 found
+    → FindsFrame m index sight id found
+found-among m index sight id count branch r None tells ec e h = none-behind m index sight id count branch r tells ec e h
+found-among m index sight id count branch r (Some one) tells ec e h =
+    let is = branch-found count r.0 branch e in
+    let T : ℕ → Type 0 = λ t. frame_id t r.1 ≡ id in
+    let Q : ℕ → Type 0 = λ n. branch < n in
+    let numbered : frame_id (branch + 1) r.1 ≡ id = subst T (sym is.0) (parts-of id r tells) in
+    let within : branch < branch_count m.checked = subst Q ec is.1 in
+    let F : ℕ → Type 0 = λ b. IsFrame m index sight id b r.1 in
+    let S : ℕ → Type 0 = λ b. SeesCall (slice_get (frames_of m index sight b) r.1) one.1 in
+    (r.1, subst F (sym h.0) (numbered, within, h.1), subst S (sym h.0) h.2)
+
+pub among_frames :
+    (m : AtMachine) (index : Index) (sight : Sight) (id count branch : ℕ) (r : ℕ × ℕ) (frames : List Frame) (found : Option (ℕ × ℕ))
+    → TellsParts id r
+    → count ≡ branch_count m.checked
+    → branch_of count r.0 ≡ Some branch
+    → frames ≡ frames_of m index sight branch
+    → IsAmong branch frames r.1 found
+    → FindsFrame m index sight id found
+among_frames m index sight id count branch r frames found tells ec e ef h =
+    let P : List Frame → Type 0 = λ fs. IsAmong branch fs r.1 found in
+    found-among m index sight id count branch r found tells ec e (subst P ef h)
+
+-- what is found by a number that is named
+pub finds_named : (m : AtMachine) (index : Index) (seen : Option Sight) (sight : Sight) (named : Option ℕ) (id : ℕ) (found : Option (ℕ × ℕ)) → seen ≡ Some sight →
+    named ≡ Some id → FindsFrame m index sight id found → FindsNamed m index seen named found
+finds_named m index seen sight named id found shown is h =
+    let to : FindsNamed m index (Some sight) (Some id) found = h in
+    subst (λ (s : Option Sight). FindsNamed m index s named found) (sym shown)
+    (subst (λ (o : Option ℕ). FindsNamed m index (Some sight) o found) (sym is) to)
+
+pub misses_named : (m : AtMachine) (index : Index) (seen : Option Sight) (sight : Sight) (named : Option ℕ) (id : ℕ) (b : Answer) → seen ≡ Some sight →
+    named ≡ Some id → Misses m index (Some sight) (Some id) b → Misses m index seen named b
+misses_named m index seen sight named id b shown is h =
+    subst (λ (s : Option Sight). Misses m index s named b) (sym shown)
+    (subst (λ (o : Option ℕ). Misses m index (Some sight) o b) (sym is) h)
+
+-- any frame, where none is named
+pub finds_any : (m : AtMachine) (index : Index) (seen : Option Sight) (sight : Sight) (named : Option ℕ) (one : ℕ × ℕ) → seen ≡ Some sight →
+    named ≡ None → FindsNamed m index seen named (Some one)
+finds_any m index seen sight named one shown none =
+    let to : FindsNamed m index (Some sight) None (Some one) = tt in
+    subst (λ (s : Option Sight). FindsNamed m index s named (Some one)) (sym shown)
+    (subst (λ (o : Option ℕ). FindsNamed m index (Some sight) o (Some one)) (sym none) to)

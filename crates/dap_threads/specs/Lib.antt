@@ -1,3 +1,4 @@
 pub mod Frames
+pub mod Stack
 pub mod Threads
 pub mod Unfolded

@@ -1,7 +1,12 @@
 -- What is unfolded, by its numbers.
-use Rattle.std.specs.Prelude.{ℕ, ◌≡◌, ◌-◌, ◌&&◌, nat_lt, Bool, true, Option, None, Some}
+use Rattle.std.specs.Prelude.{ℕ, ◌≡◌, ◌-◌, ◌&&◌, min, nat_lt, Bool, true, Option, None, Some, length}
 use Rattle.dap_moves.specs.Handles.{reference}
 use Rattle.dap_moves.specs.declared.handles.Handle.{Handle}
+use Rattle.dap_views.specs.declared.index.Index.{Index}
+
+-- how many instances there are: the calls, 4294967295 where they are more
+abbrev pub instance_count : Index → ℕ
+instance_count index = min (length index.calls.list.items) 4294967295
 
 -- whether it is one of so many instances, or a thread of so many, which count from 1
 abbrev pub is_shown : ℕ → ℕ → Handle → Bool

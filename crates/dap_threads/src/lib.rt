@@ -2,7 +2,11 @@
 #![tactic(auto)]
 
 mod frames;
+mod places;
+mod threads;
 mod values;
 
-pub use frames::{frame_in, places_in, stack_trace, thread_in, threads};
+pub use frames::{frame_in, stack_trace, thread_in};
+pub use places::places_in;
+pub use threads::threads;
 pub use values::{channel_words, handle_named, scopes, variables};

@@ -1,16 +1,16 @@
 // Variables, channels and the newest steps, as a client unfolds them.
-ghost use Rattle.std.specs.Prelude.{ℕ, ◌≡◌, ◌↔◌, IsTrue, MatchOption, codes};
+ghost use Rattle.std.specs.Prelude.{◌≡◌, ◌↔◌, IsTrue, MatchOption, codes};
 ghost use Rattle.serde_json.specs.View.{view};
 ghost use Rattle.system_places.specs.SystemBranches.{branch_count};
 ghost use Rattle.dap_messages.specs.Arguments.{number_named};
 ghost use Rattle.dap_messages.specs.Notes.{IsRefusal};
-ghost use Rattle.dap_threads.specs.Unfolded.{HasHandle, IsFound, NamesHandle, is_shown};
+ghost use Rattle.dap_threads.specs.Unfolded.{HasHandle, IsFound, NamesHandle, instance_count, is_shown};
 
 use crate::frames::frame_in;
 use dap_messages::{Answer, Listed, Members, Request};
 use dap_moves::{Handle, Machine, handle_of, newest_below, reference};
 use dap_views::{
-    Named, Program, Sight, Thing, Words, add_action, add_who, channel_of, event_words,
+    Index, Named, Program, Sight, Thing, Words, add_action, add_who, channel_of, event_words,
 };
 use std::alloc::Global;
 use system_places::branch_count;
@@ -106,14 +106,20 @@ pub fn handle_named(
     request: &Request,
     answer: &mut Answer,
 ) -> Option<Handle>
-    ensures handle { (instances : ℕ) × NamesHandle instances (branch_count machine.now.checked)
+    ensures handle { NamesHandle (instance_count program.now.index) (branch_count machine.now.checked)
         (number_named (codes "variablesReference") (view request.now.arguments)) result }
     ensures outcome { MatchOption result (IsRefusal answer.new.outcome × (answer.new.notes ≡ answer.old.notes))
         (λ _. answer.new ≡ answer.old) }
 {
     let threads = branch_count(machine.checked().system());
-    let instances = u32::try_from(program.index.count()).unwrap_or(u32::MAX);
-    handle_in(request, instances, threads, answer)
+    handle_in(request, instance_count(&program.index), threads, answer)
+}
+
+/// How many instances there are, 4294967295 where they are more.
+fn instance_count(index: &Index) -> u32
+    ensures { result ≡ instance_count index.now }
+{
+    index.count().min(4294967295) as u32
 }
 
 /// What the request names, of so many instances and threads. It is refused where there is none with this number.

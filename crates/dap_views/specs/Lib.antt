@@ -1,7 +1,9 @@
+pub mod Around
 pub mod Counted
 pub mod Files
 pub mod Kept
 pub mod Lined
 pub mod Named
 pub mod Paths
+pub mod Ranks
 pub mod Seen

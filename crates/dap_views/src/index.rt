@@ -1,5 +1,6 @@
 // The names of variables and channels, by the call to which they belong.
-ghost use Rattle.std.specs.Prelude.{◌≡◌, None};
+ghost use Rattle.std.specs.Prelude.{◌≡◌, None, length};
+ghost use Rattle.dap_views.specs.Around.{around, call_of_place};
 ghost use Rattle.dap_views.specs.Named.{call_named, differs, has_name, is_named, own_in, prefix_in, same_thing};
 
 use crate::words::Words;
@@ -37,6 +38,10 @@ pub struct Named {
 #[derive(Drop)]
 pub struct Index {
     calls: Calls,
+    /// the index of the instance in which each branch of the body begins
+    begins: Vec<usize>,
+    /// how many instances there are of each procedure
+    counts: Vec<u64>,
     /// the variables by their numbers, then the channels so, then the ports of the calls
     pub names: Vec<Named>,
 }
@@ -47,12 +52,21 @@ impl Index {
     /// The names of a source that was accepted. It is an error if there is no memory.
     pub fn new(alloc: Global, source: &[u8]) -> Result<Index, AllocError> {
         let calls = calls_of(alloc, source)?;
+        let begins = calls.branches(alloc)?;
+        let counts = counts_of(alloc, &calls)?;
         let names = names_of(alloc, &calls)?;
-        Ok(Index { calls, names })
+        Ok(Index {
+            calls,
+            begins,
+            counts,
+            names,
+        })
     }
 
     /// How many instances there are.
-    pub fn count(&self) -> usize {
+    pub fn count(&self) -> usize
+        ensures { result ≡ length self.now.calls.list.items }
+    {
         self.calls.as_slice().len()
     }
 
@@ -65,12 +79,21 @@ impl Index {
     }
 
     /// The index of the instance around this one; none for the root.
-    pub fn around(&self, instance: usize) -> Option<usize> {
-        let call = self.calls.as_slice().get(instance)?;
+    pub fn around(&self, instance: usize) -> Option<usize>
+        ensures { result ≡ around self.now instance }
+    {
         if instance == 0 {
-            None
-        } else {
-            Some(call.parent)
+            return None;
+        }
+        let call = self.calls.as_slice().get(instance)?;
+        Some(call.parent)
+    }
+
+    /// The line on which the instance is called, from 1; 0 for the root.
+    pub fn line_of_call(&self, instance: usize) -> u64 {
+        match self.calls.as_slice().get(instance) {
+            Some(call) => call.line,
+            None => 0,
         }
     }
 
@@ -93,23 +116,24 @@ impl Index {
         let Some(call) = self.calls.as_slice().get(instance) else {
             return false;
         };
-        for (index, other) in self.calls.as_slice().iter().enumerate() {
-            if index != instance && other.procedure == call.procedure {
-                return true;
-            }
+        match self.counts.as_slice().get(call.procedure) {
+            Some(count) => *count > 1,
+            None => false,
         }
-        false
     }
 
-    /// The index of the instance to which a place of the body belongs as the machine stands; none for a place of the
+    /// The index of the instance to which a place belongs as the machine stands; the root for a place of the
     /// environment.
-    pub fn instance_at(&self, machine: &Machine, place: &Address) -> Option<usize> {
-        self.calls.at(machine.live_events(), place)
+    pub fn instance_at(&self, machine: &Machine, place: &Address) -> usize
+        ensures { result ≡ call_of_place machine.now self.now place.now }
+    {
+        self.calls.at(machine.live_events(), place).unwrap_or(0)
     }
 
-    /// The index of the instance in which this branch of the body begins.
+    /// The index of the instance in which this branch of the body begins; the root for another branch.
     pub fn instance_of_branch(&self, branch: u32) -> usize {
-        self.calls.of_branch(branch)
+        let begin = self.begins.as_slice().get(branch as usize);
+        begin.copied().unwrap_or(0)
     }
 
     /// The index of the instance whose names begin so.
@@ -265,6 +289,26 @@ fn calls_of(alloc: Global, source: &[u8]) -> Result<Calls, AllocError> {
         // It was accepted, so there is no memory.
         Err(_) => Err(AllocError),
     }
+}
+
+/// How many calls there are of each procedure.
+fn counts_of(alloc: Global, calls: &Calls) -> Result<Vec<u64>, AllocError> {
+    let mut counts = zeros(alloc, calls.procedures().len())?;
+    for call in calls.as_slice() {
+        if let Some(count) = counts.as_mut_slice().get_mut(call.procedure) {
+            *count = count.saturating_add(1);
+        }
+    }
+    Ok(counts)
+}
+
+/// So many times 0.
+fn zeros(alloc: Global, count: usize) -> Result<Vec<u64>, AllocError> {
+    let mut zeros = Vec::new(alloc);
+    for _ in 0..count {
+        zeros.push(0)?;
+    }
+    Ok(zeros)
 }
 
 /// The names of the calls.

@@ -15,6 +15,7 @@ pub use paths::{base_of, is_rooted, is_same_file, own_name};
 pub use program::{Asked, Counting, Launch, Memo, Program, Refused};
 pub use short::event_words;
 pub use sight::{
-    Rank, Sight, add_action, add_waits, add_who, channel_of, line_at, sight_of, variable_of,
+    Rank, Sight, add_action, add_waits, add_who, channel_of, line_at, same_place, sight_of,
+    variable_of,
 };
 pub use words::Words;

@@ -1,16 +1,18 @@
 // What a state offers: the steps that are ready, and the actions of events.
-ghost use Rattle.std.specs.Prelude.{IfOk};
+ghost use Rattle.std.specs.Prelude.{◌≡◌, IfOk};
 ghost use Rattle.runs.specs.Object.{Reaches};
 ghost use Rattle.runs.specs.Ready.{ReadyList};
 ghost use Rattle.runs.specs.Steps.{State};
+ghost use Rattle.runs.specs.Tests.{same_place};
 ghost use Rattle.local_actions.specs.Actions.{OffersExactly};
 ghost use Rattle.machine.specs.AtMachine.{object};
+ghost use Rattle.dap_views.specs.Ranks.{is_at, is_there, rank_of};
 ghost use Rattle.dap_views.specs.Seen.{SeesState};
 
 use crate::lines::Lines;
 use crate::words::Words;
 use address::Address;
-use dap_moves::{Machine, acts_in, takes_part};
+use dap_moves::Machine;
 use event_places::line_after;
 use local_actions::{ActionKind, LocalAction};
 use runs::Event;
@@ -72,17 +74,10 @@ fn ready_events(machine: &Machine) -> Result<Items<Event>, AllocError>
 
 impl Sight {
     /// How far the place is from going on.
-    pub fn rank(&self, place: &Address) -> Rank {
-        let mut rank = Rank::Waits;
-        for event in self.ready.as_slice() {
-            if event.acting_place().equals(place) {
-                return Rank::Acts;
-            }
-            if is_at(event, place) {
-                rank = Rank::Joins;
-            }
-        }
-        rank
+    pub fn rank(&self, place: &Address) -> Rank
+        ensures { result ≡ rank_of self.now.ready place.now }
+    {
+        rank_among(self.ready.as_slice(), place)
     }
 
     /// The branch of the first step that is ready; the first where none is.
@@ -92,33 +87,46 @@ impl Sight {
             None => 0,
         }
     }
+}
 
-    /// How the branch stands, behind its name.
-    pub fn state(&self, machine: &Machine, branch: u32) -> &'static str {
-        let system = machine.checked().system();
-        for event in self.ready.as_slice() {
-            if acts_in(system, branch, event) || takes_part(system, branch, event) {
-                return "";
-            }
+/// How far the place is from going on where these steps are ready.
+fn rank_among(events: &[Event], place: &Address) -> Rank
+    ensures { result ≡ rank_of events.now place.now }
+{
+    let mut rank = Rank::Waits;
+    for event in events {
+        if same_place(event.acting_place(), place) {
+            return Rank::Acts;
         }
-        for offered in self.actions.as_slice() {
-            if branch_at(system, &offered.place) == Some(branch) {
-                return " (waits)";
-            }
+        if is_at(event, place) {
+            rank = Rank::Joins;
         }
-        " (done)"
     }
+    rank
 }
 
 /// Whether one of the places of the event is this.
-fn is_at(event: &Event, place: &Address) -> bool {
-    if event.first.equals(place) {
-        return true;
-    }
-    match &event.second {
-        Some(second) => second.equals(place),
+fn is_at(event: &Event, place: &Address) -> bool
+    ensures { result ≡ is_at event.now place.now }
+{
+    same_place(&event.first, place) || is_there(place, &event.second)
+}
+
+/// Whether there is a place, and it is this.
+fn is_there(place: &Address, found: &Option<Address>) -> bool
+    ensures { result ≡ is_there place.now found.now }
+{
+    match found {
+        Some(other) => same_place(other, place),
         None => false,
     }
+}
+
+/// Whether both are one place.
+pub fn same_place(one: &Address, other: &Address) -> bool
+    ensures { result ≡ same_place one.now other.now }
+{
+    one.equals(other)
 }
 
 /// The channel that the action uses.

@@ -16,6 +16,8 @@ pub struct Call {
     pub procedure: usize,
     /// the index of the call in which it is made; its own for the root
     pub parent: usize,
+    /// the line on which it is made, from 1; 0 for the root
+    pub line: u64,
     /// the channel of each port
     pub ports: Vec<u32>,
     /// the variable or the channel that each local is

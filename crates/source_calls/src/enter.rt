@@ -17,6 +17,8 @@ pub(crate) struct Waiting<'a> {
 /// What a procedure is entered with.
 #[derive(Drop)]
 struct Entrance {
+    /// the line of the call, from 1; 0 for the root
+    line: u64,
     procedure: usize,
     prefix: String,
     /// the channel of each port
@@ -35,6 +37,7 @@ pub(crate) fn enter_root<'a>(
     };
     let ports = made.ports(alloc, root.ports.as_slice())?;
     let entrance = Entrance {
+        line: 0,
         procedure: procedures.len().saturating_sub(1),
         prefix: String::new(alloc),
         ports,
@@ -59,7 +62,7 @@ pub(crate) fn go_through<'a>(
                 procedures,
                 made,
                 waiting,
-                call,
+                next,
                 called,
                 arguments.as_slice(),
             )
@@ -160,17 +163,19 @@ fn wait_for_arms<'a>(
     Ok(())
 }
 
-/// Enters a call that the call of this index makes.
+/// Enters the call that this command is.
 fn enter<'a>(
     alloc: Global,
     procedures: &'a [Procedure],
     made: &mut Made,
     waiting: &mut Vec<Waiting<'a>>,
-    parent: usize,
+    command: Waiting<'a>,
     procedure: usize,
     arguments: &[ChannelUse],
 ) -> Result<(), AllocError> {
-    let entrance = entrance_of(alloc, made, parent, procedure, arguments)?;
+    let parent = command.call;
+    let line = command.command.line;
+    let entrance = entrance_of(alloc, made, parent, line, procedure, arguments)?;
     let entrance = passed(alloc, procedures, entrance)?;
     let index = made.list.len();
     if let Some(around) = made.list.as_mut_slice().get_mut(parent) {
@@ -179,11 +184,12 @@ fn enter<'a>(
     add(alloc, procedures, made, waiting, parent, entrance)
 }
 
-/// What the next call of the one at this index enters its procedure with.
+/// What the next call of the one at this index enters its procedure with, on this line.
 fn entrance_of(
     alloc: Global,
     made: &Made,
     parent: usize,
+    line: u64,
     procedure: usize,
     arguments: &[ChannelUse],
 ) -> Result<Entrance, AllocError> {
@@ -199,6 +205,7 @@ fn entrance_of(
         arguments,
     )?;
     Ok(Entrance {
+        line,
         procedure,
         prefix,
         ports,
@@ -237,13 +244,14 @@ fn channels_of(
 }
 
 /// The entrance of the procedure that is entered in the end, where this one does nothing but call another and has no
-/// locals.
+/// locals. It keeps the line of the first call.
 fn passed(
     alloc: Global,
     procedures: &[Procedure],
     entrance: Entrance,
 ) -> Result<Entrance, AllocError> {
     let Entrance {
+        line,
         mut procedure,
         mut prefix,
         mut ports,
@@ -257,6 +265,7 @@ fn passed(
         procedure = next as usize;
     }
     Ok(Entrance {
+        line,
         procedure,
         prefix,
         ports,
@@ -284,6 +293,7 @@ fn add<'a>(
     entrance: Entrance,
 ) -> Result<(), AllocError> {
     let Entrance {
+        line,
         procedure,
         prefix,
         ports,
@@ -297,6 +307,7 @@ fn add<'a>(
         prefix,
         procedure,
         parent,
+        line,
         ports,
         locals,
         calls: Vec::new(alloc),

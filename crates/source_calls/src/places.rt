@@ -8,9 +8,10 @@ ghost use Rattle.source_calls.specs.Stands as model;
 ghost use Rattle.source_calls.specs.internal.Parts as parts;
 
 use crate::calls::{Call, Calls};
-use crate::parts::{calls_in_all, calls_in_arms, calls_in_guarded, calls_in_labelled};
+use crate::parts::{calls_in, calls_in_all, calls_in_arms, calls_in_guarded, calls_in_labelled};
 use address::{Address, Entry};
 use dependence::Live;
+use std::alloc::{AllocError, Global};
 use syntax::Items;
 use typed::{Action, Arm, Command, Guarded, Labelled};
 
@@ -55,16 +56,34 @@ impl Calls {
         self.found_in(live, place, depth + 1, inner)
     }
 
-    /// The index of the call in which this branch of the body begins: a child of it where it is a parallel, else the
-    /// body as branch 0. The root, where there is no such branch.
-    pub fn of_branch(&self, branch: u32) -> usize {
-        let Some(root) = self.root() else {
-            return 0;
-        };
-        match self.part_in(None, root, Entry::Branch(branch)) {
-            Some(child) => child.call,
-            None => root.call,
+    /// The index of the call in which each branch of the body begins: each child of it where it is a parallel, else the
+    /// body as one.
+    pub fn branches(&self, alloc: Global) -> Result<Vec<usize>, AllocError> {
+        let mut found = Vec::new(alloc);
+        if let Some(root) = self.root() {
+            self.add_branches(root, &mut found)?;
         }
+        Ok(found)
+    }
+
+    /// Adds the calls in which the branches of the command begin.
+    fn add_branches(&self, body: Spot<'_>, found: &mut Vec<usize>) -> Result<(), AllocError> {
+        match body.command.action.get() {
+            Action::Parallel(children) => {
+                let mut passed = body.passed;
+                for command in children.as_slice() {
+                    let child = self.standing(Spot {
+                        call: body.call,
+                        passed,
+                        command,
+                    });
+                    found.push(child.call)?;
+                    passed = passed.saturating_add(calls_in(command));
+                }
+            }
+            _ => found.push(body.call)?,
+        }
+        Ok(())
     }
 
     /// The body of the root.

@@ -1,5 +1,4 @@
-use Rattle.std.proofs.Common.{ap, inl, inr, subst}
-use Rattle.machine.specs.AtMachine.{AtMachine}
+use Rattle.std.proofs.Common.{inl, inr, subst}
 use Rattle.dap_messages.specs.Notes.{IsDone}
 use Rattle.dap_messages.specs.declared.answer.Answer.{Answer}
 use Rattle.dap_requests.proofs.Lines.{evaluates_line}
@@ -13,6 +12,6 @@ returns-in-Some-clause-refused c = elim c.typed.ensures.refused [
 
 pub returns-in-Some-clause-does : goal.returns-in-Some-clause-does
 returns-in-Some-clause-does c =
-    evaluates_line c.args.program.now c.args.request.now c.args.desk.now c.typed.new.desk c.machine.result.now.checked c.in-Some.branch
-    c.line_in-line.result.now c.args.answer.now c.frame_in.new.answer c.typed.new.answer (ap (λ (m : AtMachine). m.checked) c.machine.ensures)
-    c.in-Some.ensures.branch c.line_in-line.ensures c.in-Some.ensures.same c.typed.ensures.does
+    evaluates_line c.args.program.now c.args.request.now c.args.desk.now c.typed.new.desk c.machine.result.now c.in-Some.branch
+    c.in-Some.instance c.line_in-line.result.now c.args.answer.now c.frame_in.new.answer c.typed.new.answer c.machine.ensures
+    c.in-Some.ensures.found c.line_in-line.ensures c.in-Some.ensures.same c.typed.ensures.does
