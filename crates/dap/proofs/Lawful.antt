@@ -43,10 +43,10 @@ led-one reads x y request a b led goes = elim goes [
 -- all of them
 pub session-is-led : (reads : List ℕ → Option (List ℕ) → Type 0) → SessionIsLed reads
 session-is-led reads a b next [] sent led session = subst (λ (f : Face). IsLed reads f.launched) (sym session.1) led
-session-is-led reads a b next (Some request ∷ heard) sent led session =
+session-is-led reads a b next (Ok request ∷ heard) sent led session =
     session-is-led reads session.0 b (next + length session.1) heard session.2
     (led-one reads a.launched session.0.launched request session.4.answered.empty session.4.answer led session.4.answered.goes) session.5
-session-is-led reads a b next (None ∷ heard) sent led session = session-is-led reads a b (next + 1) heard session.1 led session.3
+session-is-led reads a b next (Err why ∷ heard) sent led session = session-is-led reads a b (next + 1) heard session.0 led session.2
 
 -- of what has just begun nothing is shown
 new-seen : (m : Launched) → m.program.sight ≡ None → IsSeen m

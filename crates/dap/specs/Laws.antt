@@ -1,6 +1,7 @@
 -- What holds after the requests of a session.
-use Rattle.std.specs.Prelude.{ℕ, ◌≡◌, List, Option, None, Some}
+use Rattle.std.specs.Prelude.{ℕ, ◌≡◌, List, Option, None, Some, Result}
 use Rattle.dap_messages.specs.declared.request.Request.{Request}
+use Rattle.dap_server.specs.Heard.{Passed}
 use Rattle.dap_server.specs.Session.{Session}
 use Rattle.dap.specs.Files.{Reads}
 use Rattle.dap.specs.Goes.{Comes, IsSeen, is_over}
@@ -17,7 +18,7 @@ IsLed reads (Some l) = Stands reads l.desk
 -- whatever a client asks, one request after another, over these files
 abbrev pub SessionIsLed : Reads → Type 0
 SessionIsLed reads =
-    (a b : Face) (next : ℕ) (heard : List (Option Request)) (sent : List (List ℕ))
+    (a b : Face) (next : ℕ) (heard : List (Result Request Passed)) (sent : List (List ℕ))
     → IsLed reads a.launched → Session (Comes reads) is_over a next heard sent b → IsLed reads b.launched
 
 -- what is shown of the state of what is launched, if something is, is so in that state

@@ -24,12 +24,6 @@ use sharing_check::Checked;
 use std::alloc::{AllocError, Global};
 use trace_file::load_text;
 
-/// What counts from 1, as lines of a trace do.
-const ONES: Counting = Counting {
-    lines: 0,
-    columns: 0,
-};
-
 /// A program that was launched, and its desk.
 #[derive(Drop)]
 pub struct Launched {
@@ -158,7 +152,7 @@ fn machine_of(
     let source = texts.source.as_slice();
     let stimulus = texts.stimulus.as_slice();
     match checked(alloc, asked, source, stimulus, counting, answer) {
-        Ok(checked) => machine_on(alloc, checked, asked, &texts.trace, answer),
+        Ok(checked) => machine_on(alloc, checked, asked, &texts.trace, counting, answer),
         Err(failed) => Err(failed),
     }
 }
@@ -290,7 +284,7 @@ fn refuse_beside(
     }
 }
 
-/// The line and the column of the byte at this offset, from 1.
+/// The line and the column of the byte at this offset, from 1. Columns count units of UTF-16, as editors do.
 fn place_in(source: &[u8], offset: u64) -> (u64, u64) {
     let mut line = 1u64;
     let mut column = 1u64;
@@ -299,10 +293,19 @@ fn place_in(source: &[u8], offset: u64) -> (u64, u64) {
             line = line.saturating_add(1);
             column = 1;
         } else {
-            column = column.saturating_add(1);
+            column = column.saturating_add(units_of(*byte));
         }
     }
     (line, column)
+}
+
+/// How many units of UTF-16 a character has that begins with this byte; none where the byte begins none.
+fn units_of(byte: u8) -> u64 {
+    match byte {
+        0x80..=0xbf => 0,
+        0xf0..=0xff => 2,
+        _ => 1,
+    }
 }
 
 /// The machine of the system, behind the trace if there is one.
@@ -311,12 +314,13 @@ fn machine_on(
     checked: Checked,
     asked: &Launch,
     trace: &Option<Vec<u8>>,
+    counting: Counting,
     answer: &mut Answer,
 ) -> Result<Machine, Failed>
     ensures { IfOk result (λ machine. BeginsOn checked (text_of trace.now) machine) }
 {
     match trace {
-        Some(text) => loaded(alloc, checked, asked, text.as_slice(), answer),
+        Some(text) => loaded(alloc, checked, asked, text.as_slice(), counting, answer),
         None => fresh(alloc, checked),
     }
 }
@@ -327,13 +331,14 @@ fn loaded(
     checked: Checked,
     asked: &Launch,
     trace: &[u8],
+    counting: Counting,
     answer: &mut Answer,
 ) -> Result<Machine, Failed>
     ensures { IfOk result (λ machine. IsLoaded checked trace.now machine) }
 {
     match load_text(alloc, checked, trace) {
         Ok(machine) => Ok(machine),
-        Err(fault) => Err(refuse_trace(alloc, asked, fault, trace, answer)),
+        Err(fault) => Err(refuse_trace(alloc, asked, fault, trace, counting, answer)),
     }
 }
 
@@ -353,6 +358,7 @@ fn refuse_trace(
     asked: &Launch,
     fault: trace_file::Fault,
     trace: &[u8],
+    counting: Counting,
     answer: &mut Answer,
 ) -> Failed {
     if fault == trace_file::Fault::Memory {
@@ -363,7 +369,7 @@ fn refuse_trace(
         None => "",
     };
     let line = fault.field().unwrap_or(1);
-    refuse_at(alloc, name, line, 1, fault.number(), ONES, answer);
+    refuse_at(alloc, name, line, 1, fault.number(), counting, answer);
     let place = (fault.number(), fault.field());
     tell_words(alloc, asked, place, &[], None, Some(trace), answer);
     Failed::Told
@@ -413,7 +419,8 @@ fn input_of<'a>(
     })
 }
 
-/// Refuses with the place of the fault, and tells it with a link to that place.
+/// Refuses with the place of the fault, and tells it with a link to that place. Words count from 1, members as the
+/// client does.
 fn refuse_at(
     alloc: Global,
     name: &str,

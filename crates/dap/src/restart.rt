@@ -13,7 +13,7 @@ use crate::begin::begin;
 use crate::launch::{Launched, start, start_as};
 use crate::sources::Sources;
 use dap_messages::{Answer, Outcome, Request, field};
-use dap_requests::{Placing, place_again, tell_changed};
+use dap_requests::{Placing, place_again, tell, tell_changed};
 use dap_views::{Launch, Program, is_same_file};
 use serde_json::Value;
 use std::alloc::{AllocError, Global};
@@ -67,19 +67,30 @@ fn begin_again(
 )
     ensures { GoesAnew launched.old anew answer.new launched.new }
 {
-    take_over(alloc, launched, anew);
+    let is_lost = take_over(alloc, launched, anew);
+    tell_unwatched(alloc, is_lost, answer);
     tell_changed(alloc, &mut launched.program, placing, answer);
     begin(alloc, launched, answer);
 }
 
-/// Takes what was launched anew in place of what was, with what the client had set, but for breakpoints.
-fn take_over(alloc: Global, launched: &mut Launched, anew: Launched)
+/// Tells that nothing is watched any more, where something was.
+fn tell_unwatched(alloc: Global, is_lost: bool, answer: &mut Answer) {
+    if is_lost {
+        let words = "The source is another one: its data breakpoints have to be set again.";
+        tell(alloc, words, "console", answer);
+    }
+}
+
+/// Takes what was launched anew in place of what was, with what the client had set, but for breakpoints; whether
+/// something was watched that is no more.
+fn take_over(alloc: Global, launched: &mut Launched, anew: Launched) -> bool
     ensures set { KeepsSet launched.old.program anew.program launched.new.program }
     ensures memo { launched.new.memo ≡ anew.memo }
     ensures desk { launched.new.desk ≡ anew.desk }
 {
     let mut before = mem::replace(launched, anew);
     keep_settings(alloc, &mut before.program, &mut launched.program);
+    !before.program.watched.is_empty()
 }
 
 /// What a restart launches.

@@ -1,7 +1,7 @@
 // A session over a reader and a writer.
-ghost use Rattle.std.specs.Prelude.{ℕ, ◌≡◌, ◌⊎◌, OnOk, true};
+ghost use Rattle.std.specs.Prelude.{ℕ, ◌≡◌, ◌⊎◌, IfErr, OnOk, true};
 ghost use Rattle.std.specs.Io.KnownBytes.{IsAtEnd};
-ghost use Rattle.dap_server.specs.Session.{Serves};
+ghost use Rattle.dap_server.specs.Session.{Serves, ServesUpTo};
 ghost use Rattle.dap.specs.Goes.{Comes, IsFresh, is_over};
 ghost use Rattle.dap.specs.declared.face.Face.{Face as Facing};
 
@@ -33,6 +33,9 @@ impl<F: Sources> Adapter<F> for Face {
 ///
 /// # Errors
 ///
+/// All that is sent for the messages before is out then. Of the answer to one message more a beginning may be out, where
+/// the writer failed; else nothing of it is.
+///
 /// - `NoHeader` where what is read is no header of a message;
 /// - `ReadFailed` where the reader fails, or ends inside a message;
 /// - `WriteFailed` where the writer fails;
@@ -43,10 +46,13 @@ pub fn serve<R: Read, W: Write, F: Sources>(
     writer: &mut W,
     files: &F,
 ) -> Result<(), Fault>
-    ensures { OnOk result ((first : Facing) × (last : Facing) × (after : ℕ) × IsFresh first
+    ensures serves { OnOk result ((first : Facing) × (last : Facing) × (after : ℕ) × IsFresh first
         × Serves (Comes (F.reads files.now)) is_over first 1 last after (R.remaining reader.old)
         (R.remaining reader.new) (W.contents writer.old) (W.contents writer.new)
         × ((last.over ≡ true) ⊎ IsAtEnd (R.remaining reader.new))) }
+    ensures fails { IfErr result (λ why. (first : Facing) × (last : Facing) × IsFresh first
+        × ServesUpTo (Comes (F.reads files.now)) is_over first 1 last why (R.remaining reader.old)
+        (R.remaining reader.new) (W.contents writer.old) (W.contents writer.new)) }
 {
     let mut face = Face::new(alloc);
     dap_server::serve(alloc, reader, writer, files, &mut face)

@@ -1,10 +1,10 @@
 -- Members of one name stay where others are put.
-use Rattle.std.proofs.Common.{◌≡◌, ℕ, ◌≤◌, List, true, false, Option, None, Some, bytes_eq, sym, ◌∙◌, ap, subst, codes}
+use Rattle.std.proofs.Common.{◌≡◌, ℕ, List, true, false, Option, None, Some, bytes_eq, sym, ◌∙◌, ap, subst, codes}
 use Rattle.std.specs.Prelude.{option_and_then}
 use Rattle.std.proofs.lemmas.Slice.Eq.{bytes_eq-Decides}
-use Rattle.serde_json.specs.Data.{Data, Members as Named, depth, no_members, number, object, put, unsigned}
+use Rattle.serde_json.specs.Data.{Data, Members as Named, no_members, number, object, put, unsigned}
 use Rattle.serde_json.specs.Find.{get, get_member}
-use Rattle.serde_json.specs.Read.{max_depth, read}
+use Rattle.serde_json.specs.Read.{read}
 use Rattle.serde_json.specs.View.{members_view, view}
 use Rattle.serde_json.specs.declared.value.Value.{Value}
 use Rattle.serde_json.proofs.Views.{get_member-put, get_member-put_other}
@@ -66,7 +66,7 @@ has_error error body before after why id there inner put_in whole = λ full.
 -- the number is put, and then the whole is written
 pub json_of : (m : Message) (with : Members) (value : Value) (bytes : List ℕ) → Puts m.members (codes "seq") (number (unsigned m.seq)) with →
     (with.lacks ≡ false) × (view value ≡ object (members_view with.made.entries)) →
-    (depth (view value) ≤ max_depth → read bytes ≡ Some (view value)) → IsJsonOf m bytes
+    read bytes ≡ Some (view value) → IsJsonOf m bytes
 json_of m with value bytes h k reads =
     let there = h k.0 in
     let members : Named = members_view m.members.made.entries in

@@ -1,6 +1,7 @@
-ghost use Rattle.std.specs.Prelude.{◌≡◌, ◌∷◌, [], ◌++◌, ◌+◌, None, false, true, IfOk, OnOk, codes, string_bytes};
+ghost use Rattle.std.specs.Prelude.{◌≡◌, ◌∷◌, [], ◌++◌, ◌+◌, None, Some, false, true, IfOk, OnOk, codes, string_bytes};
 ghost use Rattle.std.specs.Option.{option_map};
 ghost use Rattle.serde_json.specs.Data.{boolean, number, string, unsigned};
+ghost use Rattle.serde_json.specs.Read.{read};
 ghost use Rattle.serde_json.specs.View.{view};
 ghost use Rattle.dap_messages.specs.Json.{IsJsonOf};
 ghost use Rattle.dap_messages.specs.Messages.{EventsAdded, HasError, IsAnswerTo, TellsOutcome, event_name, is_done};
@@ -9,9 +10,12 @@ ghost use Rattle.dap_messages.specs.internal.Heads.{Keeps, KeepsHead};
 
 use crate::answer::{Answer, Note, Outcome};
 use crate::members::Members;
-use crate::request::Request;
+use crate::request::{Request, nests_within};
 use serde_json::Value;
 use std::alloc::{AllocError, Global};
+
+/// How deep a message may nest: as deep as JSON is read.
+const MOST_WRITTEN: u32 = 127;
 
 /// A message to the client.
 #[derive(Drop)]
@@ -189,7 +193,8 @@ fn event(alloc: Global, note: Note) -> Members
     members
 }
 
-/// The JSON of the message. It is an error if there is no memory, or was none for a part of it.
+/// The JSON of the message. It is an error if there is no memory, or was none for a part of it, or if it nests deeper
+/// than JSON is read, which none does.
 pub fn write_message(alloc: Global, message: Message) -> Result<Vec<u8>, AllocError>
     ensures { IfOk result (λ bytes. IsJsonOf message bytes.items) }
 {
@@ -200,7 +205,18 @@ pub fn write_message(alloc: Global, message: Message) -> Result<Vec<u8>, AllocEr
     } = message;
     members.number("seq", seq);
     match members.into_value() {
-        Some(value) => value.to_vec(alloc),
+        Some(value) => written(alloc, &value),
         None => Err(AllocError),
+    }
+}
+
+/// The JSON of a value that nests no deeper than JSON is read.
+fn written(alloc: Global, value: &Value) -> Result<Vec<u8>, AllocError>
+    ensures { IfOk result (λ bytes. read bytes.items ≡ Some (view value.now)) }
+{
+    if nests_within(value, MOST_WRITTEN) {
+        value.to_vec(alloc)
+    } else {
+        Err(AllocError)
     }
 }

@@ -188,7 +188,7 @@ fn taken(members: &mut Map<String, Value>) -> Value
 
 /// Whether the value nests no deeper than so many levels.
 #[cycle(nests)]
-fn nests_within(value: &Value, levels: u32) -> bool
+pub(crate) fn nests_within(value: &Value, levels: u32) -> bool
     ensures within { result ≡ true → depth (view value.now) ≤ levels }
     ensures deeper { result ≡ false → levels < depth (view value.now) }
 {

@@ -46,7 +46,7 @@ fn add_words(body: &mut Members, text: &str)
     }
 }
 
-/// Tells that a run stands before a line with a breakpoint.
+/// Tells that a run stands before a line with a breakpoint. Words count lines from 1, whatever the client does.
 #[tactic(auto, using(crate::proofs::public::Saying::stops_now))]
 pub(crate) fn stop_at_line(
     alloc: Global,
@@ -58,7 +58,7 @@ pub(crate) fn stop_at_line(
     ensures { TellsStop answer.old Stopped.AtLine answer.new }
 {
     let mut words = Words::of(alloc, "line ");
-    words.number(program.shown_line(line));
+    words.number(line);
     let mut body = stopped(alloc, Stop::AtLine, branch, words.as_str());
     add_hits(alloc, program, line, &mut body);
     answer.note(Told::Stopped(Stop::AtLine), body);

@@ -1,3 +1,6 @@
 mod Framing
+mod Printing
 mod Sending
 mod Sessions
+mod ShortEvents
+mod ShortForms

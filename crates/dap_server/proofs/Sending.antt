@@ -1,6 +1,6 @@
 -- Frames that are made and sent one after another.
-use Rattle.std.proofs.Common.{◌≡◌, ◌+◌, ℕ, List, [], ◌∷◌, ◌++◌, length, Option, Some, None, false, inl, inr, refl, sym, ap, ◌∙◌, subst, append_assoc, append-nil, arith}
-use Rattle.std.specs.Io.KnownBytes.{Appends}
+use Rattle.std.proofs.Common.{◌≡◌, ◌+◌, ◌-◌, ◌≤◌, ℕ, List, [], ◌∷◌, ◌++◌, length, Option, Some, None, false, inl, inr, refl, sym, ap, ◌∙◌, subst, append_assoc, append-nil, arith, take, drop, take_all, take-add, length-drop}
+use Rattle.std.specs.Io.KnownBytes.{Appends, Keeps}
 use Rattle.dap_frames.specs.Frames.{framed}
 use Rattle.dap_messages.specs.Json.{IsJsonOf}
 use Rattle.dap_messages.specs.Messages.{IsAnswerTo}
@@ -8,10 +8,11 @@ use Rattle.dap_messages.specs.declared.answer.Answer.{Answer}
 use Rattle.dap_messages.specs.declared.message.Message.{Message}
 use Rattle.dap_messages.specs.declared.request.Request.{Request}
 use Rattle.dap_messages.specs.declared.told.Told.{Told}
-use Rattle.dap_server.specs.Sent.{AddsDue, AreJson, HasSent, IsBatch, IsBehind, IsWhole, Sends, frames}
+use Rattle.dap_server.specs.Sent.{AddsDue, AreJson, HasSent, IsBatch, IsBegun, IsBehind, IsWhole, Sends, frames}
 use Rattle.dap_server.specs.Session.{Exchange}
 use Rattle.dap_server.specs.Short.{due_bodies, gist_of, short_bodies, short_event}
 use Rattle.dap_server.specs.declared.batch.Batch.{Batch}
+use Rattle.dap_server.specs.declared.fault.Fault.{Fault}
 use Rattle.dap_server.specs.declared.gist.Gist.{Gist}
 
 -- nothing is left where no item is
@@ -136,3 +137,75 @@ pub answers_with : (request : Request) (answer : Answer) (next : ℕ) (ms : List
     → (bodies : List (List ℕ)) × IsBatch bodies batch × IsWhole request answer next bodies
 answers_with request answer next ms is batch h =
     (h.0, h.2, record { full = is.0; messages = ms; answers = is.1; json = h.1 })
+
+-- of frames that are to be sent a beginning is out
+pub begun_all : (bodies : List (List ℕ)) (batch : Batch) (why : Fault) (old new : Option (List ℕ)) → IsBatch bodies batch
+    → IsBegun why batch.bytes.items old new → IsBegun why (frames bodies) old new
+begun_all bodies batch why old new h k = subst (λ (t : List ℕ). IsBegun why t old new) h.written k
+
+-- of the messages of an answer
+pub answer_begun : {A : Type 0} (answers : A → Request → Answer → A → Type 0) (a : A) (request : Request) (answer : Answer) (b : A) (batch : Batch)
+    (why : Fault) (old new : Option (List ℕ)) (next : ℕ) → answers a request answer b
+    → (bodies : List (List ℕ)) × IsBatch bodies batch × IsWhole request answer next bodies → IsBegun why batch.bytes.items old new
+    → (sent : List (List ℕ)) × Exchange answers a request next sent b × IsBegun why (frames sent) old new
+answer_begun answers a request answer b batch why old new next is h k =
+    (h.0, record { answer = answer; answered = is; told = inl h.2 }, begun_all h.0 batch why old new h.1 k)
+
+-- of short ones
+pub short_begun : {A : Type 0} (answers : A → Request → Answer → A → Type 0) (a : A) (request : Request) (answer : Answer) (b : A) (gist : Gist)
+    (why : Fault) (old new : Option (List ℕ)) (next : ℕ) → answers a request answer b → gist ≡ gist_of answer.outcome answer.effect
+    → IsBegun why (frames (short_bodies request gist next)) old new
+    → (sent : List (List ℕ)) × Exchange answers a request next sent b × IsBegun why (frames sent) old new
+short_begun answers a request answer b gist why old new next is same h = (
+  short_bodies request gist next,
+  record { answer = answer; answered = is; told = inr (ap (λ (g : Gist). short_bodies request g next) same) },
+  h,
+)
+
+-- all is written, and then the writer is flushed
+pub appends_kept : (u v w : Option (List ℕ)) (bytes : List ℕ) → Appends u v bytes → Keeps v w → Appends u w bytes
+appends_kept None v w bytes h k = tt
+appends_kept (Some xs) None w bytes h k = absurd h
+appends_kept (Some xs) (Some ys) None bytes h k = absurd k
+appends_kept (Some xs) (Some ys) (Some zs) bytes h k = k ∙ h
+
+-- which fails
+pub begun_whole : (why : Fault) (bytes : List ℕ) (u v : Option (List ℕ)) → why ≡ Fault.WriteFailed → Appends u v bytes → IsBegun why bytes u v
+begun_whole why bytes u v failed h =
+    subst (λ (f : Fault). IsBegun f bytes u v) (sym failed)
+    (length bytes, subst (λ (t : List ℕ). Appends u v t) (sym (take_all (length bytes) bytes (omega arith))) h)
+
+-- a beginning is written, and then more of it
+pub begun_more : (u v w : Option (List ℕ)) (bytes : List ℕ) (done more : ℕ) → Appends u v (take done bytes)
+    → Appends v w (take more (drop done bytes)) → Appends u w (take (done + more) bytes)
+begun_more None v w bytes done more h k = tt
+begun_more (Some xs) None w bytes done more h k = absurd h
+begun_more (Some xs) (Some ys) None bytes done more h k = absurd k
+begun_more (Some xs) (Some ys) (Some zs) bytes done more h k =
+    k ∙ ap (λ (t : List ℕ). t ++ take more (drop done bytes)) h ∙ append_assoc xs (take done bytes) (take more (drop done bytes))
+    ∙ ap (λ (t : List ℕ). xs ++ t) (sym (take-add done more bytes))
+
+pub begun_none : (u : Option (List ℕ)) (bytes : List ℕ) → Appends u u (take 0 bytes)
+begun_none None bytes = tt
+begun_none (Some xs) bytes = sym (append-nil xs)
+
+-- one more write
+pub put_more : (u v w : Option (List ℕ)) (bytes : List ℕ) (done count next : ℕ) → next ≡ done + count → done ≤ length bytes
+    → count ≤ length (take (length bytes - done) (drop done bytes)) → Appends u v (take done bytes)
+    → Appends v w (take count (take (length bytes - done) (drop done bytes))) → (next ≤ length bytes) × Appends u w (take next bytes)
+put_more u v w bytes done count next is within bound h k =
+    let left : length (drop done bytes) ≡ length bytes - done = length-drop done bytes in
+    let all : take (length bytes - done) (drop done bytes) ≡ drop done bytes = take_all (length bytes - done) (drop done bytes) (omega arith) in
+    let some : count ≤ length (drop done bytes) = subst (λ (t : List ℕ). count ≤ length t) all bound in (
+      omega arith,
+      subst (λ (n : ℕ). Appends u w (take n bytes)) (sym is)
+          (begun_more u v w bytes done count h (subst (λ (t : List ℕ). Appends v w (take count t)) all k)),
+    )
+
+-- one that was interrupted
+pub put_none : (u v w : Option (List ℕ)) (bytes : List ℕ) (done next : ℕ) → next ≡ done → done ≤ length bytes → Appends u v (take done bytes)
+    → Keeps v w → (next ≤ length bytes) × Appends u w (take next bytes)
+put_none u v w bytes done next is within h k = (
+  omega arith,
+  subst (λ (n : ℕ). Appends u w (take n bytes)) (sym is) (appends_kept u v w (take done bytes) h k),
+)

@@ -1,5 +1,5 @@
 -- The messages in the bytes that came, and the requests that they are.
-use Rattle.std.specs.Prelude.{ℕ, ◌≡◌, ◌≤◌, ◌<◌, ◌⊎◌, List, [], ◌∷◌, ◌++◌, length, Option, None, Some, Ok, Err}
+use Rattle.std.specs.Prelude.{ℕ, ◌≡◌, ◌≤◌, ◌<◌, List, [], ◌∷◌, ◌++◌, length, Some, Result, Ok, Err, codes}
 use Rattle.dap_frames.specs.Header.{header_length, Tells}
 use Rattle.dap_frames.specs.declared.body.TheConstants.{MOST_BODY}
 use Rattle.dap_messages.specs.Requests.{IsReadAs}
@@ -19,13 +19,28 @@ abbrev pub AreFramed : List (List ℕ) → List ℕ → List ℕ → Type 0
 AreFramed [] bytes left = bytes ≡ left
 AreFramed (body ∷ bodies) bytes left = (rest : List ℕ) × StandsFirst bytes body rest × AreFramed bodies rest left
 
--- a body is heard as the request that it is; as none where it is larger than it may be, or read as none
-abbrev pub IsHeard : List ℕ → Option Request → Type 0
-IsHeard body (Some request) = (length body ≤ MOST_BODY) × IsReadAs body (Ok request)
-IsHeard body None = (MOST_BODY < length body) ⊎ ((unread : Unread) × IsReadAs body (Err unread))
+-- why a message is passed over
+pub data Passed : Type 0 where
+  -- it is larger than it may be
+  large : Passed
+  -- it is not read, for this reason
+  unread : Unread → Passed
+
+-- what is told of it
+abbrev pub words_for : Passed → List ℕ
+words_for large = codes "a message of more than 4 MB is passed over"
+words_for (unread Unread.Memory) = codes "there is no memory to read a message, which is passed over"
+words_for (unread Unread.NoJson) = codes "a message that is no JSON of 64 levels at most is passed over"
+words_for (unread Unread.NoRequest) = codes "a message that is no request is passed over"
+
+-- a body is heard as the request that it is, or passed over
+abbrev pub IsHeard : List ℕ → Result Request Passed → Type 0
+IsHeard body (Ok request) = (length body ≤ MOST_BODY) × IsReadAs body (Ok request)
+IsHeard body (Err large) = MOST_BODY < length body
+IsHeard body (Err (unread why)) = (length body ≤ MOST_BODY) × IsReadAs body (Err why)
 
 -- each body is heard so
-abbrev pub AreHeard : List (List ℕ) → List (Option Request) → Type 0
+abbrev pub AreHeard : List (List ℕ) → List (Result Request Passed) → Type 0
 AreHeard [] [] = Unit {0}
 AreHeard (body ∷ bodies) (heard ∷ more) = IsHeard body heard × AreHeard bodies more
 AreHeard _ _ = ⊥

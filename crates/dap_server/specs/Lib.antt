@@ -1,5 +1,6 @@
 pub mod Heard
 pub mod Kinds
+pub mod Objects
 pub mod Sent
 pub mod Session
 pub mod Short

@@ -1,5 +1,5 @@
 -- The messages that are sent, and the requests that they answer.
-use Rattle.std.specs.Prelude.{ℕ, ◌≡◌, ◌⊎◌, ◌+◌, false, List, [], ◌∷◌, ◌++◌, length, Option}
+use Rattle.std.specs.Prelude.{ℕ, ◌≡◌, ◌⊎◌, ◌+◌, false, List, [], ◌∷◌, ◌++◌, length, take, Option}
 use Rattle.std.specs.Io.KnownBytes.{Appends}
 use Rattle.dap_frames.specs.Frames.{framed}
 use Rattle.dap_messages.specs.Json.{IsJsonOf}
@@ -9,6 +9,7 @@ use Rattle.dap_messages.specs.declared.message.Message.{Message}
 use Rattle.dap_messages.specs.declared.request.Request.{Request}
 use Rattle.dap_server.specs.Short.{gist_of, short_bodies}
 use Rattle.dap_server.specs.declared.batch.Batch.{Batch}
+use Rattle.dap_server.specs.declared.fault.Fault.{Fault}
 
 -- the frames of these messages, one behind another
 abbrev pub frames : List (List ℕ) → List ℕ
@@ -59,3 +60,8 @@ AddsDue before (body ∷ bodies) after = IsBehind before body after
 pub record HasSent (batch : Batch) (old new : Option (List ℕ)) (next after : ℕ) : Type 0 where
   pub written : Appends old new batch.bytes.items
   pub numbers : after ≡ next + batch.count
+
+-- at a fault a beginning of these bytes is written where the writer failed, and else none of them
+abbrev pub IsBegun : Fault → List ℕ → Option (List ℕ) → Option (List ℕ) → Type 0
+IsBegun Fault.WriteFailed bytes old new = (count : ℕ) × Appends old new (take count bytes)
+IsBegun _ bytes old new = new ≡ old

@@ -4,6 +4,7 @@ ghost use Rattle.std.specs.Io.KnownBytes.{Consumes, IsAtEnd};
 ghost use Rattle.dap_frames.specs.Unframing.{Unframes};
 ghost use Rattle.dap_frames.specs.declared.body.Unframed.{Unframed as stands};
 ghost use Rattle.dap_server.specs.internal.Reading.{IsNext, held};
+ghost use Rattle.dap_server.specs.internal.Serving.{ReadsSome};
 ghost use Rattle.dap_server.specs.declared.input.Next as comes;
 
 use crate::Fault;
@@ -50,6 +51,7 @@ impl Input {
             × Consumes (R.remaining reader.old) (R.remaining reader.new) came
             × IsNext next self.new (held self.old ++ came)) }
         ensures ends { IfOk result (λ next. next ≡ comes.Next.End → IsAtEnd (R.remaining reader.new)) }
+        ensures some { ReadsSome (R.remaining reader.old) (R.remaining reader.new) }
     {
         for _ in 0..u64::MAX {
             match self.at_hand() {
@@ -123,6 +125,7 @@ impl Input {
             × Consumes (R.remaining reader.old) (R.remaining reader.new) came
             × IsNext next self.new (held self.old ++ came)) }
         ensures more { IfOk result (λ next. next ≢ comes.Next.End) }
+        ensures some { ReadsSome (R.remaining reader.old) (R.remaining reader.new) }
     {
         self.pass(from);
         match self.pass_over(reader, length) {
@@ -133,9 +136,10 @@ impl Input {
 
     /// Passes over so many bytes, and reads them as far as they are not there.
     fn pass_over<R: Read>(&mut self, reader: &mut R, count: u64) -> Result<(), Fault>
-        ensures { OnOk result ((came : List ℕ) × (passed : List ℕ)
+        ensures passes { OnOk result ((came : List ℕ) × (passed : List ℕ)
             × Consumes (R.remaining reader.old) (R.remaining reader.new) came
             × (held self.old ++ came ≡ passed ++ held self.new) × (length passed ≡ count)) }
+        ensures some { ReadsSome (R.remaining reader.old) (R.remaining reader.new) }
     {
         let mut left = count;
         for _ in 0..u64::MAX {
@@ -159,6 +163,7 @@ impl Input {
             × Consumes (R.remaining reader.old) (R.remaining reader.new) came
             × (held self.new ≡ held self.old ++ came)) }
         ensures ends { IfOk result (λ more. more ≡ false → IsAtEnd (R.remaining reader.new)) }
+        ensures some { ReadsSome (R.remaining reader.old) (R.remaining reader.new) }
     {
         self.drop_looked_at();
         let mut chunk = [0; CHUNK];
@@ -214,6 +219,7 @@ fn read_some<R: Read>(reader: &mut R, chunk: &mut [u8]) -> Result<usize, Fault>
     ensures reads { IfOk result (λ count.
         Consumes (R.remaining reader.old) (R.remaining reader.new) (take count chunk.new)) }
     ensures ends { IfOk result (λ count. count ≡ 0 → IsAtEnd (R.remaining reader.new)) }
+    ensures some { ReadsSome (R.remaining reader.old) (R.remaining reader.new) }
 {
     for _ in 0..u64::MAX {
         match reader.read(chunk) {

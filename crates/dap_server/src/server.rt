@@ -1,12 +1,13 @@
 // A session over a reader and a writer.
-ghost use Rattle.std.specs.Prelude.{ℕ, ◌≡◌, ◌⊎◌, List, [], ◌∷◌, IfOk, OnOk, true, false};
+ghost use Rattle.std.specs.Prelude.{ℕ, ◌≡◌, ◌⊎◌, List, [], ◌∷◌, IfErr, IfOk, OnOk, true, false};
 ghost use Rattle.std.specs.Io.KnownBytes.{IsAtEnd};
-ghost use Rattle.dap_server.specs.Sent.{Sends};
-ghost use Rattle.dap_server.specs.Session.{Exchange, Serves};
+ghost use Rattle.dap_server.specs.Heard.{large, unread, words_for};
+ghost use Rattle.dap_server.specs.Sent.{IsBegun, Sends, frames};
+ghost use Rattle.dap_server.specs.Session.{Exchange, Hears, HearsLast, Serves, ServesUpTo};
 ghost use Rattle.dap_server.specs.Short.{short_bodies, short_line};
 ghost use Rattle.dap_server.specs.declared.input.Next as comes;
 ghost use Rattle.dap_server.specs.internal.Reading.{IsNext, held};
-ghost use Rattle.dap_server.specs.internal.Serving.{Hears, ServesFrom};
+ghost use Rattle.dap_server.specs.internal.Serving.{BreaksFrom, ServesFrom, StopsFrom};
 
 use crate::adapter::Adapter;
 use crate::batch::batch_of;
@@ -27,6 +28,9 @@ use std::io::{Read, Write};
 ///
 /// # Errors
 ///
+/// All that is sent for the messages before is out then. Of the answer to one message more a beginning may be out, where
+/// the writer failed; else nothing of it is.
+///
 /// - `NoHeader` where what is read is no header of a message;
 /// - `ReadFailed` where the reader fails, or ends inside a message;
 /// - `WriteFailed` where the writer fails;
@@ -42,6 +46,9 @@ pub fn serve<R: Read, W: Write, C, A: Adapter<C>>(
         × Serves (A.answers context.now) A.over adapter.old 1 adapter.new after (R.remaining reader.old)
         (R.remaining reader.new) (W.contents writer.old) (W.contents writer.new)) }
     ensures ends { OnOk result ((A.over adapter.new ≡ true) ⊎ IsAtEnd (R.remaining reader.new)) }
+    ensures fails { IfErr result (λ why.
+        ServesUpTo (A.answers context.now) A.over adapter.old 1 adapter.new why (R.remaining reader.old)
+        (R.remaining reader.new) (W.contents writer.old) (W.contents writer.new)) }
 {
     match Server::new(alloc) {
         Ok(mut server) => server.serve_all(reader, writer, context, adapter),
@@ -87,6 +94,9 @@ impl Server {
             (W.contents writer.old) (W.contents writer.new)) }
         ensures ends { OnOk result ((A.over adapter.new ≡ true)
             ⊎ (IsAtEnd (R.remaining reader.new) × (held self.new.input ≡ []))) }
+        ensures fails { IfErr result (λ why. StopsFrom (A.answers context.now) A.over
+            adapter.old self.old.next adapter.new why (held self.old.input)
+            (R.remaining reader.old) (R.remaining reader.new) (W.contents writer.old) (W.contents writer.new)) }
     {
         for turn in 0..u64::MAX {
             if adapter.is_over() {
@@ -117,6 +127,9 @@ impl Server {
             (W.contents writer.old) (W.contents writer.new)) }
         ensures ends { IfOk result (λ more. more ≡ false
             → IsAtEnd (R.remaining reader.new) × (held self.new.input ≡ [])) }
+        ensures fails { IfErr result (λ why. BreaksFrom (A.answers context.now) A.over
+            adapter.old self.old.next adapter.new why (held self.old.input)
+            (R.remaining reader.old) (R.remaining reader.new) (W.contents writer.old) (W.contents writer.new)) }
     {
         match self.input.next(reader) {
             Ok(next) => self.serve_message(writer, context, adapter, next),
@@ -137,6 +150,9 @@ impl Server {
             Hears (A.answers context.now) A.over adapter.old self.old.next adapter.new self.new.next bytes
             (held self.old.input) (W.contents writer.old) (W.contents writer.new)) }
         ensures ends { IfOk result (λ more. more ≡ false → next ≡ comes.Next.End) }
+        ensures fails { IfErr result (λ why. (bytes : List ℕ) → IsNext next self.old.input bytes →
+            HearsLast (A.answers context.now) A.over adapter.old self.old.next adapter.new why bytes
+            (W.contents writer.old) (W.contents writer.new)) }
         ensures input { self.new.input ≡ self.old.input }
     {
         match next {
@@ -148,10 +164,11 @@ impl Server {
 
     /// Tells that a message was passed over, and that there was one.
     fn pass_over<W: Write>(&mut self, writer: &mut W) -> Result<bool, Fault>
-        ensures tells { IfOk result (λ more. (line : List ℕ)
-            × Sends (short_line line self.old.next ∷ []) (W.contents writer.old) (W.contents writer.new) self.old.next
-            self.new.next) }
+        ensures tells { IfOk result (λ more. Sends (short_line (words_for large) self.old.next ∷ [])
+            (W.contents writer.old) (W.contents writer.new) self.old.next self.new.next) }
         ensures on { IfOk result (λ more. more ≡ true) }
+        ensures fails { IfErr result (λ why. IsBegun why (frames (short_line (words_for large) self.old.next ∷ []))
+            (W.contents writer.old) (W.contents writer.new)) }
         ensures input { self.new.input ≡ self.old.input }
     {
         match self.tell(writer, "a message of more than 4 MB is passed over") {
@@ -174,6 +191,9 @@ impl Server {
             Hears (A.answers context.now) A.over adapter.old self.old.next adapter.new self.new.next bytes
             (held self.old.input) (W.contents writer.old) (W.contents writer.new)) }
         ensures on { IfOk result (λ more. more ≡ true) }
+        ensures fails { IfErr result (λ why. (bytes : List ℕ) → IsNext (comes.Next.Body from to) self.old.input bytes →
+            HearsLast (A.answers context.now) A.over adapter.old self.old.next adapter.new why bytes
+            (W.contents writer.old) (W.contents writer.new)) }
         ensures input { self.new.input ≡ self.old.input }
     {
         match self.take(writer, context, adapter, from, to) {
@@ -195,6 +215,9 @@ impl Server {
         ensures serves { OnOk result ((bytes : List ℕ) → IsNext (comes.Next.Body from to) self.old.input bytes →
             Hears (A.answers context.now) A.over adapter.old self.old.next adapter.new self.new.next bytes
             (held self.old.input) (W.contents writer.old) (W.contents writer.new)) }
+        ensures fails { IfErr result (λ why. (bytes : List ℕ) → IsNext (comes.Next.Body from to) self.old.input bytes →
+            HearsLast (A.answers context.now) A.over adapter.old self.old.next adapter.new why bytes
+            (W.contents writer.old) (W.contents writer.new)) }
         ensures input { self.new.input ≡ self.old.input }
     {
         match read_request(self.alloc, self.input.body(from, to)) {
@@ -214,6 +237,9 @@ impl Server {
         ensures answers { OnOk result ((sent : List (List ℕ))
             × Exchange (A.answers context.now) adapter.old request.now self.old.next sent adapter.new
             × Sends sent (W.contents writer.old) (W.contents writer.new) self.old.next self.new.next) }
+        ensures fails { IfErr result (λ why. (sent : List (List ℕ))
+            × Exchange (A.answers context.now) adapter.old request.now self.old.next sent adapter.new
+            × IsBegun why (frames sent) (W.contents writer.old) (W.contents writer.new)) }
         ensures input { self.new.input ≡ self.old.input }
     {
         let answer = adapter.answer(context, request);
@@ -234,6 +260,8 @@ impl Server {
         ensures sends { OnOk result
             (Sends (short_bodies request.now gist self.old.next) (W.contents writer.old) (W.contents writer.new)
             self.old.next self.new.next) }
+        ensures fails { IfErr result (λ why. IsBegun why (frames (short_bodies request.now gist self.old.next))
+            (W.contents writer.old) (W.contents writer.new)) }
         ensures input { self.new.input ≡ self.old.input }
     {
         match self.room.answer(request, gist, self.next) {
@@ -247,6 +275,8 @@ impl Server {
         ensures sends { OnOk result
             (Sends (short_line line.now self.old.next ∷ []) (W.contents writer.old) (W.contents writer.new)
             self.old.next self.new.next) }
+        ensures fails { IfErr result (λ why. IsBegun why (frames (short_line line.now self.old.next ∷ []))
+            (W.contents writer.old) (W.contents writer.new)) }
         ensures input { self.new.input ≡ self.old.input }
     {
         match self.room.tell(line, self.next) {
@@ -257,8 +287,10 @@ impl Server {
 }
 
 /// Why a message is passed over.
-fn words_of(unread: Unread) -> &'static str {
-    match unread {
+fn words_of(why: Unread) -> &'static str
+    ensures { result.now ≡ words_for (unread why) }
+{
+    match why {
         Unread::Memory => "there is no memory to read a message, which is passed over",
         Unread::NoJson => "a message that is no JSON of 64 levels at most is passed over",
         Unread::NoRequest => "a message that is no request is passed over",

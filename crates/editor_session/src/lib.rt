@@ -44,7 +44,8 @@ impl<F: Files> Sources for Asked<'_, F> {
 ///
 /// # Errors
 ///
-/// One of `Ended`. All answers of the requests before are out then, but where writing failed.
+/// One of `Ended`. All answers of the requests before are out then, but where writing failed: there those of the last
+/// one may be out in part.
 pub fn serve<R: Read, W: Write, F: Files>(
     alloc: Global,
     reader: &mut R,

@@ -7,9 +7,9 @@ pass-requires g c = (large_is (held c.args.self.now) c.args.from c.args.length c
 
 pub returns-in-Ok-clause-next : goal.returns-in-Ok-clause-next
 returns-in-Ok-clause-next g c =
-    let came = c.in-Ok.ensures.0 in let passed = c.in-Ok.ensures.1 in (
+    let came = c.in-Ok.ensures.passes.0 in let passed = c.in-Ok.ensures.passes.1 in (
       came,
-      c.in-Ok.ensures.2,
+      c.in-Ok.ensures.passes.2,
       large_passed c.args.self.now c.pass_over.new.self (held c.pass.new.self) came passed c.args.from c.args.length c.requires c.pass.ensures.held
-          c.in-Ok.ensures.3 c.in-Ok.ensures.4,
+          c.in-Ok.ensures.passes.3 c.in-Ok.ensures.passes.4,
     )
