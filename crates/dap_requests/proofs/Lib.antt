@@ -1,6 +1,7 @@
 pub mod public
 mod Forward
 mod Lines
+mod Listing
 mod Placed
 mod Reading
 mod Setting

@@ -1,5 +1,7 @@
 pub mod Back
 pub mod Forth
+pub mod Lists
+pub mod Locations
 pub mod Reading
 pub mod Said
 pub mod Sets
