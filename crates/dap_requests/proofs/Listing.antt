@@ -1,6 +1,6 @@
 -- The list of breakpoints in a response, an item at a time.
 use Rattle.std.proofs.Common.{◌≡◌, ◌∙◌, ◌<◌, ◌≤◌, ◌+◌, ◌-◌, ◌++◌, ◌∷◌, [], ℕ, suc, Bool, List, Option, None, Some, IfSome, true, false, cond, codes, drop, get_or, is_some, length, map, option_and_then, option_map, take, unwrap_or, append_assoc, append-nil, arith, ap, refl, subst, sym}
-use Rattle.std.proofs.lemmas.List.{drop_more, map-append, take_all}
+use Rattle.std.proofs.lemmas.List.{drop_more, map-append, take_all, take_more}
 use Rattle.serde_json.specs.Data.{Data, boolean, number, object, unsigned}
 use Rattle.serde_json.specs.Find.{as_array, as_bool, as_number, as_u64, get, get_member}
 use Rattle.serde_json.specs.View.{items_of, items_view, members_view, view}
@@ -19,7 +19,7 @@ use Rattle.dap_views.specs.declared.index.Index.{Index}
 use Rattle.dap_views.specs.declared.lines.Lines.{Lines}
 use Rattle.dap_views.specs.declared.program.Asked.{Asked}
 use Rattle.dap_views.specs.declared.program.Program.{Program}
-use Rattle.dap_requests.specs.Lists.{Lists, Shown, Tells, all_shown, breakpoint_told, each, list_in, shown_as, verified_told}
+use Rattle.dap_requests.specs.Lists.{Lists, Shown, Tells, all_shown, breakpoint_told, each, list_in, none_shown, shown_as, stand_told, verified_told}
 use Rattle.dap_requests.specs.Locations.{Locates, LocatesOn, last_asked, line_told, places_on, stops_from, told_lines}
 use Rattle.dap_requests.specs.Sets.{ArePlaced, all_verified, id_in, is_own, path_in, watched_by}
 use Rattle.dap_requests.specs.declared.breakpoints.Making.{Making}
@@ -68,10 +68,10 @@ shown_told : (ms : Members) (less : ℕ) (a : Asked) → Has ms (codes "id") (nu
 shown_told ms less a id verified line full =
     let d = object (members_view ms.made.entries) in
     let first : number_named (codes "id") d ≡ Some a.id =
-        ap (λ (o : Option Data). option_and_then as_u64 (option_and_then as_number o)) (id full) in
+    ap (λ (o : Option Data). option_and_then as_u64 (option_and_then as_number o)) (id full) in
     let second : flag_named (codes "verified") d ≡ Some (is_some a.at) = ap (λ (o : Option Data). option_and_then as_bool o) (verified full) in
     let third : number_named (codes "line") d ≡ Some (unwrap_or a.at a.line - less) =
-        ap (λ (o : Option Data). option_and_then as_u64 (option_and_then as_number o)) (line full) in
+    ap (λ (o : Option Data). option_and_then as_u64 (option_and_then as_number o)) (line full) in
     ap (λ (x : Option ℕ). shown-of x (flag_named (codes "verified") d) (number_named (codes "line") d)) first
     ∙ ap (λ (x : Option Bool). shown-of (Some a.id) x (number_named (codes "line") d)) second
     ∙ ap (λ (x : Option ℕ). shown-of (Some a.id) (Some (is_some a.at)) x) third
@@ -98,8 +98,7 @@ pub made_all : (own : Bool) (c : Command) (lines : Lines) (less i : ℕ) (asked 
 made_all own c lines less i asked m None end placed told h = tt
 made_all own c lines less i asked m (Some placing) end placed told h =
     let all = subst (λ (xs : List Asked). ArePlaced own c lines [] xs m.asked.items m.stops.items) (take_all i asked end) placed in
-    let asked_all = subst (λ v. ArePlaced own c lines [] asked v.items m.stops.items) (sym h.0) all in
-    (
+    let asked_all = subst (λ v. ArePlaced own c lines [] asked v.items m.stops.items) (sym h.0) all in (
       subst (λ v. ArePlaced own c lines [] asked placing.asked.items v.items) (sym h.1) asked_all,
       ap (λ v. each breakpoint_told (items_view v.items)) h.3 ∙ told h.2 ∙ ap (λ v. all_shown less v.items) (sym h.0),
     )
@@ -109,6 +108,20 @@ pub lists_kept : (less : ℕ) (placing : Placing) (q : Program) (b : Answer) →
     (b.lacks ≡ false → list_in b.outcome ≡ Some (items_view placing.shown.items)) → Lists breakpoint_told (all_shown less q.asked.items) b
 lists_kept less placing q b shown kept told = λ full.
     ap (λ o. option_map (each breakpoint_told) o) (told full) ∙ ap (λ xs. Some xs) (shown ∙ ap (λ v. all_shown less v.items) (sym kept))
+
+-- one line more on which none stands
+pub unset_more : (lines : List ℕ) (i d : ℕ) (before after : Listed) (one : Members) → i < length lines →
+    Tells stand_told (none_shown (take i lines)) before → Has one (codes "verified") (boolean false) →
+    Has one (codes "line") (number (unsigned (get_or lines i d))) → Pushes before one after → Tells stand_told (none_shown (take (i + 1) lines)) after
+unset_more lines i d before after one low h verified line pushes =
+    let told = none_shown (take i lines) in
+    let says : one.lacks ≡ false → stand_told (object (members_view one.made.entries)) ≡ (Some false, Some (get_or lines i d)) = λ full.
+    ap (λ (x : Option Bool). (x, number_named (codes "line") (object (members_view one.made.entries))))
+    (ap (λ (o : Option Data). option_and_then as_bool o) (verified full))
+    ∙ ap (λ (x : Option ℕ). (Some false, x)) (ap (λ (o : Option Data). option_and_then as_u64 (option_and_then as_number o)) (line full)) in
+    let all : none_shown (take (i + 1) lines) ≡ told ++ (Some false, Some (get_or lines i d)) ∷ [] =
+    ap none_shown (take_more lines i d low) ∙ map-append (λ (n : ℕ). (Some false, Some n)) (take i lines) (get_or lines i d ∷ []) in
+    subst (λ xs. Tells stand_told xs after) (sym all) (tells_pushed stand_told told (Some false, Some (get_or lines i d)) before after one h says pushes)
 
 -- one item more that is watched, or not
 pub verified_more : (index : Index) (vs : List Value) (i : ℕ) (d : Value) (before after : Listed) (one : Members) (known : Bool) → i < length vs →
@@ -121,9 +134,9 @@ verified_more index vs i d before after one known low h is has pushes full =
     let rest = all_verified index (items_view (drop (i + 1) vs)) in
     let front = each verified_told (items_view before.made.items) in
     let says : verified_told (object (members_view one.made.entries)) ≡ Some (is_some (watched_by index (id_in (view (get_or vs i d))))) =
-        ap (λ (o : Option Data). option_and_then as_bool o) (has (pushes full).1) ∙ ap (λ (x : Bool). Some x) is in
+    ap (λ (o : Option Data). option_and_then as_bool o) (has (pushes full).1) ∙ ap (λ (x : Bool). Some x) is in
     let all : all_verified index (items_view (drop i vs)) ≡ Some (is_some (watched_by index (id_in (view (get_or vs i d))))) ∷ rest =
-        ap (λ (xs : List Value). all_verified index (items_view xs)) (drop_more vs i d low) in
+    ap (λ (xs : List Value). all_verified index (items_view xs)) (drop_more vs i d low) in
     ap (λ xs. xs ++ rest) (each_pushed verified_told before after one pushes full)
     ∙ ap (λ y. (front ++ y ∷ []) ++ rest) says
     ∙ append_assoc front (Some (is_some (watched_by index (id_in (view (get_or vs i d))))) ∷ []) rest
@@ -144,9 +157,9 @@ pub places_passed : (c : Command) (p : Program) (line behind : ℕ) (front all :
 places_passed c p line behind front all low none h =
     let off : stops line c ≡ false = none line (omega arith) (omega arith) in
     let next : stops_from c line (behind - line) ≡ stops_from c (line + 1) (behind - (line + 1)) =
-        stops-next c line behind low
-        ∙ ap
-        (λ (t : Bool). cond t (line ∷ stops_from c (line + 1) (behind - (line + 1))) (stops_from c (line + 1) (behind - (line + 1)))) off in
+    stops-next c line behind low
+    ∙ ap
+    (λ (t : Bool). cond t (line ∷ stops_from c (line + 1) (behind - (line + 1))) (stops_from c (line + 1) (behind - (line + 1)))) off in
     ap (λ (ls : List ℕ). front ++ told_lines p ls) (sym next) ∙ h
 
 -- one that does, and is told
@@ -160,10 +173,10 @@ places_pushed c p line stop behind before after one all low first has pushes h f
     let rest = stops_from c (line + 1) (behind - (line + 1)) in
     let front = each line_told (items_view before.made.items) in
     let next : stops_from c line (behind - line) ≡ line ∷ rest =
-        stops-next c line behind low ∙ ap (λ (t : Bool). cond t (line ∷ rest) rest) on in
+    stops-next c line behind low ∙ ap (λ (t : Bool). cond t (line ∷ rest) rest) on in
     let says : line_told (object (members_view one.made.entries)) ≡ Some (shown_line p line) =
-        ap (λ (o : Option Data). option_and_then as_u64 (option_and_then as_number o)) (has (pushes full).1)
-        ∙ ap (λ (n : ℕ). Some (shown_line p n)) same in
+    ap (λ (o : Option Data). option_and_then as_u64 (option_and_then as_number o)) (has (pushes full).1)
+    ∙ ap (λ (n : ℕ). Some (shown_line p n)) same in
     ap (λ xs. xs ++ told_lines p rest) (each_pushed line_told before after one pushes full)
     ∙ ap (λ y. (front ++ y ∷ []) ++ told_lines p rest) says
     ∙ append_assoc front (Some (shown_line p line) ∷ []) (told_lines p rest)

@@ -54,6 +54,14 @@ shown_as less a = record { id = Some a.id; verified = Some (is_some a.at); line 
 abbrev pub all_shown : ℕ → List Asked → List Shown
 all_shown less asked = map (shown_as less) asked
 
+-- whether an item tells that a breakpoint stands on a line, and a line
+abbrev pub stand_told : Data → Option Bool × Option ℕ
+stand_told d = (flag_named (codes "verified") d, number_named (codes "line") d)
+
+-- what is to be told of lines on which none stands, in order
+abbrev pub none_shown : List ℕ → List (Option Bool × Option ℕ)
+none_shown lines = map (λ line. (Some false, Some line)) lines
+
 -- whether an item tells that it is watched
 abbrev pub verified_told : Data → Option Bool
 verified_told d = flag_named (codes "verified") d

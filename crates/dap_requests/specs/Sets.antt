@@ -19,7 +19,7 @@ use Rattle.dap_views.specs.declared.index.Thing.{Thing}
 use Rattle.dap_views.specs.declared.lines.Lines.{Lines}
 use Rattle.dap_views.specs.declared.program.Asked.{Asked}
 use Rattle.dap_views.specs.declared.program.Program.{Program}
-use Rattle.dap_requests.specs.Lists.{Lists, all_shown, breakpoint_told, verified_told}
+use Rattle.dap_requests.specs.Lists.{Lists, all_shown, breakpoint_told, none_shown, stand_told, verified_told}
 use Rattle.dap_requests.specs.Stands.{StandsOn}
 
 -- the items of a part that is a list; none where it is not there, `None` where it is no list
@@ -159,6 +159,13 @@ PlacesAsked own c d p b q =
     ⊎ ((lines : List ℕ) × (lines_asked d ≡ Some lines) × PlacesAnew own c lines p q
     × Lists breakpoint_told (all_shown p.counting.lines q.asked.items) b)
 
+-- none of the lines that are asked for has a breakpoint, and so the response tells of each, in order; or it is refused,
+-- since they are not there as they should be, or there is no memory
+abbrev pub TellsNone : Data → Answer → Type 0
+TellsNone d b =
+    (((lines_asked d ≡ None) × IsRefusal b.outcome) ⊎ (b.lacks ≡ true))
+    ⊎ ((lines : List ℕ) × (lines_asked d ≡ Some lines) × Lists stand_told (none_shown lines) b)
+
 -- the path of the source that is named; nothing where none is
 abbrev pub path_in : Data → List ℕ
 path_in d = unwrap_or (option_and_then (text_named (codes "path")) (part_named (codes "source") d)) []
@@ -175,10 +182,10 @@ is_elsewhere p path = option_map_or (λ file. same_file (string_bytes file) path
 abbrev pub is_meant : Program → List ℕ → Bool
 is_meant p path = is_own p path || is_elsewhere p path
 
--- those that are asked for are set in this file, if they are in it; else all is as it was
+-- those that are asked for are set in this file, if they are in it; else all is as it was, and so it is told
 abbrev pub SetsIn : List ℕ → Command → Data → Program → Answer → Program → Type 0
 SetsIn path c d p b q =
-    ((is_meant p path ≡ false) × (q ≡ p)) ⊎ ((is_meant p path ≡ true) × PlacesAsked (is_own p path) c d p b q)
+    ((is_meant p path ≡ false) × (q ≡ p) × TellsNone d b) ⊎ ((is_meant p path ≡ true) × PlacesAsked (is_own p path) c d p b q)
 
 -- in the file that is named
 abbrev pub SetsLines : Command → Data → Program → Answer → Program → Type 0

@@ -10,8 +10,8 @@ ghost use Rattle.dap_messages.specs.Written.{Has};
 ghost use Rattle.dap_moves.specs.Stops.{FirstStop};
 ghost use Rattle.dap_views.specs.Counted.{at_most_all, shown_line};
 ghost use Rattle.dap_views.specs.Lined.{end_of};
-ghost use Rattle.dap_requests.specs.Lists.{Lists, all_shown, breakpoint_told, list_in};
-ghost use Rattle.dap_requests.specs.Sets.{ArePlaced, PlacesAnew, PlacesAsked, SetsExcepts, SetsLines, StandsIn, asked_on};
+ghost use Rattle.dap_requests.specs.Lists.{Lists, Tells, all_shown, breakpoint_told, list_in, none_shown, stand_told};
+ghost use Rattle.dap_requests.specs.Sets.{ArePlaced, PlacesAnew, PlacesAsked, SetsExcepts, SetsLines, StandsIn, TellsNone, asked_on};
 ghost use Rattle.dap_requests.specs.Sets.{filters_refused, has_refused, is_bare, is_refused, items_named, line_of};
 ghost use Rattle.dap_requests.specs.Sets.{file_of, is_again, is_elsewhere, lines_asked, lines_of, list_name, listed};
 ghost use Rattle.dap_requests.specs.Sets.{path_in, with_stop};
@@ -30,20 +30,34 @@ use std::alloc::Global;
 const MOST_LINES: usize = 64;
 
 /// Answers `setBreakpoints` while nothing is launched: none is verified.
-pub fn set_before(alloc: Global, request: &Request, answer: &mut Answer) {
+pub fn set_before(alloc: Global, request: &Request, answer: &mut Answer)
+    ensures { TellsNone (view request.now.arguments) answer.new }
+{
     set_none(alloc, request, "nothing is launched yet", answer);
 }
 
 /// Answers that none is set, for this reason.
-fn set_none(alloc: Global, request: &Request, reason: &str, answer: &mut Answer) {
-    let Some(lines) = lines_in(alloc, request, answer) else {
-        return;
-    };
+fn set_none(alloc: Global, request: &Request, reason: &str, answer: &mut Answer)
+    ensures { TellsNone (view request.now.arguments) answer.new }
+{
+    match lines_in(alloc, request, answer) {
+        Some(lines) => {
+            let list = unset_all(alloc, lines.as_slice(), reason);
+            give_made(alloc, list, answer);
+        }
+        None => {}
+    }
+}
+
+/// Breakpoints on these lines that are not set, for this reason.
+fn unset_all(alloc: Global, lines: &[u64], reason: &str) -> Listed
+    ensures { Tells stand_told (none_shown lines.now) result }
+{
     let mut list = Listed::new(alloc);
-    for line in &lines {
+    for line in lines {
         list.push(unset(alloc, *line, reason));
     }
-    give_made(alloc, list, answer);
+    list
 }
 
 /// The items of the list of this name; none where it is not there. It is refused where it is no list.
@@ -170,11 +184,14 @@ fn line_of(bare: bool, item: &Value) -> Option<u64>
 }
 
 /// A breakpoint that is not set, for this reason.
-fn unset(alloc: Global, line: u64, reason: &str) -> Members {
+fn unset(alloc: Global, line: u64, reason: &str) -> Members
+    ensures verified { Has result (codes "verified") (boolean false) }
+    ensures line_is { Has result (codes "line") (number (unsigned line)) }
+{
     let mut one = Members::new(alloc);
+    one.text("message", reason);
     one.flag("verified", false);
     one.number("line", line);
-    one.text("message", reason);
     one
 }
 

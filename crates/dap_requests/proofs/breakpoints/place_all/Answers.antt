@@ -12,7 +12,7 @@ loop-one-init c = (?, λ full. ?)
 pub loop-one-preserved : goal.loop-one-preserved
 loop-one-preserved c = (
   placed_more c.args.own c.args.machine.now.checked.main c.args.program.now.lines c.args.program.now.counting.lines c.args.asked.now
-    c.loop-one.one-index _ c.loop-one.making c.place_one.new.making c.loop-one-test.true c.loop-one.invariant.0 c.in_ok-place_one.ensures,
+      c.loop-one.one-index _ c.loop-one.making c.place_one.new.making c.loop-one-test.true c.loop-one.invariant.0 c.in_ok-place_one.ensures,
   c.in_ok-place_one.ensures.told c.loop-one.invariant.1,
 )
 
