@@ -1,5 +1,5 @@
 -- The list of breakpoints in a response, an item at a time.
-use Rattle.std.proofs.Common.{◌≡◌, ◌∙◌, ◌<◌, ◌≤◌, ◌+◌, ◌-◌, ◌++◌, ◌∷◌, [], ℕ, suc, Bool, List, Option, None, Some, IfSome, true, false, cond, codes, drop, get_or, is_some, length, map, option_and_then, option_map, take, unwrap_or, append_assoc, append-nil, arith, ap, refl, subst, sym}
+use Rattle.std.proofs.Common.{◌≡◌, ◌∙◌, ◌<◌, ◌≤◌, ◌+◌, ◌-◌, ◌++◌, ◌∷◌, [], ℕ, suc, Bool, List, Option, None, Some, IfSome, true, false, cond, codes, drop, get_or, is_some, length, map, option_and_then, option_map, take, unwrap_or, Global, Vec, append_assoc, append-nil, arith, ap, refl, subst, sym}
 use Rattle.std.proofs.lemmas.List.{drop_more, map-append, take_all, take_more}
 use Rattle.serde_json.specs.Data.{Data, boolean, number, object, unsigned}
 use Rattle.serde_json.specs.Find.{as_array, as_bool, as_number, as_u64, get, get_member}
@@ -19,7 +19,7 @@ use Rattle.dap_views.specs.declared.index.Index.{Index}
 use Rattle.dap_views.specs.declared.lines.Lines.{Lines}
 use Rattle.dap_views.specs.declared.program.Asked.{Asked}
 use Rattle.dap_views.specs.declared.program.Program.{Program}
-use Rattle.dap_requests.specs.Lists.{Lists, Shown, Tells, all_shown, breakpoint_told, each, list_in, none_shown, shown_as, stand_told, verified_told}
+use Rattle.dap_requests.specs.Lists.{Lists, Shown, Tells, all_shown, breakpoint_told, each, list_in, none_shown, shown_as, stand_told, unset_as, verified_told}
 use Rattle.dap_requests.specs.Locations.{Locates, LocatesOn, last_asked, line_told, places_on, stops_from, told_lines}
 use Rattle.dap_requests.specs.Sets.{ArePlaced, all_verified, id_in, is_own, path_in, watched_by}
 use Rattle.dap_requests.specs.declared.breakpoints.Making.{Making}
@@ -98,30 +98,39 @@ pub made_all : (own : Bool) (c : Command) (lines : Lines) (less i : ℕ) (asked 
 made_all own c lines less i asked m None end placed told h = tt
 made_all own c lines less i asked m (Some placing) end placed told h =
     let all = subst (λ (xs : List Asked). ArePlaced own c lines [] xs m.asked.items m.stops.items) (take_all i asked end) placed in
-    let asked_all = subst (λ v. ArePlaced own c lines [] asked v.items m.stops.items) (sym h.0) all in (
-      subst (λ v. ArePlaced own c lines [] asked placing.asked.items v.items) (sym h.1) asked_all,
-      ap (λ v. each breakpoint_told (items_view v.items)) h.3 ∙ told h.2 ∙ ap (λ v. all_shown less v.items) (sym h.0),
+    let asked_all = subst (λ (v : Vec Asked Global). ArePlaced own c lines [] asked v.items m.stops.items) (sym h.0) all in (
+      subst (λ (v : Vec ℕ Global). ArePlaced own c lines [] asked placing.asked.items v.items) (sym h.1) asked_all,
+      ap (λ (v : Vec Value Global). each breakpoint_told (items_view v.items)) h.3 ∙ told h.2 ∙ ap (λ (v : Vec Asked Global). all_shown less v.items) (sym h.0),
     )
 
 -- what was placed is what the response lists, where that is kept
 pub lists_kept : (less : ℕ) (placing : Placing) (q : Program) (b : Answer) → AreShown less placing → q.asked ≡ placing.asked →
     (b.lacks ≡ false → list_in b.outcome ≡ Some (items_view placing.shown.items)) → Lists breakpoint_told (all_shown less q.asked.items) b
 lists_kept less placing q b shown kept told = λ full.
-    ap (λ o. option_map (each breakpoint_told) o) (told full) ∙ ap (λ xs. Some xs) (shown ∙ ap (λ v. all_shown less v.items) (sym kept))
+    ap (λ o. option_map (each breakpoint_told) o) (told full) ∙ ap (λ xs. Some xs) (shown ∙ ap (λ (v : Vec Asked Global). all_shown less v.items) (sym kept))
 
 -- one line more on which none stands
+abbrev pair-of : Option Bool → Option ℕ → Option Bool × Option ℕ
+pair-of x y = (x, y)
+
+unset_told : (line : ℕ) (one : Members) → Has one (codes "verified") (boolean false) → Has one (codes "line") (number (unsigned line)) →
+    one.lacks ≡ false → stand_told (object (members_view one.made.entries)) ≡ unset_as line
+unset_told line one verified at full =
+    let d = object (members_view one.made.entries) in
+    let first : flag_named (codes "verified") d ≡ Some false = ap (λ (o : Option Data). option_and_then as_bool o) (verified full) in
+    let second : number_named (codes "line") d ≡ Some line = ap (λ (o : Option Data). option_and_then as_u64 (option_and_then as_number o)) (at full) in
+    ap (λ (x : Option Bool). pair-of x (number_named (codes "line") d)) first ∙ ap (λ (x : Option ℕ). pair-of (Some false) x) second
+
 pub unset_more : (lines : List ℕ) (i d : ℕ) (before after : Listed) (one : Members) → i < length lines →
     Tells stand_told (none_shown (take i lines)) before → Has one (codes "verified") (boolean false) →
     Has one (codes "line") (number (unsigned (get_or lines i d))) → Pushes before one after → Tells stand_told (none_shown (take (i + 1) lines)) after
-unset_more lines i d before after one low h verified line pushes =
+unset_more lines i d before after one low h verified at pushes =
     let told = none_shown (take i lines) in
-    let says : one.lacks ≡ false → stand_told (object (members_view one.made.entries)) ≡ (Some false, Some (get_or lines i d)) = λ full.
-    ap (λ (x : Option Bool). (x, number_named (codes "line") (object (members_view one.made.entries))))
-    (ap (λ (o : Option Data). option_and_then as_bool o) (verified full))
-    ∙ ap (λ (x : Option ℕ). (Some false, x)) (ap (λ (o : Option Data). option_and_then as_u64 (option_and_then as_number o)) (line full)) in
-    let all : none_shown (take (i + 1) lines) ≡ told ++ (Some false, Some (get_or lines i d)) ∷ [] =
-    ap none_shown (take_more lines i d low) ∙ map-append (λ (n : ℕ). (Some false, Some n)) (take i lines) (get_or lines i d ∷ []) in
-    subst (λ xs. Tells stand_told xs after) (sym all) (tells_pushed stand_told told (Some false, Some (get_or lines i d)) before after one h says pushes)
+    let line = get_or lines i d in
+    let all : none_shown (take (i + 1) lines) ≡ told ++ unset_as line ∷ [] =
+    ap none_shown (take_more lines i d low) ∙ map-append unset_as (take i lines) (line ∷ []) in
+    subst (λ xs. Tells stand_told xs after) (sym all)
+    (tells_pushed stand_told told (unset_as line) before after one h (unset_told line one verified at) pushes)
 
 -- one item more that is watched, or not
 pub verified_more : (index : Index) (vs : List Value) (i : ℕ) (d : Value) (before after : Listed) (one : Members) (known : Bool) → i < length vs →

@@ -1,5 +1,5 @@
 -- What the list of breakpoints in a response tells.
-use Rattle.std.specs.Prelude.{ℕ, ◌≡◌, ◌-◌, Bool, false, List, [], ◌∷◌, Option, None, Some, codes, is_some, map, option_and_then, unwrap_or}
+use Rattle.std.specs.Prelude.{ℕ, ◌≡◌, ◌-◌, Bool, false, List, [], ◌∷◌, Option, Some, codes, is_some, map, option_and_then, unwrap_or}
 use Rattle.std.specs.Option.{option_map}
 use Rattle.serde_json.specs.Data.{Data, Items, item, no_items, null}
 use Rattle.serde_json.specs.Find.{as_array, get}
@@ -59,8 +59,11 @@ abbrev pub stand_told : Data → Option Bool × Option ℕ
 stand_told d = (flag_named (codes "verified") d, number_named (codes "line") d)
 
 -- what is to be told of lines on which none stands, in order
+abbrev pub unset_as : ℕ → Option Bool × Option ℕ
+unset_as line = (Some false, Some line)
+
 abbrev pub none_shown : List ℕ → List (Option Bool × Option ℕ)
-none_shown lines = map (λ line. (Some false, Some line)) lines
+none_shown lines = map unset_as lines
 
 -- whether an item tells that it is watched
 abbrev pub verified_told : Data → Option Bool

@@ -1,12 +1,11 @@
 // The lines on which a breakpoint may stand.
-ghost use Rattle.std.specs.Prelude.{◌≡◌, ◌-◌, ℕ, List, Some, codes, map};
+ghost use Rattle.std.specs.Prelude.{◌≡◌, ◌-◌, codes};
 ghost use Rattle.serde_json.specs.Data.{number, unsigned};
 ghost use Rattle.serde_json.specs.View.{view};
 ghost use Rattle.dap_messages.specs.Written.{Has};
-ghost use Rattle.dap_views.specs.Counted.{meant_line, shown_line};
+ghost use Rattle.dap_views.specs.Counted.{shown_line};
 ghost use Rattle.dap_requests.specs.Lists.{Tells};
-ghost use Rattle.dap_requests.specs.Locations.{Locates, LocatesOn, behind_asked, last_asked, line_told, places_on, stops_from, told_lines};
-ghost use Rattle.dap_requests.specs.Sets.{is_own, path_in};
+ghost use Rattle.dap_requests.specs.Locations.{Locates, behind_asked, last_asked, line_told, places_on, stops_from, told_lines};
 
 use crate::breakpoints::path_in;
 use crate::lists::give_made;

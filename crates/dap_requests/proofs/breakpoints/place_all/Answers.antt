@@ -1,13 +1,6 @@
-use Rattle.std.proofs.Common.{List, ap, refl}
-use Rattle.serde_json.specs.View.{items_view}
-use Rattle.serde_json.specs.declared.value.Value.{Value}
-use Rattle.dap_requests.specs.Lists.{breakpoint_told, each}
 use Rattle.dap_requests.proofs.Listing.{made_all}
 use Rattle.dap_requests.proofs.Placed.{placed_more}
 use Rattle.dap_requests.proofs.breakpoints.place_all.Goals as goal
-
-pub loop-one-init : goal.loop-one-init
-loop-one-init c = (?, λ full. ?)
 
 pub loop-one-preserved : goal.loop-one-preserved
 loop-one-preserved c = (

@@ -1,5 +1,5 @@
 use Rattle.std.proofs.Common.{ℕ, List, Some, ◌∙◌, ap, inl, inr, sym}
-use Rattle.dap_requests.specs.Lists.{Lists, none_shown, stand_told}
+use Rattle.dap_requests.specs.Lists.{none_shown, stand_told}
 use Rattle.dap_requests.proofs.Listing.{lists_made}
 use Rattle.dap_requests.proofs.breakpoints.set_none.Goals as goal
 

@@ -1,4 +1,5 @@
 use Rattle.std.proofs.Common.{ap, inl, inr, length, refl}
+use Rattle.dap_views.specs.declared.program.Program.{Program}
 use Rattle.dap_requests.proofs.Listing.{lists_kept}
 use Rattle.dap_requests.proofs.Placed.{places_anew}
 use Rattle.dap_requests.proofs.breakpoints.set_on.Goals as goal
@@ -10,7 +11,7 @@ returns-in-Some c =
       places_anew c.args.own c.args.machine.now.checked.main c.args.lines.now (length c.args.lines.now) c.args.program.now c.keep_on.new.program
           c.in-Some.placing refl c.in-Some.ensures.0 set,
       lists_kept c.args.program.now.counting.lines c.in-Some.placing c.keep_on.new.program c.keep_on.new.answer c.in-Some.ensures.1
-          (ap (λ x. x.asked) set) c.keep_on.ensures.told,
+          (ap (λ (x : Program). x.asked) set) c.keep_on.ensures.told,
     )
 
 pub returns-in-None : goal.returns-in-None
