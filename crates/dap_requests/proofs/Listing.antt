@@ -14,6 +14,7 @@ use Rattle.dap_messages.specs.declared.answer.Outcome.{Outcome}
 use Rattle.dap_messages.specs.declared.members.Listed.{Listed}
 use Rattle.dap_messages.specs.declared.members.Members.{Members}
 use Rattle.dap_moves.specs.Stops.{FirstStop, stops}
+use Rattle.dap_moves.specs.declared.seen.Watched.{Watched}
 use Rattle.dap_views.specs.Counted.{shown_line}
 use Rattle.dap_views.specs.declared.index.Index.{Index}
 use Rattle.dap_views.specs.declared.lines.Lines.{Lines}
@@ -21,7 +22,8 @@ use Rattle.dap_views.specs.declared.program.Asked.{Asked}
 use Rattle.dap_views.specs.declared.program.Program.{Program}
 use Rattle.dap_requests.specs.Lists.{Lists, Shown, Tells, all_shown, breakpoint_told, each, list_in, none_shown, shown_as, stand_told, unset_as, verified_told}
 use Rattle.dap_requests.specs.Locations.{Locates, LocatesOn, last_asked, line_told, places_on, stops_from, told_lines}
-use Rattle.dap_requests.specs.Sets.{ArePlaced, all_verified, id_in, is_own, path_in, watched_by}
+use Rattle.dap_requests.specs.Sets.{ArePlaced, all_verified, all_watched, id_in, is_own, path_in, watched_before, watched_by}
+use Rattle.dap_requests.proofs.Setting.{watched_more}
 use Rattle.dap_requests.specs.declared.breakpoints.Making.{Making}
 use Rattle.dap_requests.specs.declared.breakpoints.Placing.{Placing}
 use Rattle.dap_requests.specs.internal.Placing.{AreShown, AreTold, TellsMore}
@@ -132,23 +134,40 @@ unset_more lines i d before after one low h verified at pushes =
     subst (λ xs. Tells stand_told xs after) (sym all)
     (tells_pushed stand_told told (unset_as line) before after one h (unset_told line one verified at) pushes)
 
--- one item more that is watched, or not
+-- what one item more means is watched
+pub watched_behind : (index : Index) (vs : List Value) (i : ℕ) (d : Value) (before after : List Watched) (found : Option Watched) → i < length vs →
+    d ≡ get_or vs i d → found ≡ watched_by index (id_in (view d)) → after ≡ before ++ watched_before found [] →
+    before ++ all_watched index (items_view (drop i vs)) ≡ all_watched index (items_view vs) →
+    after ++ all_watched index (items_view (drop (i + 1) vs)) ≡ all_watched index (items_view vs)
+watched_behind index vs i d before after found low same is added h =
+    let rest = all_watched index (items_view (drop (i + 1) vs)) in
+    let all : all_watched index (items_view (drop i vs)) ≡ watched_before (watched_by index (id_in (view (get_or vs i d)))) rest =
+    ap (λ (xs : List Value). all_watched index (items_view xs)) (drop_more vs i d low) in
+    ap (λ (ws : List Watched). ws ++ rest) added
+    ∙ watched_more before rest found
+    ∙ ap (λ (w : Option Watched). before ++ watched_before w rest) (is ∙ ap (λ (v : Value). watched_by index (id_in (view v))) same)
+    ∙ ap (λ (ws : List Watched). before ++ ws) (sym all)
+    ∙ h
+
+-- and it is told whether it means something
 pub verified_more : (index : Index) (vs : List Value) (i : ℕ) (d : Value) (before after : Listed) (one : Members) (known : Bool) → i < length vs →
+    d ≡ get_or vs i d →
     (before.lacks ≡ false →
     each verified_told (items_view before.made.items) ++ all_verified index (items_view (drop i vs)) ≡ all_verified index (items_view vs)) →
-    known ≡ is_some (watched_by index (id_in (view (get_or vs i d)))) → Has one (codes "verified") (boolean known) → Pushes before one after →
-    after.lacks ≡ false →
+    known ≡ is_some (watched_by index (id_in (view d))) → Has one (codes "verified") (boolean known) → Pushes before one after → after.lacks ≡ false →
     each verified_told (items_view after.made.items) ++ all_verified index (items_view (drop (i + 1) vs)) ≡ all_verified index (items_view vs)
-verified_more index vs i d before after one known low h is has pushes full =
+verified_more index vs i d before after one known low same h is has pushes full =
     let rest = all_verified index (items_view (drop (i + 1) vs)) in
     let front = each verified_told (items_view before.made.items) in
-    let says : verified_told (object (members_view one.made.entries)) ≡ Some (is_some (watched_by index (id_in (view (get_or vs i d))))) =
+    let read : Value → Option Bool = λ v. Some (is_some (watched_by index (id_in (view v)))) in
+    let says : verified_told (object (members_view one.made.entries)) ≡ read d =
     ap (λ (o : Option Data). option_and_then as_bool o) (has (pushes full).1) ∙ ap (λ (x : Bool). Some x) is in
-    let all : all_verified index (items_view (drop i vs)) ≡ Some (is_some (watched_by index (id_in (view (get_or vs i d))))) ∷ rest =
-    ap (λ (xs : List Value). all_verified index (items_view xs)) (drop_more vs i d low) in
+    let all : all_verified index (items_view (drop i vs)) ≡ read d ∷ rest =
+    ap (λ (xs : List Value). all_verified index (items_view xs)) (drop_more vs i d low)
+    ∙ ap (λ (v : Value). read v ∷ rest) (sym same) in
     ap (λ xs. xs ++ rest) (each_pushed verified_told before after one pushes full)
     ∙ ap (λ y. (front ++ y ∷ []) ++ rest) says
-    ∙ append_assoc front (Some (is_some (watched_by index (id_in (view (get_or vs i d))))) ∷ []) rest
+    ∙ append_assoc front (read d ∷ []) rest
     ∙ ap (λ xs. front ++ xs) (sym all)
     ∙ h (pushes full).0
 

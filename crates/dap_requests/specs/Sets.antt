@@ -185,7 +185,8 @@ is_meant p path = is_own p path || is_elsewhere p path
 -- those that are asked for are set in this file, if they are in it; else all is as it was, and so it is told
 abbrev pub SetsIn : List ℕ → Command → Data → Program → Answer → Program → Type 0
 SetsIn path c d p b q =
-    ((is_meant p path ≡ false) × (q ≡ p) × TellsNone d b) ⊎ ((is_meant p path ≡ true) × PlacesAsked (is_own p path) c d p b q)
+    ((is_meant p path ≡ false) × (q ≡ p) × TellsNone d b)
+    ⊎ ((is_meant p path ≡ true) × PlacesAsked (is_own p path) c d p b q)
 
 -- in the file that is named
 abbrev pub SetsLines : Command → Data → Program → Answer → Program → Type 0

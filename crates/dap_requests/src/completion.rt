@@ -23,8 +23,8 @@ static LINE_WORDS: [&str; 16] = [
     "rewind",
 ];
 
-/// What was begun of a word or a name: where it begins in its line, as the client counts, and how many UTF-16 code units
-/// it has. A client puts what was chosen in its place.
+/// What was begun of a word or a name: where it begins in its line, as the client counts, and how many UTF-16 code
+/// units it has. A client puts what was chosen in its place.
 #[derive(Clone, Copy, Debug)]
 struct Begun<'a> {
     text: &'a str,
@@ -42,9 +42,9 @@ pub fn completions(alloc: Global, program: &Program, request: &Request, answer: 
         .trim_ascii_start();
     let mut list = Listed::new(alloc);
     match line.rsplit_once(' ') {
-        Some((_, last)) => add_names(alloc, program, begun(program, front, last), &mut list),
+        Some((_, last)) => add_names(alloc, program, begun_by(program, front, last), &mut list),
         None => {
-            let begun = begun(program, front, line);
+            let begun = begun_by(program, front, line);
             add_words(alloc, begun, &mut list);
             add_names(alloc, program, begun, &mut list);
         }
@@ -116,7 +116,7 @@ fn units_from(byte: u8) -> u64 {
 }
 
 /// What was begun by the end of what stands before the column.
-fn begun<'a>(program: &Program, front: &str, text: &'a str) -> Begun<'a> {
+fn begun_by<'a>(program: &Program, front: &str, text: &'a str) -> Begun<'a> {
     let length = units_of(text);
     let before = units_of(front).saturating_sub(length);
     Begun {

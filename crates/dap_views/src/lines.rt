@@ -36,11 +36,9 @@ impl Lines {
         })
     }
 
-    /// The line behind the last.
-    pub fn behind(&self) -> u64
-        ensures { result ≡ self.now.behind }
-    {
-        self.behind
+    /// How many lines there are.
+    pub fn count(&self) -> u64 {
+        self.begins.len() as u64
     }
 
     /// The column of the first byte of the line that is not blank, from 1.

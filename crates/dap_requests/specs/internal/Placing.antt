@@ -24,7 +24,8 @@ TellsMore less a before after =
     (told : List Shown) → Tells breakpoint_told told before → Tells breakpoint_told (told ++ shown_as less a ∷ []) after
 
 -- a breakpoint is placed behind those that are, and what is to be told of it too
-pub record PlacesOne (own : Bool) (c : Command) (lines : Lines) (less : ℕ) (one : Asked) (before after : Making) : Type 0 where
+pub record PlacesOne (own : Bool) (c : Command) (lines : Lines) (less : ℕ) (one : Asked)
+    (before after : Making) : Type 0 where
   pub at : Option ℕ
   pub stands : StandsIn own c lines before.stops.items one.line at
   pub asked : after.asked.items ≡ before.asked.items ++ record one { at = at } ∷ []

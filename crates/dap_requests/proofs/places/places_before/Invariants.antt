@@ -3,7 +3,7 @@ use Rattle.std.proofs.Common.{◌≡◌, ◌++◌, ◌-◌, false}
 use Rattle.serde_json.specs.View.{items_view}
 use Rattle.dap_requests.specs.Lists.{each}
 use Rattle.dap_requests.specs.Locations.{line_told, stops_from, told_lines}
-use Rattle.dap_requests.proofs.locations.places.Given as goal
+use Rattle.dap_requests.proofs.places.places_before.Given as goal
 
 abbrev pub invariant-loop-line : goal.invariant-loop-line
 invariant-loop-line l =

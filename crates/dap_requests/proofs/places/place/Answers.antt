@@ -2,7 +2,7 @@ use Rattle.std.proofs.Common.{codes, ℕ, subst}
 use Rattle.serde_json.specs.Data.{number, unsigned}
 use Rattle.dap_messages.specs.Written.{Has}
 use Rattle.dap_requests.proofs.Setting.{has_put}
-use Rattle.dap_requests.proofs.locations.place.Goals as goal
+use Rattle.dap_requests.proofs.places.place.Goals as goal
 
 pub returns : goal.returns
 returns c =

@@ -1,6 +1,6 @@
 use Rattle.serde_json.specs.View.{view}
 use Rattle.dap_requests.proofs.Listing.{located}
-use Rattle.dap_requests.proofs.locations.locations.Goals as goal
+use Rattle.dap_requests.proofs.places.locations.Goals as goal
 
 pub returns-in-Some : goal.returns-in-Some
 returns-in-Some c =

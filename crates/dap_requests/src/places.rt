@@ -3,9 +3,10 @@ ghost use Rattle.std.specs.Prelude.{◌≡◌, ◌-◌, codes};
 ghost use Rattle.serde_json.specs.Data.{number, unsigned};
 ghost use Rattle.serde_json.specs.View.{view};
 ghost use Rattle.dap_messages.specs.Written.{Has};
+ghost use Rattle.dap_moves.specs.Stops.{FirstStop};
 ghost use Rattle.dap_views.specs.Counted.{shown_line};
 ghost use Rattle.dap_requests.specs.Lists.{Tells};
-ghost use Rattle.dap_requests.specs.Locations.{Locates, behind_asked, last_asked, line_told, places_on, stops_from, told_lines};
+ghost use Rattle.dap_requests.specs.Locations.{Locates, behind_asked, behind_last, last_asked, line_told, places_on, stops_from, told_lines};
 
 use crate::breakpoints::path_in;
 use crate::lists::give_made;
@@ -64,7 +65,7 @@ fn places_on(
     if own {
         let first = program.meant_line(line);
         let behind = behind_asked(program, first, program.meant_line(last));
-        places(alloc, machine, program, first, behind)
+        places_before(alloc, machine, program, first, behind)
     } else {
         Listed::new(alloc)
     }
@@ -72,25 +73,47 @@ fn places_on(
 
 /// The line behind those that are looked at, where these two are asked for.
 fn behind_asked(program: &Program, first: u64, last: u64) -> u64
-    ensures { result ≡ behind_asked program.now.lines first last }
+    ensures { result ≡ behind_asked program.now.source.items first last }
 {
     let most = first.saturating_add(MOST_LOCATIONS);
-    last.saturating_add(1).min(most).min(program.lines.behind())
+    let behind = behind_last(program.source.as_slice());
+    last.saturating_add(1).min(most).min(behind)
+}
+
+/// The line behind the last of a source.
+fn behind_last(source: &[u8]) -> u64
+    ensures { result ≡ behind_last source.now }
+{
+    let breaks = source.iter().filter(|byte| **byte == b'\n').count();
+    (breaks as u64).saturating_add(2)
 }
 
 /// The places on the lines from `first` on and before `behind`.
-fn places(alloc: Global, machine: &Machine, program: &Program, first: u64, behind: u64) -> Listed
+fn places_before(
+    alloc: Global,
+    machine: &Machine,
+    program: &Program,
+    first: u64,
+    behind: u64,
+) -> Listed
     ensures { Tells line_told
         (told_lines program.now (stops_from machine.now.checked.main first (behind - first))) result }
 {
     let mut list = Listed::new(alloc);
     for line in first..behind {
-        match first_stop(machine.checked().system(), line, line + 1) {
+        match stop_in(machine, line, line + 1) {
             Some(stop) => list.push(place(alloc, program, stop)),
             None => {}
         }
     }
     list
+}
+
+/// The first line that stops, of those from `from` on and before `below`.
+fn stop_in(machine: &Machine, from: u64, below: u64) -> Option<u64>
+    ensures { FirstStop machine.now.checked.main from below result }
+{
+    first_stop(machine.checked().system(), from, below)
 }
 
 /// A place on a line, as the client sees it.
