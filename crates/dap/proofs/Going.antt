@@ -234,17 +234,18 @@ lines-unseen d c p q b own h = elim h [
       elsewhere = anew.2.elsewhere;
       same = ap unseen anew.2.same;
     },
+    anew.3,
   )
 ]
 
 by-unseen : (kind : Kind) (d : Data) (c : Command) (p q : Program) (b : Answer) → SetsBy kind d c p b q → SetsBy kind d c (unseen p) b (unseen q)
 by-unseen Kind.SetBreakpoints d c p q b h = elim h [
-  | inl other ↦ inl (other.0, ap unseen other.1)
+  | inl other ↦ inl (other.0, ap unseen other.1, other.2)
   | inr set ↦ inr (set.0, lines-unseen d c p q b (is_own p (path_in d)) set.1)
 ]
 by-unseen Kind.SetDataBreakpoints d c p q b h = elim h [
   | inl still ↦ inl (stays-unseen (items_named (codes "breakpoints") d) p q b still)
-  | inr only ↦ inr (only.0, only.1, (only.2.0, ap unseen only.2.1))
+  | inr only ↦ inr (only.0, only.1, (only.2.0, ap unseen only.2.1), only.3)
 ]
 by-unseen Kind.SetExceptionBreakpoints d c p q b h = ap unseen h
 by-unseen Kind.Terminate d c p q b h = (ap unseen h.0, h.1)

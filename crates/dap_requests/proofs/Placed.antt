@@ -23,10 +23,10 @@ placed-behind own c lines stops (x ∷ xs) (y ∷ ys) all a at h stands =
     (h.0, h.1, placed-behind own c lines (with_stop stops y.at) xs ys all a at h.2 stands)
 
 -- so one of a list is placed behind those before it
-pub placed_more : (own : Bool) (c : Command) (lines : Lines) (xs : List Asked) (i : ℕ) (d : Asked) (m n : Making) → i < length xs →
-    ArePlaced own c lines [] (take i xs) m.asked.items m.stops.items → PlacesOne own c lines (get_or xs i d) m n →
+pub placed_more : (own : Bool) (c : Command) (lines : Lines) (less : ℕ) (xs : List Asked) (i : ℕ) (d : Asked) (m n : Making) → i < length xs →
+    ArePlaced own c lines [] (take i xs) m.asked.items m.stops.items → PlacesOne own c lines less (get_or xs i d) m n →
     ArePlaced own c lines [] (take (i + 1) xs) n.asked.items n.stops.items
-placed_more own c lines xs i d m n low before one =
+placed_more own c lines less xs i d m n low before one =
     let all = placed-behind own c lines [] (take i xs) m.asked.items m.stops.items (get_or xs i d) one.at before one.stands in
     subst (λ (zs : List Asked). ArePlaced own c lines [] zs n.asked.items n.stops.items) (sym (take_more xs i d low))
     (subst (λ (ys : List Asked). ArePlaced own c lines [] (take i xs ++ get_or xs i d ∷ []) ys n.stops.items) (sym one.asked)

@@ -17,7 +17,7 @@ use Rattle.dap_moves.specs.declared.seen.Watched.{Watched}
 use Rattle.dap_views.specs.Named.{found}
 use Rattle.dap_views.specs.declared.index.Index.{Index}
 use Rattle.dap_views.specs.declared.program.Program.{Program}
-use Rattle.dap_requests.specs.Sets.{PlacesAsked, SetsExcepts, SetsIn, SetsLines, WatchesOnly, all_watched, filters_refused, is_elsewhere, is_meant, is_own, path_in}
+use Rattle.dap_requests.specs.Sets.{PlacesAsked, SetsExcepts, SetsIn, SetsLines, TellsNone, WatchesOnly, all_watched, filters_refused, is_elsewhere, is_meant, is_own, path_in}
 use Rattle.dap_requests.specs.Sets.{watched_as, watched_before, watched_by}
 
 -- what was put is there
@@ -88,6 +88,6 @@ sets_in c d p b q path own meant path_is own_is meant_is h placed =
     (inr (meant-by p path own meant true own_is meant_is h, subst (λ (x : Bool). PlacesAsked x c d p b q) own_is placed))
 
 pub sets_elsewhere : (c : Command) (d : Data) (p : Program) (b : Answer) (path : List ℕ) (own meant : Bool) → path ≡ path_in d →
-    own ≡ is_own p path → meant ≡ (own || is_elsewhere p path) → meant ≡ false → SetsLines c d p b p
-sets_elsewhere c d p b path own meant path_is own_is meant_is h =
-    subst (λ (x : List ℕ). SetsIn x c d p b p) path_is (inl (meant-by p path own meant false own_is meant_is h, refl))
+    own ≡ is_own p path → meant ≡ (own || is_elsewhere p path) → meant ≡ false → TellsNone d b → SetsLines c d p b p
+sets_elsewhere c d p b path own meant path_is own_is meant_is h none =
+    subst (λ (x : List ℕ). SetsIn x c d p b p) path_is (inl (meant-by p path own meant false own_is meant_is h, refl, none))

@@ -1,6 +1,8 @@
 pub mod Back
 pub mod Denied
 pub mod Forth
+pub mod Lists
+pub mod Locations
 pub mod Reading
 pub mod Said
 pub mod Sets

@@ -19,6 +19,7 @@ use Rattle.dap_views.specs.declared.index.Thing.{Thing}
 use Rattle.dap_views.specs.declared.lines.Lines.{Lines}
 use Rattle.dap_views.specs.declared.program.Asked.{Asked}
 use Rattle.dap_views.specs.declared.program.Program.{Program}
+use Rattle.dap_requests.specs.Lists.{Lists, all_shown, breakpoint_told, none_shown, stand_told, verified_told}
 use Rattle.dap_requests.specs.Stands.{StandsOn}
 
 -- the items of a part that is a list; none where it is not there, `None` where it is no list
@@ -78,15 +79,21 @@ abbrev pub all_watched : Index → Items → List Watched
 all_watched index no_items = []
 all_watched index (item d ds) = watched_before (watched_by index (id_in d)) (all_watched index ds)
 
+-- whether each of them means something, in order
+abbrev pub all_verified : Index → Items → List (Option Bool)
+all_verified index no_items = []
+all_verified index (item d ds) = Some (is_some (watched_by index (id_in d))) ∷ all_verified index ds
+
 -- what these items mean is watched, and nothing else
 abbrev pub WatchesOnly : Items → Program → Program → Type 0
 WatchesOnly items p q = (q.watched.items ≡ all_watched p.index items) × SameButWatched p q
 
--- what the items mean is watched; or all is as it was
+-- what the items mean is watched, and of each the response tells whether it is; or all is as it was
 abbrev pub SetsWatched : Data → Program → Answer → Program → Type 0
 SetsWatched d p b q =
     Stays (items_named (codes "breakpoints") d) p b q
-    ⊎ ((items : Items) × (items_named (codes "breakpoints") d ≡ Some items) × WatchesOnly items p q)
+    ⊎ ((items : Items) × (items_named (codes "breakpoints") d ≡ Some items) × WatchesOnly items p q
+    × Lists verified_told (all_verified p.index items) b)
 
 -- whether a request names bare lines, and no breakpoints
 abbrev pub is_bare : Data → Bool
@@ -145,11 +152,19 @@ pub record PlacesAnew (own : Bool) (c : Command) (lines : List ℕ) (p q : Progr
   pub elsewhere : q.elsewhere ≡ cond own None p.elsewhere
   pub same : SameButLines p q
 
--- the breakpoints that are asked for are set; or all is as it was
+-- the breakpoints that are asked for are set, and the response tells each, in order, and no others; or all is as it was
 abbrev pub PlacesAsked : Bool → Command → Data → Program → Answer → Program → Type 0
 PlacesAsked own c d p b q =
     Stays (lines_asked d) p b q
-    ⊎ ((lines : List ℕ) × (lines_asked d ≡ Some lines) × PlacesAnew own c lines p q)
+    ⊎ ((lines : List ℕ) × (lines_asked d ≡ Some lines) × PlacesAnew own c lines p q
+    × Lists breakpoint_told (all_shown p.counting.lines q.asked.items) b)
+
+-- none of the lines that are asked for has a breakpoint, and so the response tells of each, in order; or it is refused,
+-- since they are not there as they should be, or there is no memory
+abbrev pub TellsNone : Data → Answer → Type 0
+TellsNone d b =
+    (((lines_asked d ≡ None) × IsRefusal b.outcome) ⊎ (b.lacks ≡ true))
+    ⊎ ((lines : List ℕ) × (lines_asked d ≡ Some lines) × Lists stand_told (none_shown lines) b)
 
 -- the path of the source that is named; nothing where none is
 abbrev pub path_in : Data → List ℕ
@@ -167,10 +182,11 @@ is_elsewhere p path = option_map_or (λ file. same_file (string_bytes file) path
 abbrev pub is_meant : Program → List ℕ → Bool
 is_meant p path = is_own p path || is_elsewhere p path
 
--- those that are asked for are set in this file, if they are in it; else all is as it was
+-- those that are asked for are set in this file, if they are in it; else all is as it was, and so it is told
 abbrev pub SetsIn : List ℕ → Command → Data → Program → Answer → Program → Type 0
 SetsIn path c d p b q =
-    ((is_meant p path ≡ false) × (q ≡ p)) ⊎ ((is_meant p path ≡ true) × PlacesAsked (is_own p path) c d p b q)
+    ((is_meant p path ≡ false) × (q ≡ p) × TellsNone d b)
+    ⊎ ((is_meant p path ≡ true) × PlacesAsked (is_own p path) c d p b q)
 
 -- in the file that is named
 abbrev pub SetsLines : Command → Data → Program → Answer → Program → Type 0

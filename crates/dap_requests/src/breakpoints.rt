@@ -10,16 +10,18 @@ ghost use Rattle.dap_messages.specs.Written.{Has};
 ghost use Rattle.dap_moves.specs.Stops.{FirstStop};
 ghost use Rattle.dap_views.specs.Counted.{at_most_all, shown_line};
 ghost use Rattle.dap_views.specs.Lined.{end_of};
-ghost use Rattle.dap_requests.specs.Sets.{ArePlaced, PlacesAnew, PlacesAsked, SetsExcepts, SetsLines, StandsIn, asked_on};
+ghost use Rattle.dap_requests.specs.Lists.{Lists, Tells, all_shown, breakpoint_told, list_in, none_shown, stand_told};
+ghost use Rattle.dap_requests.specs.Sets.{ArePlaced, PlacesAnew, PlacesAsked, SetsExcepts, SetsLines, StandsIn, TellsNone, asked_on};
 ghost use Rattle.dap_requests.specs.Sets.{filters_refused, has_refused, is_bare, is_refused, items_named, line_of};
 ghost use Rattle.dap_requests.specs.Sets.{file_of, is_again, is_elsewhere, lines_asked, lines_of, list_name, listed};
 ghost use Rattle.dap_requests.specs.Sets.{path_in, with_stop};
 ghost use Rattle.dap_requests.specs.Stands.{StandsOn, is_full};
 ghost use Rattle.dap_requests.specs.declared.breakpoints.Unlisted.{Unlisted as Lacks};
-ghost use Rattle.dap_requests.specs.internal.Placing.{PlacesOne};
+ghost use Rattle.dap_requests.specs.internal.Placing.{AreShown, PlacesOne, TellsMore};
 
+use crate::lists::{give, give_made};
 use dap_messages::{Answer, Listed, Members, Request, Told, number_in, text_in};
-use dap_moves::{Machine, first_stop, stop_lines};
+use dap_moves::{Machine, first_stop};
 use dap_views::{Asked, Program, Words, base_of, is_same_file};
 use serde_json::Value;
 use std::alloc::Global;
@@ -27,26 +29,35 @@ use std::alloc::Global;
 /// How many lines may have a breakpoint.
 const MOST_LINES: usize = 64;
 
-/// The most lines of `breakpointLocations`.
-const MOST_LOCATIONS: u64 = 10_000;
-
 /// Answers `setBreakpoints` while nothing is launched: none is verified.
-pub fn set_before(alloc: Global, request: &Request, answer: &mut Answer) {
+pub fn set_before(alloc: Global, request: &Request, answer: &mut Answer)
+    ensures { TellsNone (view request.now.arguments) answer.new }
+{
     set_none(alloc, request, "nothing is launched yet", answer);
 }
 
 /// Answers that none is set, for this reason.
-fn set_none(alloc: Global, request: &Request, reason: &str, answer: &mut Answer) {
-    let Some(lines) = lines_in(alloc, request, answer) else {
-        return;
-    };
+fn set_none(alloc: Global, request: &Request, reason: &str, answer: &mut Answer)
+    ensures { TellsNone (view request.now.arguments) answer.new }
+{
+    match lines_in(alloc, request, answer) {
+        Some(lines) => {
+            let list = unset_all(alloc, lines.as_slice(), reason);
+            give_made(alloc, list, answer);
+        }
+        None => {}
+    }
+}
+
+/// Breakpoints on these lines that are not set, for this reason.
+fn unset_all(alloc: Global, lines: &[u64], reason: &str) -> Listed
+    ensures { Tells stand_told (none_shown lines.now) result }
+{
     let mut list = Listed::new(alloc);
-    for line in &lines {
+    for line in lines {
         list.push(unset(alloc, *line, reason));
     }
-    let mut body = Members::new(alloc);
-    body.list("breakpoints", list);
-    answer.body(body);
+    list
 }
 
 /// The items of the list of this name; none where it is not there. It is refused where it is no list.
@@ -173,11 +184,14 @@ fn line_of(bare: bool, item: &Value) -> Option<u64>
 }
 
 /// A breakpoint that is not set, for this reason.
-fn unset(alloc: Global, line: u64, reason: &str) -> Members {
+fn unset(alloc: Global, line: u64, reason: &str) -> Members
+    ensures verified { Has result (codes "verified") (boolean false) }
+    ensures line_is { Has result (codes "line") (number (unsigned line)) }
+{
     let mut one = Members::new(alloc);
+    one.text("message", reason);
     one.flag("verified", false);
     one.number("line", line);
-    one.text("message", reason);
     one
 }
 
@@ -211,7 +225,7 @@ fn is_meant(program: &Program, own: bool, path: &str) -> bool
 }
 
 /// The path of the source that the request names.
-fn path_in(request: &Request) -> &str
+pub(crate) fn path_in(request: &Request) -> &str
     ensures { result.now ≡ path_in (view request.now.arguments) }
 {
     match request.part("source") {
@@ -270,7 +284,8 @@ fn set_on(
     lines: &[u64],
     answer: &mut Answer,
 )
-    ensures { PlacesAnew own machine.now.checked.main lines.now program.old program.new
+    ensures { (PlacesAnew own machine.now.checked.main lines.now program.old program.new
+        × Lists breakpoint_told (all_shown program.old.counting.lines program.new.asked.items) answer.new)
         ⊎ ((program.new ≡ program.old) × (answer.new.lacks ≡ true)) }
 {
     match placed_on(alloc, machine, program, own, lines) {
@@ -288,21 +303,20 @@ fn keep_on(
     placing: Placing,
     answer: &mut Answer,
 )
-    ensures { program.new ≡ record program.old {
+    ensures set { program.new ≡ record program.old {
       asked = placing.asked;
       stops = placing.stops;
       elsewhere = cond own None program.old.elsewhere;
       last_id = at_most_all program.old.last_id count;
     } }
+    ensures told { answer.new.lacks ≡ false → list_in answer.new.outcome ≡ Some (items_view placing.shown.items) }
 {
     let last = program.last_id.saturating_add(count);
     forget_elsewhere(program, own);
     program.last_id = last;
     answer.did();
     let shown = keep(program, placing, answer);
-    let mut body = Members::new(alloc);
-    body.value("breakpoints", Value::Array(shown));
-    answer.body(body);
+    give(alloc, Value::Array(shown), answer);
 }
 
 /// Forgets that the breakpoints were asked for in another file, where they are of the one that is debugged.
@@ -323,7 +337,8 @@ fn placed_on(
     lines: &[u64],
 ) -> Option<Placing>
     ensures { IfSome result (λ placing. ArePlaced own machine.now.checked.main program.now.lines []
-        (asked_on program.now.counting.lines program.now.last_id lines.now) placing.asked.items placing.stops.items) }
+        (asked_on program.now.counting.lines program.now.last_id lines.now) placing.asked.items placing.stops.items
+        × AreShown program.now.counting.lines placing) }
 {
     match asked_for(alloc, program, lines) {
         Some(asked) => place_all(alloc, machine, program, asked.as_slice(), own),
@@ -365,7 +380,8 @@ pub fn place_again(
     program: &Program,
 ) -> Option<Placing>
     ensures { IfSome result (λ placing. ArePlaced (is_again before.now program.now) machine.now.checked.main
-        program.now.lines [] before.now.asked.items placing.asked.items placing.stops.items) }
+        program.now.lines [] before.now.asked.items placing.asked.items placing.stops.items
+        × AreShown program.now.counting.lines placing) }
 {
     let own = is_again(before, program);
     place_all(alloc, machine, program, before.asked.as_slice(), own)
@@ -398,7 +414,8 @@ fn place_all(
     own: bool,
 ) -> Option<Placing>
     ensures { IfSome result (λ placing. ArePlaced own machine.now.checked.main program.now.lines []
-        asked.now placing.asked.items placing.stops.items) }
+        asked.now placing.asked.items placing.stops.items
+        × AreShown program.now.counting.lines placing) }
 {
     let mut making = Making {
         asked: Vec::new(alloc),
@@ -423,7 +440,8 @@ struct Making {
 
 /// What was made; `None` where there was no memory.
 fn made(making: Making) -> Option<Placing>
-    ensures { IfSome result (λ placing. (placing.asked ≡ making.asked) × (placing.stops ≡ making.stops)) }
+    ensures { IfSome result (λ placing. (placing.asked ≡ making.asked) × (placing.stops ≡ making.stops)
+        × (making.shown.lacks ≡ false) × (placing.shown ≡ making.shown.made)) }
 {
     let Making {
         asked,
@@ -451,8 +469,8 @@ fn place_one(
     own: bool,
     making: &mut Making,
 ) -> Option<()>
-    ensures { IfSome result (λ done. PlacesOne own machine.now.checked.main program.now.lines one.now
-        making.old making.new) }
+    ensures { IfSome result (λ done. PlacesOne own machine.now.checked.main program.now.lines
+        program.now.counting.lines one.now making.old making.new) }
 {
     let placed = place_in(alloc, machine, program, *one, own, making.stops.as_slice());
     tell_placed(alloc, program, *one, &placed, making);
@@ -463,14 +481,19 @@ fn place_one(
 
 /// Makes what is to be told of a breakpoint.
 fn tell_placed(alloc: Global, program: &Program, one: Asked, placed: &Placed, making: &mut Making)
-    ensures { (making.new.asked ≡ making.old.asked) × (making.new.stops ≡ making.old.stops) }
+    ensures same { (making.new.asked ≡ making.old.asked) × (making.new.stops ≡ making.old.stops) }
+    ensures told { TellsMore program.now.counting.lines (record one { at = placed.now.line }) making.old.shown
+        making.new.shown }
 {
-    if !placed.words.is_empty() {
-        making
-            .moved
-            .push(moved_line(alloc, program, one, &placed.words));
-    }
+    tell_moved(alloc, one, &placed.words, &mut making.moved);
     making.shown.push(shown(alloc, program, one, placed));
+}
+
+/// Makes a line of text for a breakpoint that stands elsewhere, or nowhere.
+fn tell_moved(alloc: Global, one: Asked, why: &Words, moved: &mut Listed) {
+    if !why.is_empty() {
+        moved.push(moved_line(alloc, one, why));
+    }
 }
 
 /// Adds a breakpoint; `None` where there is no memory for it.
@@ -482,7 +505,8 @@ fn add_asked(asked: &mut Vec<Asked>, one: Asked) -> Option<()>
 
 /// Keeps the breakpoints, tells which have moved, and gives each as the client sees it.
 fn keep(program: &mut Program, placing: Placing, answer: &mut Answer) -> Vec<Value>
-    ensures { program.new ≡ record program.old { asked = placing.asked; stops = placing.stops } }
+    ensures set { program.new ≡ record program.old { asked = placing.asked; stops = placing.stops } }
+    ensures shown { result ≡ placing.shown }
 {
     let Placing {
         asked,
@@ -558,7 +582,7 @@ fn place(alloc: Global, machine: &Machine, program: &Program, asked: Asked, stop
         },
         Some(stop) => Placed {
             line: Some(stop),
-            words: moved_words(alloc, program, asked.line, stop),
+            words: moved_words(alloc, asked.line, stop),
         },
         None => Placed {
             line: None,
@@ -587,19 +611,20 @@ fn is_full(stops: &[u64], line: u64) -> bool
 }
 
 /// What is to be said of a breakpoint that was asked for on one line and stands on another; nothing where both are one.
-fn moved_words(alloc: Global, program: &Program, asked: u64, stop: u64) -> Words {
+/// Words count lines from 1, whatever the client counts from.
+fn moved_words(alloc: Global, asked: u64, stop: u64) -> Words {
     let mut words = Words::new(alloc);
     if stop != asked {
         words.add("no command that takes a step begins there: moved to line ");
-        words.number(program.shown_line(stop));
+        words.number(stop);
     }
     words
 }
 
 /// A line of text that tells where a breakpoint has gone, since not every client shows it.
-fn moved_line(alloc: Global, program: &Program, asked: Asked, why: &Words) -> Members {
+fn moved_line(alloc: Global, asked: Asked, why: &Words) -> Members {
     let mut words = Words::of(alloc, "Breakpoint at line ");
-    words.number(program.shown_line(asked.line));
+    words.number(asked.line);
     words.add(": ");
     words.add(why.as_str());
     words.add(".\n");
@@ -654,45 +679,6 @@ pub fn tell_changed(alloc: Global, program: &mut Program, placing: Placing, answ
         body.value("breakpoint", shown);
         answer.note(Told::Breakpoint, body);
     }
-}
-
-/// Answers `breakpointLocations`: the lines that stop, of those that are asked for.
-pub fn locations(
-    alloc: Global,
-    machine: &Machine,
-    program: &Program,
-    request: &Request,
-    answer: &mut Answer,
-) {
-    let Some(line) = request.number("line") else {
-        answer.refuse(104, "`line` is missing or no number");
-        return;
-    };
-    let first = program.meant_line(line);
-    let last = program.meant_line(request.number("endLine").unwrap_or(line));
-    let below = last
-        .min(first.saturating_add(MOST_LOCATIONS))
-        .min(program.lines.count());
-    let Ok(lines) = stop_lines(
-        alloc,
-        machine.checked().system(),
-        first,
-        below.saturating_add(1),
-    ) else {
-        answer.lacks = true;
-        return;
-    };
-    let mut list = Listed::new(alloc);
-    for line in &lines {
-        let column = program.lines.column(program.source.as_slice(), *line);
-        let mut one = Members::new(alloc);
-        one.number("line", program.shown_line(*line));
-        one.number("column", column.saturating_sub(program.counting.columns));
-        list.push(one);
-    }
-    let mut body = Members::new(alloc);
-    body.list("breakpoints", list);
-    answer.body(body);
 }
 
 /// Answers `setExceptionBreakpoints`.

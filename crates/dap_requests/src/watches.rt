@@ -1,13 +1,15 @@
 // Breakpoints on variables and on channels.
-ghost use Rattle.std.specs.Prelude.{◌≡◌, ◌⊎◌, ◌++◌, [], Some, codes, nat_eq, true, IfSome};
+ghost use Rattle.std.specs.Prelude.{◌≡◌, ◌⊎◌, ◌++◌, [], Some, codes, false, nat_eq, true, IfSome};
 ghost use Rattle.std.specs.Cmp.Lexicographic.{pointwise};
 ghost use Rattle.serde_json.specs.Data.{boolean};
 ghost use Rattle.serde_json.specs.View.{items_view, view};
 ghost use Rattle.dap_messages.specs.Written.{Has};
 ghost use Rattle.dap_views.specs.declared.index.Thing as meant;
-ghost use Rattle.dap_requests.specs.Sets.{SetsWatched, WatchesOnly, all_watched, id_in, watched_as, watched_before, watched_by};
+ghost use Rattle.dap_requests.specs.Lists.{Lists, Tells, list_in, verified_told};
+ghost use Rattle.dap_requests.specs.Sets.{SetsWatched, WatchesOnly, all_verified, all_watched, id_in, watched_as, watched_before, watched_by};
 
 use crate::breakpoints::items_in;
+use crate::lists::{give, give_made};
 use dap_messages::{Answer, Listed, Members, Request, field, text_in};
 use dap_moves::{Handle, Machine, Watched};
 use dap_threads::{frame_in, handle_named};
@@ -120,7 +122,8 @@ pub fn set_data(alloc: Global, program: &mut Program, request: &Request, answer:
 
 /// Watches what these items mean, and nothing else; if there is no memory, what was watched before.
 fn watch(alloc: Global, program: &mut Program, items: &[Value], answer: &mut Answer)
-    ensures { WatchesOnly (items_view items.now) program.old program.new
+    ensures { (WatchesOnly (items_view items.now) program.old program.new
+        × Lists verified_told (all_verified program.old.index (items_view items.now)) answer.new)
         ⊎ ((program.new ≡ program.old) × (answer.new.lacks ≡ true)) }
 {
     let mut list = Listed::new(alloc);
@@ -138,7 +141,9 @@ fn keep_watched(
     list: Listed,
     answer: &mut Answer,
 )
-    ensures { (program.new ≡ record program.old { watched = watched })
+    ensures { ((program.new ≡ record program.old { watched = watched })
+        × (answer.new.lacks ≡ false
+        → (list.lacks ≡ false) × (list_in answer.new.outcome ≡ Some (items_view list.made.items))))
         ⊎ ((program.new ≡ program.old) × (answer.new.lacks ≡ true)) }
 {
     match list.into_value() {
@@ -158,7 +163,9 @@ fn watched_all(
     items: &[Value],
     list: &mut Listed,
 ) -> Option<Vec<Watched>>
-    ensures { IfSome result (λ watched. watched.items ≡ all_watched program.now.index (items_view items.now)) }
+    ensures { IfSome result (λ watched. (watched.items ≡ all_watched program.now.index (items_view items.now))
+        × (list.old.made.items ≡ []
+        → Tells verified_told (all_verified program.now.index (items_view items.now)) list.new)) }
 {
     let mut watched = Vec::new(alloc);
     for value in items {
@@ -196,13 +203,6 @@ fn shown(alloc: Global, verified: bool) -> Members
         one.text("message", "no such variable or channel");
     }
     one
-}
-
-/// Gives the response this list of breakpoints.
-fn give(alloc: Global, list: Value, answer: &mut Answer) {
-    let mut body = Members::new(alloc);
-    body.value("breakpoints", list);
-    answer.body(body);
 }
 
 /// What is watched by this name of the client.
@@ -269,7 +269,5 @@ pub fn set_data_before(alloc: Global, request: &Request, answer: &mut Answer) {
         }
         list.push(one);
     }
-    let mut body = Members::new(alloc);
-    body.list("breakpoints", list);
-    answer.body(body);
+    give_made(alloc, list, answer);
 }

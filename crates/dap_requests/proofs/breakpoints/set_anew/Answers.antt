@@ -3,7 +3,7 @@ use Rattle.dap_requests.proofs.breakpoints.set_anew.Goals as goal
 
 pub returns-in-Some : goal.returns-in-Some
 returns-in-Some c = elim c.set_on.ensures [
-  | inl anew ↦ inr (c.as_slice.result.now, c.in-Some.ensures ∙ ap (λ (xs : List ℕ). Some xs) (sym c.as_slice.ensures.value), anew)
+  | inl anew ↦ inr (c.as_slice.result.now, c.in-Some.ensures ∙ ap (λ (xs : List ℕ). Some xs) (sym c.as_slice.ensures.value), anew.0, anew.1)
   | inr none ↦ inl (none.0, inr none.1)
 ]
 

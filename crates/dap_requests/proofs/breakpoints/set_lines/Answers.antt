@@ -12,4 +12,4 @@ pub returns-else-is_meant : goal.returns-else-is_meant
 returns-else-is_meant c =
     let d = view c.args.request.now.arguments in
     sets_elsewhere c.args.machine.now.checked.main d c.args.program.now c.set_none.new.answer c.path_in-path.result.now c.is_at-own.result
-    c.is_meant.result c.path_in-path.ensures c.is_at-own.ensures c.is_meant.ensures c.if-is_meant.false
+    c.is_meant.result c.path_in-path.ensures c.is_at-own.ensures c.is_meant.ensures c.if-is_meant.false c.set_none.ensures

@@ -1,0 +1,15 @@
+use Rattle.std.proofs.Common.{ℕ, List, Some, ◌∙◌, ap, inl, inr, sym}
+use Rattle.dap_requests.specs.Lists.{none_shown, stand_told}
+use Rattle.dap_requests.proofs.Listing.{lists_made}
+use Rattle.dap_requests.proofs.breakpoints.set_none.Goals as goal
+
+pub returns-in-Some : goal.returns-in-Some
+returns-in-Some c =
+    inr (
+      c.as_slice.result.now,
+      c.in-Some.ensures ∙ ap (λ (xs : List ℕ). Some xs) (sym c.as_slice.ensures.value),
+      lists_made stand_told (none_shown c.as_slice.result.now) c.unset_all-list.result c.give_made.new.answer c.unset_all-list.ensures c.give_made.ensures,
+    )
+
+pub returns-in-None : goal.returns-in-None
+returns-in-None c = inl c.in-None.ensures
