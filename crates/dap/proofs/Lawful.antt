@@ -82,10 +82,10 @@ sees-one reads x y request a b seen goes = elim goes [
 -- behind all of them
 pub session-sees : (reads : List ℕ → Option (List ℕ) → Type 0) → SessionSees reads
 session-sees reads a b next [] sent seen session = subst (λ (f : Face). IsTrueOf f.launched) (sym session.1) seen
-session-sees reads a b next (Some request ∷ heard) sent seen session =
+session-sees reads a b next (Ok request ∷ heard) sent seen session =
     session-sees reads session.0 b (next + length session.1) heard session.2
     (sees-one reads a.launched session.0.launched request session.4.answered.empty session.4.answer seen session.4.answered.goes) session.5
-session-sees reads a b next (None ∷ heard) sent seen session = session-sees reads a b (next + 1) heard session.1 seen session.3
+session-sees reads a b next (Err passed ∷ heard) sent seen session = session-sees reads a b (next + 1) heard session.0 seen session.2
 
 -- a session with a client that has just come, which ends well
 pub served : {X E : Type 0} (reads : List ℕ → Option (List ℕ) → Type 0) (r : Result X E) (a b : Face) (came left u v : Option (List ℕ)) → IsFresh a →

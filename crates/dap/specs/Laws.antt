@@ -29,5 +29,5 @@ IsTrueOf (Some l) = IsSeen l
 -- whatever a client asks, one request after another, over these files: requests look at the state as it is
 abbrev pub SessionSees : Reads → Type 0
 SessionSees reads =
-    (a b : Face) (next : ℕ) (heard : List (Option Request)) (sent : List (List ℕ))
+    (a b : Face) (next : ℕ) (heard : List (Result Request Passed)) (sent : List (List ℕ))
     → IsTrueOf a.launched → Session (Comes reads) is_over a next heard sent b → IsTrueOf b.launched
