@@ -1,2 +1,3 @@
+mod Around
 mod Listing
 mod Numbers

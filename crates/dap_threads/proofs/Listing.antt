@@ -1,5 +1,5 @@
 -- Which frames are listed.
-use Rattle.std.proofs.Common.{◌≡◌, ◌++◌, ◌∷◌, [], ◌∙◌, ℕ, List, Option, Some, None, codes, false, map, sym, ap, subst}
+use Rattle.std.proofs.Common.{◌≡◌, ◌+◌, ◌++◌, ◌∷◌, [], ◌∙◌, ℕ, suc, List, Option, Some, None, Bool, codes, false, true, if◌then◌else◌, map, sym, ap, subst, arith}
 use Rattle.std.proofs.lemmas.List.{map-append}
 use Rattle.serde_json.specs.Data.{Data, array, number, object, unsigned}
 use Rattle.serde_json.specs.Find.{get, get_member}
@@ -13,10 +13,11 @@ use Rattle.dap_messages.specs.declared.answer.Answer.{Answer}
 use Rattle.dap_messages.specs.declared.members.Listed.{Listed}
 use Rattle.dap_messages.specs.declared.members.Members.{Members}
 use Rattle.dap_messages.proofs.public.Held.{has_put}
+use Rattle.dap_moves.specs.Handles.{frame_id}
 use Rattle.dap_views.specs.declared.index.Index.{Index}
 use Rattle.dap_views.specs.declared.sight.Sight.{Sight}
 use Rattle.dap_threads.specs.Frames.{frame_count}
-use Rattle.dap_threads.specs.Stack.{IsStack, ListsFor, ListsFrames, ListsIds, asked_ids, first_in, levels_in}
+use Rattle.dap_threads.specs.Stack.{IsStack, ListsFor, ListsFrames, ListsIds, asked_ids, first_in, is_asked, levels_in}
 use Rattle.dap_threads.specs.Threads.{branch_named}
 
 -- one more is listed
@@ -60,3 +61,22 @@ lists_some m index seen sight d body b found k is some shown done stack =
     let to : ListsFor m index (Some sight) d (Some k) b = (body, done, stack) in
     subst (λ (o : Option ℕ). ListsFor m index seen d o b) (sym some ∙ is)
     (subst (λ (s : Option Sight). ListsFor m index s d (Some k) b) (sym shown) to)
+
+-- one more frame is asked for, or not
+pub asked_more : (first levels branch k : ℕ) → is_asked first levels k ≡ true →
+    asked_ids first levels branch k ++ frame_id (branch + 1) k ∷ [] ≡ asked_ids first levels branch (k + 1)
+asked_more first levels branch k is =
+    let next : suc k ≡ k + 1 = omega arith in
+    sym (ap (λ (b : Bool). if b then asked_ids first levels branch k ++ frame_id (branch + 1) k ∷ [] else asked_ids first levels branch k) is)
+    ∙ ap (λ (n : ℕ). asked_ids first levels branch n) next
+
+pub asked_same : (first levels branch k : ℕ) → is_asked first levels k ≡ false → asked_ids first levels branch k ≡ asked_ids first levels branch (k + 1)
+asked_same first levels branch k is =
+    let next : suc k ≡ k + 1 = omega arith in
+    sym (ap (λ (b : Bool). if b then asked_ids first levels branch k ++ frame_id (branch + 1) k ∷ [] else asked_ids first levels branch k) is)
+    ∙ ap (λ (n : ℕ). asked_ids first levels branch n) next
+
+-- so is it in the list that was made
+pub lists_on : (made list : Listed) (ids more : List ℕ) → list ≡ made → ids ≡ more → ListsIds made ids → ListsIds list more
+lists_on made list ids more same is h =
+    subst (λ (l : Listed). ListsIds l more) (sym same) (subst (λ (ns : List ℕ). ListsIds made ns) is h)

@@ -3,10 +3,10 @@
 
 mod frames;
 mod places;
-mod threads;
+mod standing;
 mod values;
 
 pub use frames::{frame_in, stack_trace, thread_in};
 pub use places::places_in;
-pub use threads::threads;
+pub use standing::threads;
 pub use values::{channel_words, handle_named, scopes, variables};
