@@ -393,7 +393,7 @@ typed_goes l request a b d' memo asking other over waits led looks does refused 
     }
 
 -- how the first request to run begins, or is refused
-abbrev BeginsOrNot : Launched → Launched → Answer → Answer → Type 0
+abbrev pub BeginsOrNot : Launched → Launched → Answer → Answer → Type 0
 BeginsOrNot l m a b =
     (IsRefusal b.outcome × (b.notes ≡ a.notes) × (m ≡ l) × (l.program.begun ≡ true))
     ⊎ (Begins l m a b × (l.program.begun ≡ false) × (m.program ≡ begun l.program))

@@ -154,8 +154,8 @@ fn is_active(request: &Request) -> bool
     ensures { result ≡ is_active request.now }
 {
     let moving = is_move(request.kind);
-    let typed = is_typed(request);
-    moving || is_line(request.kind, typed)
+    let line = is_line(request.kind, is_typed(request));
+    moving || line
 }
 
 /// Whether a request of this kind is a line, where one is typed.
@@ -349,6 +349,6 @@ fn exception_info(alloc: Global, memo: &Memo, answer: &mut Answer) {
             body.text("breakMode", "always");
             answer.body(body);
         }
-        None => answer.refuse(111, "nothing was refused at the last stop"),
+        None => answer.refuse(111, "nothing was refused"),
     }
 }

@@ -276,10 +276,8 @@ fn set_filters(alloc: Global, excepts: &mut bool, request: &Request, answer: &mu
     ensures quiet { answer.new.notes ≡ answer.old.notes }
 {
     let notes = mem::replace(&mut answer.notes, Vec::new(alloc));
-    match asks_for_refusals(request, answer) {
-        Some(asked) => *excepts = asked,
-        None => {}
-    }
+    let asked = asks_for_refusals(request, answer);
+    *excepts = asked.unwrap_or(*excepts);
     answer.notes = notes;
 }
 
