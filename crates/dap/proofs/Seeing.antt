@@ -1,5 +1,5 @@
 -- What is shown of the state.
-use Rattle.std.proofs.Common.{◌≡◌, ◌⊎◌, ◌||◌, Bool, true, false, Option, refl, sym, ◌∙◌, ap, subst}
+use Rattle.std.proofs.Common.{◌≡◌, ◌||◌, Bool, false, true, Option, refl, sym, ◌∙◌, ap, subst}
 use Rattle.serde_json.specs.Data.{Data}
 use Rattle.serde_json.specs.View.{view}
 use Rattle.system.specs.declared.command.Command.{Command}
@@ -15,7 +15,7 @@ use Rattle.dap_views.specs.Seen.{Sees}
 use Rattle.dap_views.specs.declared.program.Program.{Program}
 use Rattle.dap_views.specs.declared.sight.Sight.{Sight}
 use Rattle.dap.specs.Goes.{IsSeen, LaunchedGoes, seen_as}
-use Rattle.dap.specs.Kinds.{begins, changes, is_active, may_move, types}
+use Rattle.dap.specs.Kinds.{begins, changes, may_move, types}
 use Rattle.dap.specs.Sets.{Sets, SetsBy}
 use Rattle.dap.specs.declared.launch.Launched.{Launched}
 

@@ -1,6 +1,6 @@
 -- The numbers of threads and frames.
 use Rattle.std.specs.Prelude.{MatchOption, slice_get}
-use Rattle.std.proofs.Common.{◌≡◌, ◌<◌, ◌≤◌, ◌+◌, ◌-◌, ◌^◌, ◌/◌, ◌%◌, ◌&&◌, ◌∙◌, ℕ, List, Option, Some, None, Bool, true, false, refl, sym, ap, subst, min, max, length, if◌then◌else◌, arith, lit<, nat_lt}
+use Rattle.std.proofs.Common.{◌≡◌, ◌<◌, ◌≤◌, ◌+◌, ◌-◌, ◌^◌, ◌/◌, ◌%◌, ◌&&◌, ◌∙◌, ℕ, List, Option, Some, None, Bool, true, false, refl, sym, ap, subst, max, length, if◌then◌else◌, arith, lit<, nat_lt}
 use Rattle.std.proofs.Math.Nat.{mod-lt, min-le_right}
 use Rattle.std.proofs.Math.Pow.{split}
 use Rattle.std.proofs.lemmas.Bool.Decides.{nat_tests}
