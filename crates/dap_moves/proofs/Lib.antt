@@ -1,7 +1,9 @@
 pub mod public
 mod Backward
+mod Counting
 mod GoingOut
 mod Listing
+mod Nearest
 mod Passing
 mod Returning
 mod Running

@@ -1,26 +1,25 @@
 -- Runs that pass none of the lines, one behind another.
-use Rattle.std.proofs.Common.{◌≡◌, ◌⊎◌, ◌↔◌, ◌==◌, ℕ, zero, suc, ◌+◌, ◌<◌, ◌≤◌, List, [], ◌∷◌, length, drop, get_or, Bool, true, false, Option, None, Some, inl, inr, refl, sym, ◌∙◌, ap, subst, arith}
+use Rattle.std.proofs.Common.{◌≡◌, ◌⊎◌, ◌↔◌, ◌==◌, ℕ, zero, suc, ◌+◌, ◌<◌, ◌≤◌, List, [], ◌∷◌, ◌++◌, length, drop, get_or, Bool, true, false, Option, None, Some, inl, inr, refl, sym, ◌∙◌, ap, subst, arith}
 use Rattle.std.specs.Option.{MatchOption}
-use Rattle.std.specs.Prelude.{IsTrue}
+use Rattle.std.specs.Prelude.{IsTrue, unwrap_or}
 use Rattle.std.proofs.lemmas.Bool.Decides.{nat_tests}
 use Rattle.std.proofs.lemmas.List.{drop_all, drop_more, nil_from_length}
 use Rattle.syntax.specs.Lists.{In}
 use Rattle.system.specs.Expression.{is_in}
+use Rattle.system_places.specs.SystemBranches.{branch_at}
 use Rattle.runs.specs.Choices.{choice_of}
 use Rattle.runs.specs.Events.{acting, acting_at}
 use Rattle.runs.specs.Live.{events}
 use Rattle.runs.specs.Moves.{Place}
-use Rattle.runs.specs.Object.{Reaches}
-use Rattle.runs.specs.Ready.{ReadyList}
-use Rattle.runs.specs.Steps.{State}
 use Rattle.runs.specs.declared.event.Choice.{Choice}
 use Rattle.runs.specs.declared.event.Event.{Event}
 use Rattle.runs.specs.declared.event.Kind.{Kind}
 use Rattle.event_places.specs.EventPlaces.{line_after}
 use Rattle.machine.specs.AtMachine.{AtMachine}
-use Rattle.locked_execution.specs.AtDesk.{AtDesk, execution}
+use Rattle.locked_execution.specs.AtDesk.{AtDesk}
 use Rattle.dap_moves.specs.Led.{Led}
-use Rattle.dap_moves.specs.Passing.{has_line, stands_on, IsAtLine, IsReady, PassesBy, StopsAt}
+use Rattle.dap_moves.specs.Passing.{has_line, stands_on, IsAtLine, PassesBy, StopsAt}
+use Rattle.dap_moves.specs.Running.{Keeps, Sees}
 
 -- what stands at an index is in the list
 pub here_in : {X : Type 0} (xs : List X) (i : ℕ) (x : X) → i < length xs → x ≡ get_or xs i x → In x xs
@@ -56,6 +55,25 @@ none_here seen i c all rest = (
 )
 
 pub ruleset seen_among = (found_here, not_here, none_here)
+
+-- a step that was not in mind
+pub kept_new : (b : Bool) (before : List Choice) (c : Choice) (after : List Choice) → (In c before → ⊥) → Keeps b before c after →
+    Sees b before c after
+kept_new true before c after new h = inr (new, h)
+kept_new false before c after new h = h
+
+-- one that is kept in mind, or not
+pub kept_when : (b : Bool) (before : List Choice) (c : Choice) (after : List Choice) → b ≡ true → Keeps b before c after → after ≡ before ++ c ∷ []
+kept_when b before c after is h = subst (λ (x : Bool). Keeps x before c after) is h
+
+pub kept_not : (b : Bool) (before : List Choice) (c : Choice) (after : List Choice) → b ≡ false → Keeps b before c after → after ≡ before
+kept_not b before c after is h = subst (λ (x : Bool). Keeps x before c after) is h
+
+-- where nothing was in mind
+pub kept_one : (b : Bool) (before : List Choice) (c : Choice) (after : List Choice) → before ≡ [] → Keeps b before c after →
+    (after ≡ []) ⊎ (after ≡ c ∷ [])
+kept_one true before c after none h = inr (h ∙ ap (λ (xs : List Choice). xs ++ c ∷ []) none)
+kept_one false before c after none h = inl (h ∙ none)
 
 -- the action that acts is the first or the second
 acts-at : (k : Kind) (a : Place) (b : Option Place) → (acting_at k a b ≡ a) ⊎ (b ≡ Some (acting_at k a b))
@@ -96,17 +114,17 @@ passes_both_actions m lines e b first some second = record {
 }
 
 -- the event stops at the line of an action
-pub stops_first : (m : AtMachine) (lines : List ℕ) (e : Event) (line : ℕ) → IsAtLine m lines e.first line → StopsAt m lines e line
-stops_first m lines e line h = record { place = e.first; action = inl refl; there = h }
+pub stops_first : (m : AtMachine) (lines : List ℕ) (e : Event) (k line : ℕ) → IsAtLine m lines e.first k line → StopsAt m lines e k line
+stops_first m lines e k line h = record { place = e.first; action = inl refl; there = h }
 
-pub stops_second : (m : AtMachine) (lines : List ℕ) (e : Event) (b : Place) (line : ℕ) → e.second ≡ Some b → IsAtLine m lines b line → StopsAt m lines e line
-stops_second m lines e b line some h = record { place = b; action = inr some; there = h }
+pub stops_second : (m : AtMachine) (lines : List ℕ) (e : Event) (b : Place) (k line : ℕ) → e.second ≡ Some b → IsAtLine m lines b k line → StopsAt m lines e k line
+stops_second m lines e b k line some h = record { place = b; action = inr some; there = h }
 
-pub stops_acting : (m : AtMachine) (lines : List ℕ) (e : Event) (a : Place) (line : ℕ) → a ≡ acting e → IsAtLine m lines a line → StopsAt m lines e line
-stops_acting m lines e a line is h = record {
+pub stops_acting : (m : AtMachine) (lines : List ℕ) (e : Event) (a : Place) (k line : ℕ) → a ≡ acting e → IsAtLine m lines a k line → StopsAt m lines e k line
+stops_acting m lines e a k line is h = record {
   place = acting e;
   action = acting_is_action e;
-  there = subst (λ (x : Place). IsAtLine m lines x line) is h;
+  there = subst (λ (x : Place). IsAtLine m lines x k line) is h;
 }
 
 -- a desk that stays, before commands or behind them
@@ -115,10 +133,6 @@ led_from d m d' same h = subst (λ (x : AtDesk). Led x d') same h
 
 pub led_to : (d m d' : AtDesk) → d' ≡ m → Led d m → Led d d'
 led_to d m d' same h = subst (λ (x : AtDesk). Led d x) (sym same) h
-
--- one of the events that are listed may be taken
-pub ready_among : (d d' : AtDesk) (es : List Event) (e : Event) → ((T : State) × Reaches (execution d) T × ReadyList T es) → d' ≡ d → In e es → IsReady d' e
-ready_among d d' es e h same there = subst (λ (x : AtDesk). IsReady x e) (sym same) (h.0, h.1, (h.2.exactly e).0 there)
 
 -- a list that a test finds empty
 pub none_left : (xs : List ℕ) → (length xs == 0) ≡ true → xs ≡ []
@@ -152,14 +166,14 @@ pub beside_lines : (m : AtMachine) (lines : List ℕ) (a : Place) (line : ℕ) (
     is_in line lines ≡ false → stands_on m lines a ≡ false
 beside_lines m lines a line o is some off = ap (λ (x : Option ℕ). has_line lines x) (sym is ∙ some) ∙ off
 
-pub on_line : (m : AtMachine) (lines : List ℕ) (a : Place) (line : ℕ) (o : Option ℕ) → o ≡ line_after (events m.live) m.checked a → o ≡ Some line →
-    is_in line lines ≡ true → IsAtLine m lines a line
-on_line m lines a line o is some on = (sym is ∙ some, on)
+pub on_line : (m : AtMachine) (lines : List ℕ) (a : Place) (k line : ℕ) (o : Option ℕ) → o ≡ line_after (events m.live) m.checked a → o ≡ Some line →
+    is_in line lines ≡ true → k ≡ unwrap_or (branch_at m.checked a) 0 → IsAtLine m lines a k line
+on_line m lines a k line o is some on within = (sym is ∙ some, on, within)
 
 pub ruleset on_lines = (off_line, beside_lines, on_line)
 
 -- behind a first action on none of the lines, what a second tells
 pub second_action : (m : AtMachine) (lines : List ℕ) (e : Event) (b : Place) (r : Option (ℕ × ℕ)) → stands_on m lines e.first ≡ false → e.second ≡ Some b →
-    MatchOption r (stands_on m lines b ≡ false) (λ hit. IsAtLine m lines b hit.1) → MatchOption r (PassesBy m lines e) (λ hit. StopsAt m lines e hit.1)
+    MatchOption r (stands_on m lines b ≡ false) (λ hit. IsAtLine m lines b hit.0 hit.1) → MatchOption r (PassesBy m lines e) (λ hit. StopsAt m lines e hit.0 hit.1)
 second_action m lines e b None first some h = passes_both_actions m lines e b first some h
-second_action m lines e b (Some hit) first some h = stops_second m lines e b hit.1 some h
+second_action m lines e b (Some hit) first some h = stops_second m lines e b hit.0 hit.1 some h

@@ -38,8 +38,8 @@ turn_back only lines watched t (Some (Rewound.AtLine branch line)) kept back sto
 turn_back only lines watched t (Some (Rewound.Watched branch ticket)) kept back stops = record {
   taken = t ∷ [];
   back = (refl, back, refl);
-  rightly = (t, record { before = []; is = refl; past = tt }, stops.0, stops.1);
-  keeps = stops.2;
+  rightly = (t, record { before = []; is = refl; past = tt }, stops.0, stops.1, stops.2);
+  keeps = stops.3;
 }
 
 -- the last step, undone
@@ -82,7 +82,7 @@ rightly-more only lines watched d t ts Rewound.AtBeginning past h = ((past, h.0)
 rightly-more only lines watched d t ts (Rewound.AtLine branch line) past h =
     (h.0, ends-more only lines watched t ts h.0 past h.1, h.2, h.3)
 rightly-more only lines watched d t ts (Rewound.Watched branch ticket) past h =
-    (h.0, ends-more only lines watched t ts h.0 past h.1, h.2, h.3)
+    (h.0, ends-more only lines watched t ts h.0 past h.1, h.2, h.3, h.4)
 
 keeps-more : (t : Returned) (ts : List Returned) (ended : Rewound) (kept : List Choice) → KeepsBack ts ended kept → KeepsBack (t ∷ ts) ended kept
 keeps-more t ts Rewound.AtBeginning kept h = h

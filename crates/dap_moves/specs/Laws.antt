@@ -1,7 +1,9 @@
 -- What follows from the contracts of moves.
-use Rattle.std.specs.Prelude.{◌≡◌, ℕ, ◌<◌}
+use Rattle.std.specs.Prelude.{◌≡◌, ℕ, ◌<◌, ◌≤◌, List, Option, length}
 use Rattle.runs.specs.Live.{FirstDependent, NoDependent}
+use Rattle.runs.specs.Object.{most_live}
 use Rattle.runs.specs.Sound.{Sound}
+use Rattle.runs.specs.declared.event.Choice.{Choice}
 use Rattle.runs.specs.declared.event.Event.{Event}
 use Rattle.runs.specs.declared.command.Refusal.{Refusal}
 use Rattle.runs.specs.declared.command.Refusal.TheVariants.{NeededBy}
@@ -13,6 +15,7 @@ use Rattle.locked_execution.specs.declared.command.Command.{Command}
 use Rattle.locked_execution.specs.declared.command.Reply.{Reply}
 use Rattle.dap_moves.specs.Led.{Led}
 use Rattle.dap_moves.specs.Moves.{StepsBack}
+use Rattle.dap_moves.specs.Passing.{Turned, Turns}
 use Rattle.dap_moves.specs.declared.back.Back.{Back}
 
 -- no command leaves a desk as it is
@@ -46,3 +49,8 @@ RefusedBack = (d d' : AtDesk) (k t : ℕ) (why : Refusal) → StepsBack d k (Bac
 abbrev pub BackWhereAlone : Type 0
 BackWhereAlone = (d d' : AtDesk) (k t u : ℕ) (e : Event) → StepsBack d k (Back.Asked t (Reply.Undone u e)) d' →
     (u ≡ t) × NoDependent d.machine.live t
+
+-- a run takes no more steps than may be live
+abbrev pub FewTurns : Type 0
+FewTurns = (d d' : AtDesk) (only : Option ℕ) (turn behind : ℕ) (lines : List ℕ) (seen : List Choice)
+    (turns : List Turned) → Turns d only turn lines seen turns d' behind → length turns ≤ most_live

@@ -1,7 +1,9 @@
 -- Where a run back goes, and why it ends there.
-use Rattle.std.specs.Prelude.{◌≡◌, ◌⊎◌, ℕ, ◌+◌, ◌++◌, List, [], ◌∷◌, true, false, Option, None, Some, length, slice_get}
+use Rattle.std.specs.Prelude.{◌≡◌, ◌⊎◌, ℕ, ◌+◌, ◌++◌, List, [], ◌∷◌, true, false, Option, None, Some, length, slice_get, unwrap_or}
 use Rattle.syntax.specs.Lists.{Every}
+use Rattle.system_places.specs.SystemBranches.{branch_at}
 use Rattle.runs.specs.Choices.{choice_of}
+use Rattle.runs.specs.Events.{acting}
 use Rattle.runs.specs.Live.{LiveAt}
 use Rattle.runs.specs.declared.event.Choice.{Choice}
 use Rattle.runs.specs.declared.event.Event.{Event}
@@ -63,6 +65,10 @@ abbrev pub seen_on : Option ℕ → Returned → AtMachine
 seen_on None t = t.left.machine
 seen_on (Some k) t = t.from.machine
 
+-- the branch in which an event acts
+abbrev pub acting_branch : AtMachine → Event → ℕ
+acting_branch m e = unwrap_or (branch_at m.checked (acting e)) 0
+
 -- the run goes on behind it: it is not watched, and no action of it is on one of the lines
 pub record GoesPast (only : Option ℕ) (lines : List ℕ) (watched : List Watched) (t : Returned) : Type 0 where
   pub unwatched : is_watched watched t.event ≡ false
@@ -80,15 +86,15 @@ pub record EndsWith (only : Option ℕ) (lines : List ℕ) (watched : List Watch
   pub past : GoesPastAll only lines watched before
 
 -- why a run back ends at d behind these steps, and nothing stopped it sooner: none is left; or the last has an action
--- on this line, which is one of these; or it has this ticket and is watched
+-- in this branch on this line, which is one of these; or it has this ticket, acts in this branch, and is watched
 abbrev pub EndsRightly : Option ℕ → List ℕ → List Watched → AtDesk → List Returned → Rewound → Type 0
 EndsRightly only lines watched d ts Rewound.AtBeginning = GoesPastAll only lines watched ts × NoneLeft d only
 EndsRightly only lines watched d ts (Rewound.AtLine branch line) =
     (last : Returned) × EndsWith only lines watched ts last × (is_watched watched last.event ≡ false)
-    × StopsAt (seen_on only last) lines last.event line
+    × StopsAt (seen_on only last) lines last.event branch line
 EndsRightly only lines watched d ts (Rewound.Watched branch ticket) =
     (last : Returned) × EndsWith only lines watched ts last × (is_watched watched last.event ≡ true)
-    × (last.ticket ≡ ticket)
+    × (last.ticket ≡ ticket) × (branch ≡ acting_branch (seen_on only last) last.event)
 
 -- where it stops at a line, it keeps the choice of the step that was taken back last, if there is memory; else it keeps
 -- none

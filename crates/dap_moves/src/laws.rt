@@ -1,5 +1,5 @@
 // What follows from these contracts, each the contract of a function that does nothing.
-ghost use Rattle.dap_moves.specs.Laws.{LedNowhere, LedOn, LedByOne, KeepsHeadline, LosesNothingElse, RefusedBack, BackWhereAlone};
+ghost use Rattle.dap_moves.specs.Laws.{LedNowhere, LedOn, LedByOne, KeepsHeadline, LosesNothingElse, RefusedBack, BackWhereAlone, FewTurns};
 
 /// Where commands lead on, all of them together lead. What holds after any commands of sessions holds: the state is
 /// that of the live steps, and nothing that depended on a step that is gone is left.
@@ -16,4 +16,9 @@ pub fn led_laws()
 pub fn step_back_laws()
     ensures refused { RefusedBack }
     ensures alone { BackWhereAlone }
+{}
+
+/// A run takes 65,536 steps at most, since no more may be live.
+pub fn run_laws()
+    ensures { FewTurns }
 {}

@@ -17,11 +17,11 @@ pub use back::{Back, step_back};
 pub use forth::{step_at, target_at};
 pub use handles::{Handle, frame_id, frame_of, handle_of, reference};
 pub use known::{ready_events, value_of};
-pub use laws::{led_laws, step_back_laws};
+pub use laws::{led_laws, run_laws, step_back_laws};
 pub use locked_execution::{Command, Desk, Machine, Reply};
 pub use parts::{acts_in, newest_below, takes_part};
 pub use run::{Ended, Plan, go_on};
-pub use seen::{Watched, has_choice, is_watched};
+pub use seen::{Watched, has_choice, is_watched, see};
 pub use stops::{first_stop, stop_lines};
 pub use taken_back::{Marks, Rewound, rewind, rewind_branch};
 

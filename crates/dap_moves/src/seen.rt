@@ -3,9 +3,10 @@ ghost use Rattle.std.specs.Prelude.{◌≡◌, ◌↔◌, IsTrue};
 ghost use Rattle.syntax.specs.Lists.{In};
 ghost use Rattle.runs.specs.Choices.{choice_of};
 ghost use Rattle.machine.specs.Branching.{is_branch};
-ghost use Rattle.dap_moves.specs.Running.{is_hit, is_watched};
+ghost use Rattle.dap_moves.specs.Running.{Keeps, Sees, is_hit, is_watched};
 
 use runs::{Choice, Event};
+use std::alloc::Global;
 
 /// What is watched.
 #[derive(Clone, Copy, Debug, PartialEq, Eq)]
@@ -77,4 +78,37 @@ pub(crate) fn is_seen(seen: &[Choice], event: &Event) -> bool
         }
     }
     false
+}
+
+/// Keeps the choice of the event in mind, unless it is there already. Without memory for it nothing changes, and it
+/// returns `false`.
+pub fn see(alloc: Global, seen: &mut Vec<Choice>, event: &Event) -> bool
+    ensures { Sees result seen.old.items (choice_of event.now) seen.new.items }
+{
+    if is_seen(seen.as_slice(), event) {
+        true
+    } else {
+        keep(alloc, seen, event)
+    }
+}
+
+/// Keeps the choice of the event in mind, behind the others. Without memory for it nothing changes, and it returns
+/// `false`.
+pub(crate) fn keep(alloc: Global, seen: &mut Vec<Choice>, event: &Event) -> bool
+    ensures { Keeps result seen.old.items (choice_of event.now) seen.new.items }
+{
+    match event.choice(alloc) {
+        Ok(choice) => add(seen, choice),
+        Err(_) => false,
+    }
+}
+
+/// Adds the choice. Without memory for it nothing changes, and it returns `false`.
+fn add(seen: &mut Vec<Choice>, choice: Choice) -> bool
+    ensures { Keeps result seen.old.items choice seen.new.items }
+{
+    match seen.push(choice) {
+        Ok(()) => true,
+        Err(_) => false,
+    }
 }

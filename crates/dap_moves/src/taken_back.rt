@@ -9,8 +9,8 @@ ghost use Rattle.dap_moves.specs.internal.Rolling.{GoesOut, IsNewestAt, NoneFrom
 use crate::QUIET;
 use crate::back::undo;
 use crate::parts::newest_below;
-use crate::run::{keep, line_among};
-use crate::seen::{Watched, is_watched};
+use crate::run::line_among;
+use crate::seen::{Watched, is_watched, keep};
 use locked_execution::{Command, Desk, Machine, Reply};
 use runs::{Choice, Event};
 use std::alloc::Global;
@@ -213,7 +213,7 @@ fn stop_at(
     }
     match line_among(machine, marks.lines, event) {
         Some((at, line)) => {
-            keep(alloc, kept, event);
+            let _kept = keep(alloc, kept, event);
             Some(Rewound::AtLine(at, line))
         }
         None => None,

@@ -14,7 +14,7 @@ use Rattle.dap_moves.specs.Moves.{quiet}
 use Rattle.dap_moves.specs.Parts.{NewestBelow, takes_part}
 use Rattle.dap_moves.specs.Passing.{PassesBy, StopsAt}
 use Rattle.dap_moves.specs.Running.{is_watched}
-use Rattle.dap_moves.specs.TakingBack.{GoesBack, GoesPast, IsRolled, IsUndone, Returned, TakesBack}
+use Rattle.dap_moves.specs.TakingBack.{acting_branch, GoesBack, GoesPast, IsRolled, IsUndone, Returned, TakesBack}
 use Rattle.dap_moves.specs.declared.seen.Watched.{Watched}
 use Rattle.dap_moves.specs.declared.taken_back.Rewound.{Rewound}
 use Rattle.dap_moves.specs.declared.taken_back.Rolled.{Rolled}
@@ -24,9 +24,9 @@ abbrev pub StopsBehind : AtMachine → List ℕ → List Watched → ℕ → Eve
 StopsBehind m lines watched t e None kept = (is_watched watched e ≡ false) × PassesBy m lines e × (kept ≡ [])
 StopsBehind m lines watched t e (Some Rewound.AtBeginning) kept = ⊥
 StopsBehind m lines watched t e (Some (Rewound.AtLine branch line)) kept =
-    (is_watched watched e ≡ false) × StopsAt m lines e line × ((kept ≡ []) ⊎ (kept ≡ choice_of e ∷ []))
+    (is_watched watched e ≡ false) × StopsAt m lines e branch line × ((kept ≡ []) ⊎ (kept ≡ choice_of e ∷ []))
 StopsBehind m lines watched t e (Some (Rewound.Watched branch ticket)) kept =
-    (is_watched watched e ≡ true) × (t ≡ ticket) × (kept ≡ [])
+    (is_watched watched e ≡ true) × (t ≡ ticket) × (branch ≡ acting_branch m e) × (kept ≡ [])
 
 -- the step that goes next is taken back, and the run goes on
 abbrev pub GoesOn : Option ℕ → List ℕ → List Watched → AtDesk → AtDesk → Type 0

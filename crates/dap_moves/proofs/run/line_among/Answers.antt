@@ -8,5 +8,5 @@ returns-then-is_empty c =
 
 pub returns-in-Some : goal.returns-in-Some
 returns-in-Some c =
-    stops_acting c.args.machine.now c.args.lines.now c.args.event.now c.acting_place.result.now c.in-Some.found.1 c.acting_place.ensures
-    c.in-Some.ensures
+    stops_acting c.args.machine.now c.args.lines.now c.args.event.now c.acting_place.result.now c.in-Some.found.0 c.in-Some.found.1
+    c.acting_place.ensures c.in-Some.ensures

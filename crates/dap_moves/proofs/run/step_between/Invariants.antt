@@ -1,5 +1,5 @@
 use Rattle.std.proofs.Common.{◌≡◌, ◌≤◌, ◌<◌, ℕ}
-use Rattle.dap_moves.specs.Running.{IsIdle}
+use Rattle.dap_moves.specs.Passing.{IsIdle}
 use Rattle.dap_moves.proofs.run.step_between.Given as goal
 
 abbrev pub invariant-loop-branch : goal.invariant-loop-branch

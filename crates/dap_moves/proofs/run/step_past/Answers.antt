@@ -5,7 +5,7 @@ use Rattle.dap_moves.proofs.Running.{took_at}
 use Rattle.dap_moves.proofs.run.step_past.Goals as goal
 
 pub returns-clause-takes : goal.returns-clause-takes
-returns-clause-takes c =
-    subst (λ (turn : Turn). TakesOne c.args.plan.now c.args.seen.now c.args.desk.now c.step_at-reply.new.desk turn) (sym c.told.ensures)
-    (took_at c.args.plan.now c.args.seen.now c.args.desk.now c.step_at-reply.new.desk c.args.event.now c.args.branch c.step_at-reply.result
-    c.requires c.step_at-reply.ensures.steps)
+returns-clause-takes c = λ turn seen may.
+    subst (λ (t : Turn). TakesOne c.args.plan.now turn seen c.args.desk.now c.step_at-reply.new.desk t seen) (sym c.told.ensures)
+    (took_at c.args.plan.now turn seen c.args.desk.now c.step_at-reply.new.desk c.args.event.now c.args.branch c.step_at-reply.result may
+    c.step_at-reply.ensures.steps)
