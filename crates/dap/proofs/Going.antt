@@ -5,7 +5,6 @@ use Rattle.serde_json.specs.Data.{Data}
 use Rattle.serde_json.specs.View.{view}
 use Rattle.system.specs.declared.command.Command.{Command}
 use Rattle.system_places.specs.SystemBranches.{branch_count}
-use Rattle.runs.specs.Choices.{choice_of}
 use Rattle.runs.specs.declared.event.Choice.{Choice}
 use Rattle.machine.specs.AtMachine.{AtMachine}
 use Rattle.machine.specs.Headline.{Headline}
@@ -13,17 +12,12 @@ use Rattle.locked_execution.specs.AtDesk.{AtDesk, execution}
 use Rattle.dap_messages.specs.Arguments.{number_named}
 use Rattle.dap_messages.specs.Notes.{IsDone, IsRefusal}
 use Rattle.dap_messages.specs.declared.answer.Answer.{Answer}
-use Rattle.dap_messages.specs.declared.answer.Effect.{Effect}
 use Rattle.dap_messages.specs.declared.kind.Kind.{Kind}
 use Rattle.dap_messages.specs.declared.request.Request.{Request}
 use Rattle.dap_messages.specs.declared.told.Stop.{Stop}
-use Rattle.dap_messages.specs.declared.told.Told.{Told}
 use Rattle.dap_moves.specs.Led.{Led}
-use Rattle.dap_moves.specs.Running.{KeepsChoice}
-use Rattle.dap_moves.specs.declared.run.Ended.{Ended}
 use Rattle.dap_moves.proofs.public.Leading.{led_nowhere}
-use Rattle.dap_requests.specs.Forth.{Going, RunsBy, stop_at}
-use Rattle.dap_requests.specs.Said.{Runs, TellsStop}
+use Rattle.dap_requests.specs.Said.{Runs}
 use Rattle.dap_requests.specs.Sets.{PlacesAsked, Stays, is_own, items_named, lines_asked, path_in}
 use Rattle.dap_requests.specs.Typed.{Evaluates, KeepsSome, is_typed}
 use Rattle.dap_requests.proofs.public.Saying.{runs_after, runs_weaker}
@@ -77,22 +71,6 @@ steps_forward a b program before after d d' kind request one two three four h =
 -- what is kept in mind
 pub keeps_same : (b : Answer) (before : List Choice) → KeepsSome b before before
 keeps_same b before = inr (inl refl)
-
--- behind a run
-keeps-ended : (excepts : Bool) (lines : List ℕ) (d : AtDesk) (b : Answer) (before after : List Choice) (stop : Stop) (ended : Ended) →
-    b.effect ≡ Effect.Due (Told.Stopped stop) → stop ≡ stop_at excepts ended → KeepsChoice lines d ended after → KeepsSome b before after
-keeps-ended excepts lines d b before after stop (Ended.AtLine branch line) effect told keeps = elim keeps [
-  | inl none ↦ inl none
-  | inr one ↦ inr (inr (effect ∙ ap (λ (s : Stop). Effect.Due (Told.Stopped s)) told, (choice_of one.0, one.1)))
-]
-keeps-ended excepts lines d b before after stop Ended.Nothing effect told keeps = inl keeps
-keeps-ended excepts lines d b before after stop (Ended.Watched branch ticket) effect told keeps = inl keeps
-keeps-ended excepts lines d b before after stop (Ended.Most branch) effect told keeps = inl keeps
-keeps-ended excepts lines d b before after stop (Ended.Refused branch why) effect told keeps = inl keeps
-
-pub keeps_run : (going : Going) (k : Option ℕ) (d d' : AtDesk) (before after : List Choice) (a b : Answer) →
-    (stop : Stop) × TellsStop a stop b × RunsBy going k d before stop d' after → KeepsSome b before after
-keeps_run going k d d' before after a b h = keeps-ended going.excepts going.lines d' b before after h.0 h.2.ended h.1.effect h.2.told h.2.keeps
 
 -- a request to move sets nothing
 moves-none : (kind : Kind) (d : Data) (c : Command) (p : Program) (b : Answer) → moves kind ≡ true → SetsBy kind d c p b p

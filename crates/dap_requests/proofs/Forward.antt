@@ -1,8 +1,8 @@
 -- Steps forth, and runs.
 use Rattle.std.proofs.Common.{◌≡◌, ◌⊎◌, ◌∙◌, ℕ, ◌-◌, List, [], ◌∷◌, ◌++◌, Option, None, Some, Bool, true, false, inl, inr, ap, subst, refl, sym, codes}
+use Rattle.std.specs.Bool.{MatchBool}
 use Rattle.std.specs.Prelude.{slice_get}
 use Rattle.serde_json.specs.View.{view}
-use Rattle.syntax.specs.Lists.{Every, In}
 use Rattle.system.specs.declared.system.System.{System}
 use Rattle.system_places.specs.SystemBranches.{branch_count}
 use Rattle.runs.specs.Choices.{choice_of}
@@ -10,6 +10,7 @@ use Rattle.runs.specs.Object.{Reaches}
 use Rattle.runs.specs.Ready.{ReadyList}
 use Rattle.runs.specs.Steps.{State}
 use Rattle.runs.specs.declared.command.Refusal.{Refusal}
+use Rattle.runs.specs.declared.command.Refusal.TheVariants.{Memory}
 use Rattle.runs.specs.declared.event.Choice.{Choice}
 use Rattle.runs.specs.declared.event.Event.{Event}
 use Rattle.machine.specs.AtMachine.{AtMachine, object}
@@ -23,7 +24,7 @@ use Rattle.dap_messages.specs.declared.request.Request.{Request}
 use Rattle.dap_messages.specs.declared.told.Stop.{Stop}
 use Rattle.dap_messages.specs.declared.told.Told.{Told}
 use Rattle.dap_moves.specs.Moves.{StepsAt, StepsBack, targets}
-use Rattle.dap_moves.specs.Running.{KeepsChoice, RunsFrom}
+use Rattle.dap_moves.specs.Running.{RunsFrom, Sees}
 use Rattle.dap_moves.specs.TakingBack.{GoesBack, KeepsBack, Returned}
 use Rattle.dap_moves.specs.declared.back.Back.{Back}
 use Rattle.dap_moves.specs.declared.run.Ended.{Ended}
@@ -33,7 +34,7 @@ use Rattle.dap_moves.specs.declared.taken_back.Rewound.{Rewound}
 use Rattle.dap_threads.specs.Threads.{branch_named}
 use Rattle.dap_views.specs.declared.program.Program.{Program}
 use Rattle.dap_requests.specs.Back.{Backs, Remembers, Reverses, ReversesFor, ReversesIn, SeenBehind, stop_back, stop_behind}
-use Rattle.dap_requests.specs.Forth.{AreSeen, Going, IsFirst, IsPlanned, RunsBy, RunsFree, StepsForth, Takes, alone, stop_at, stop_of, target_of}
+use Rattle.dap_requests.specs.Forth.{AreSeen, Going, IsPlanned, RunsBy, RunsFree, SeesStep, StepsForth, Takes, alone, stop_at, stop_of, target_of}
 use Rattle.dap_requests.specs.Said.{Runs, TellsOutputs, TellsStop}
 use Rattle.dap_requests.proofs.public.Saying.{runs_on, stops_behind, stops_on}
 
@@ -95,50 +96,32 @@ target_none kind named is none =
     (subst (λ (k : Kind). 0 ≡ target_of k None) (sym is) refl)
 
 -- a run
-pub runs_by : (going : Going) (k : Option ℕ) (d d' : AtDesk) (before after : List Choice) (plan : Plan) (ended : Ended) → IsPlanned going plan →
-    AreSeen d k before plan.seen.now → RunsFrom 0 plan plan.seen.now d d' ended → KeepsChoice plan.lines.now d' ended after →
-    RunsBy going k d before (stop_at going.excepts ended) d' after
-runs_by going k d d' before after plan ended planned seen runs keeps = record {
-  plan = plan;
-  ended = ended;
-  planned = planned;
-  seen = seen;
-  runs = runs;
-  told = refl;
-  keeps = subst (λ (ls : List ℕ). KeepsChoice ls d' ended after) planned.lines keeps;
-}
+pub runs_by : (going : Going) (k : Option ℕ) (d d' : AtDesk) (before seen after : List Choice) (plan : Plan) (ended : Ended) → IsPlanned going k plan →
+    AreSeen d k before seen → RunsFrom plan seen d d' ended after → RunsBy going k d before (stop_at going.excepts ended) d' after
+runs_by going k d d' before seen after plan ended planned are runs =
+    inl (record { plan = plan; ended = ended; seen = seen; planned = planned; are = are; runs = runs; told = refl })
+
+-- there was no memory to begin
+pub runs_not : (going : Going) (k : Option ℕ) (d : AtDesk) (before after : List Choice) (branch : ℕ) → after ≡ before →
+    RunsBy going k d before (stop_at going.excepts (Ended.Refused branch Memory)) d after
+runs_not going k d before after branch same = inr (refl, refl, same)
 
 -- steps before which a run has stood already
-every-seen : (d : AtDesk) (k : Option ℕ) (before seen : List Choice) → ((c : Choice) → In c seen → In c before) → AreSeen d k before seen
-every-seen d k before [] all = tt
-every-seen d k before (c ∷ seen) all = (inl (all c (inl refl)), every-seen d k before seen (λ x there. all x (inr there)))
-
-pub seen_same : (d : AtDesk) (k : Option ℕ) (before : List Choice) → AreSeen d k before before
-seen_same d k before = every-seen d k before before (λ c there. there)
-
-both-seen : (d : AtDesk) (k : Option ℕ) (before xs ys : List Choice) → AreSeen d k before xs → AreSeen d k before ys → AreSeen d k before (xs ++ ys)
-both-seen d k before [] ys h g = g
-both-seen d k before (x ∷ xs) ys h g = (h.0, both-seen d k before xs ys h.1 g)
-
--- and the first of the branch
-pub seen_more : (d : AtDesk) (k : Option ℕ) (before : List Choice) (c : Choice) → IsFirst d k c → AreSeen d k before (before ++ c ∷ [])
-seen_more d k before c first = both-seen d k before before (c ∷ []) (seen_same d k before) (inr first, tt)
-
-pub first_of : (d : AtDesk) (m : AtMachine) (system : System) (es fs : List Event) (k : ℕ) (e : Event) (c : Choice) → d.machine ≡ m →
-    system ≡ m.checked → fs ≡ es → ((T : State) × Reaches (object m) T × ReadyList T es) → Some e ≡ slice_get (targets system k fs) 0 →
-    c ≡ choice_of e → IsFirst d (Some k) c
-first_of d m system es fs k e c same checked list ready found is =
+pub seen_whole : (d : AtDesk) (k : ℕ) (m : AtMachine) (system : System) (es fs : List Event) (o : Option Event) (before after : List Choice) →
+    d.machine ≡ m → system ≡ m.checked → fs ≡ es → ((T : State) × Reaches (object m) T × ReadyList T es) → o ≡ slice_get (targets system k fs) 0 →
+    SeesStep o before after → AreSeen d (Some k) before after
+seen_whole d k m system es fs o before after same checked list ready found sees =
     let there = subst (λ (x : AtMachine). (T : State) × Reaches (object x) T × ReadyList T es) (sym same) ready in
     let own : system ≡ d.machine.checked = checked ∙ sym (ap (λ (x : AtMachine). x.checked) same) in
-    (there.0, es, e, there.1, there.2, sym (here d system es fs k 0 (Some e) own list found), is)
+    (there.0, es, there.1, there.2, subst (λ (x : Option Event). SeesStep x before after) (here d system es fs k 0 o own list found) sees)
 
--- what was kept in mind, or one step more
-pub seen_or_more : (d : AtDesk) (k : Option ℕ) (before after : List Choice) (c : Choice) → IsFirst d k c → (after ≡ before) ⊎ (after ≡ before ++ c ∷ []) →
-    AreSeen d k before after
-seen_or_more d k before after c first h = elim h [
-  | inl same ↦ subst (λ (xs : List Choice). AreSeen d k before xs) (sym same) (seen_same d k before)
-  | inr more ↦ subst (λ (xs : List Choice). AreSeen d k before xs) (sym more) (seen_more d k before c first)
-]
+-- the first of the branch, where there was memory for it
+pub seen_first : (b : Bool) (k : ℕ) (m : AtMachine) (system : System) (es fs : List Event) (e : Event) (before after : List Choice) →
+    system ≡ m.checked → fs ≡ es → ((T : State) × Reaches (object m) T × ReadyList T es) → Some e ≡ slice_get (targets system k fs) 0 →
+    Sees b before (choice_of e) after → MatchBool b ((d : AtDesk) → d.machine ≡ m → AreSeen d (Some k) before after) (after ≡ before)
+seen_first true k m system es fs e before after checked list ready found sees =
+    λ d same. seen_whole d k m system es fs (Some e) before after same checked list ready found sees
+seen_first false k m system es fs e before after checked list ready found sees = sees
 
 -- a step that was not refused
 pub stop_other : (x : Bool) (reply : Reply) → ((why : Refusal) → reply ≡ Reply.Refused why → ⊥) → stop_of x reply ≡ Stop.Stepped
@@ -181,9 +164,9 @@ run_told going k d d' before after a m b ended outputs stops h =
     let stop = stop_at going.excepts ended in (stop, stops_on a m b stop outputs stops, h)
 
 -- a run that nothing stops
-pub runs_free : (most : ℕ) (d d' : AtDesk) (plan : Plan) (ended : Ended) → plan.first ≡ 0 → plan.only ≡ None → plan.lines.now ≡ [] →
-    plan.watched.now ≡ [] → plan.seen.now ≡ [] → plan.most ≡ most → RunsFrom 0 plan plan.seen.now d d' ended → RunsFree most d d'
-runs_free most d d' plan ended first only lines watched seen within h = record {
+pub runs_free : (most : ℕ) (d d' : AtDesk) (plan : Plan) (seen kept : List Choice) (ended : Ended) → plan.first ≡ 0 → plan.only ≡ None → plan.lines.now ≡ [] →
+    plan.watched.now ≡ [] → seen ≡ [] → plan.most ≡ most → RunsFrom plan seen d d' ended kept → RunsFree most d d'
+runs_free most d d' plan seen kept ended first only lines watched none within h = record {
   plan = plan;
   ended = ended;
   first = first;
@@ -191,7 +174,8 @@ runs_free most d d' plan ended first only lines watched seen within h = record {
   lines = lines;
   watched = watched;
   within = within;
-  runs = subst (λ (cs : List Choice). RunsFrom 0 plan cs d d' ended) seen h;
+  kept = kept;
+  runs = subst (λ (cs : List Choice). RunsFrom plan cs d d' ended kept) none h;
 }
 
 -- a body before it

@@ -1,7 +1,6 @@
 -- Steps forth.
-use Rattle.std.specs.Prelude.{◌≡◌, ◌⊎◌, ℕ, ◌-◌, List, [], Bool, true, false, Option, None, Some, codes, slice_get}
+use Rattle.std.specs.Prelude.{◌≡◌, ◌⊎◌, ℕ, ◌-◌, List, [], Bool, true, false, Option, None, Some, codes, slice_get, unwrap_or}
 use Rattle.serde_json.specs.View.{view}
-use Rattle.syntax.specs.Lists.{Every, In}
 use Rattle.runs.specs.Choices.{choice_of}
 use Rattle.runs.specs.Object.{Reaches}
 use Rattle.runs.specs.Ready.{ReadyList}
@@ -16,7 +15,7 @@ use Rattle.dap_messages.specs.declared.kind.Kind.{Kind}
 use Rattle.dap_messages.specs.declared.request.Request.{Request}
 use Rattle.dap_messages.specs.declared.told.Stop.{Stop}
 use Rattle.dap_moves.specs.Moves.{StepsAt, targets}
-use Rattle.dap_moves.specs.Running.{KeepsChoice, RunsFrom}
+use Rattle.dap_moves.specs.Running.{RunsFrom, Sees}
 use Rattle.dap_moves.specs.declared.run.Ended.{Ended}
 use Rattle.dap_moves.specs.declared.run.Plan.{Plan}
 use Rattle.dap_moves.specs.declared.seen.Watched.{Watched}
@@ -58,16 +57,18 @@ stop_at excepts (Ended.Watched branch ticket) = Stop.Watched
 stop_at excepts (Ended.Most branch) = Stop.Pause
 stop_at excepts (Ended.Refused branch why) = Stop.Refused (refusal_number why) excepts
 
--- the choice is that of the first step of the branch, if one is meant
-abbrev pub IsFirst : AtDesk → Option ℕ → Choice → Type 0
-IsFirst d None c = ⊥
-IsFirst d (Some k) c =
-    (T : State) × (es : List Event) × (e : Event) × Reaches (execution d) T × ReadyList T es
-    × (slice_get (targets d.machine.checked k es) 0 ≡ Some e) × (c ≡ choice_of e)
+-- the step of this event, if there is one, is kept in mind behind others, unless it is there already
+abbrev pub SeesStep : Option Event → List Choice → List Choice → Type 0
+SeesStep None before seen = seen ≡ before
+SeesStep (Some e) before seen = Sees true before (choice_of e) seen
 
--- before these steps a run has stood already: before each of those that were kept, or before the first of the branch
+-- before these steps a run has stood already that goes on where branch k stands: before those that were kept in mind,
+-- and before the first of the branch, if it has one
 abbrev pub AreSeen : AtDesk → Option ℕ → List Choice → List Choice → Type 0
-AreSeen d k before seen = Every (λ (c : Choice). In c before ⊎ IsFirst d k c) seen
+AreSeen d None before seen = seen ≡ before
+AreSeen d (Some k) before seen =
+    (T : State) × (es : List Event) × Reaches (execution d) T × ReadyList T es
+    × SeesStep (slice_get (targets d.machine.checked k es) 0) before seen
 
 -- how a run goes: the lines that stop it, what is watched, the most steps, the branch that steps alone, and whether a
 -- refusal is an exception
@@ -93,8 +94,9 @@ going_of program only = record {
   excepts = program.excepts;
 }
 
--- it is planned so
-pub record IsPlanned (going : Going) (plan : Plan) : Type 0 where
+-- it is planned so, where it begins with branch k, or with the first
+pub record IsPlanned (going : Going) (k : Option ℕ) (plan : Plan) : Type 0 where
+  pub first : plan.first ≡ unwrap_or k 0
   pub lines : plan.lines.now ≡ going.lines
   pub watched : plan.watched.now ≡ going.watched
   pub most : plan.most ≡ going.most
@@ -102,15 +104,21 @@ pub record IsPlanned (going : Going) (plan : Plan) : Type 0 where
 
 -- a run goes on from d, where branch k stands, to d', and how it ended is told. It passes no line but at its first
 -- step, where it has stood before that: `before` are the steps that were kept in mind, `after` those that are
-pub record RunsBy (going : Going) (k : Option ℕ) (d : AtDesk) (before : List Choice) (stop : Stop) (d' : AtDesk)
+pub record GoesFrom (going : Going) (k : Option ℕ) (d : AtDesk) (before : List Choice) (stop : Stop) (d' : AtDesk)
     (after : List Choice) : Type 0 where
   pub plan : Plan
   pub ended : Ended
-  pub planned : IsPlanned going plan
-  pub seen : AreSeen d k before plan.seen.now
-  pub runs : RunsFrom 0 plan plan.seen.now d d' ended
+  pub seen : List Choice
+  pub planned : IsPlanned going k plan
+  pub are : AreSeen d k before seen
+  pub runs : RunsFrom plan seen d d' ended after
   pub told : stop ≡ stop_at going.excepts ended
-  pub keeps : KeepsChoice going.lines d' ended after
+
+-- the same; or there was no memory to keep in mind where it begins: nothing changed, and that is told
+abbrev pub RunsBy : Going → Option ℕ → AtDesk → List Choice → Stop → AtDesk → List Choice → Type 0
+RunsBy going k d before stop d' after =
+    GoesFrom going k d before stop d' after
+    ⊎ ((stop ≡ Stop.Refused 1 going.excepts) × (d' ≡ d) × (after ≡ before))
 
 -- a run that nobody debugs, from d to d': it begins with the first branch, of all, takes no more steps than these, and
 -- neither lines nor what is watched stop it
@@ -122,4 +130,5 @@ pub record RunsFree (most : ℕ) (d d' : AtDesk) : Type 0 where
   pub lines : plan.lines.now ≡ []
   pub watched : plan.watched.now ≡ []
   pub within : plan.most ≡ most
-  pub runs : RunsFrom 0 plan [] d d' ended
+  pub kept : List Choice
+  pub runs : RunsFrom plan [] d d' ended kept

@@ -1,5 +1,5 @@
 -- Expressions that were typed as lines.
-use Rattle.std.specs.Prelude.{◌≡◌, ◌⊎◌, ◌||◌, ◌==◌, ◌-◌, ℕ, Bool, false, true, cond, List, [], ◌∷◌, Option, None, Some, nat_eq, codes, drop, length, take}
+use Rattle.std.specs.Prelude.{◌≡◌, ◌⊎◌, ◌||◌, ◌==◌, ◌-◌, ◌++◌, ℕ, Bool, false, true, cond, List, [], ◌∷◌, Option, None, Some, nat_eq, codes, drop, length, take}
 use Rattle.std.specs.Char.{is_ascii_whitespace}
 use Rattle.std.specs.Cmp.Lexicographic.{pointwise}
 use Rattle.std.specs.List.{prefix_len, suffix_len}
@@ -66,12 +66,14 @@ line_of (Some text) = bare (without_before is_mark (bare text))
 abbrev pub line_in : Request → List ℕ
 line_in request = line_of (text_named (codes "expression") (view request.arguments))
 
--- what is kept in mind behind a line: nothing; or the same; or one step, where it was told that the thread stands at a
--- line
+-- what is kept in mind of the steps before which a run has stood: nothing; or the same; or one step, where it was told
+-- that a thread stands at a line; or the same and others, where it was told that a thread stands
 abbrev pub KeepsSome : Answer → List Choice → List Choice → Type 0
 KeepsSome answer before after =
     (after ≡ []) ⊎ (after ≡ before)
     ⊎ ((answer.effect ≡ Effect.Due (Told.Stopped Stop.AtLine)) × ((c : Choice) × (after ≡ c ∷ [])))
+    ⊎ ((stop : Stop) × (answer.effect ≡ Effect.Due (Told.Stopped stop))
+    × ((more : List Choice) × (after ≡ before ++ more)))
 
 -- how a command is told: that nothing moves, where steps were taken or taken back; else in texts alone
 abbrev pub TellsMove : Bool → Answer → Answer → Type 0

@@ -1,7 +1,6 @@
 // Requests to run: forth and back. Each that succeeds ends with one `stopped`.
-ghost use Rattle.std.specs.Prelude.{◌≡◌, ◌⊎◌, ◌++◌, [], ◌∷◌, MatchOption, None, Some, codes, is_some, slice_get};
+ghost use Rattle.std.specs.Prelude.{◌≡◌, [], MatchBool, MatchOption, None, Some, codes, is_some, slice_get};
 ghost use Rattle.serde_json.specs.View.{view};
-ghost use Rattle.runs.specs.Choices.{choice_of};
 ghost use Rattle.runs.specs.Object.{Reaches};
 ghost use Rattle.runs.specs.Ready.{ReadyList};
 ghost use Rattle.runs.specs.Refusals.{refusal_number};
@@ -25,14 +24,13 @@ use crate::said::{stop, stop_at_line, tell, tell_outputs, tell_refused, tell_ste
 use crate::still::{nothing_words, why_none};
 use dap_messages::{Answer, Kind, Members, Request, Stop};
 use dap_moves::{
-    Back, Desk, Ended, Machine, Marks, Plan, Reply, Rewound, go_on, rewind, rewind_branch, step_at,
-    step_back, step_back_laws, target_at,
+    Back, Desk, Ended, Machine, Marks, Plan, Reply, Rewound, go_on, rewind, rewind_branch, see,
+    step_at, step_back, step_back_laws, target_at,
 };
 use dap_threads::thread_in;
 use dap_views::{Memo, Program, Words, event_words};
 use runs::{Choice, Event, Refusal};
 use std::alloc::Global;
-use std::mem;
 use syntax::Items;
 use system_places::branch_at;
 
@@ -362,14 +360,14 @@ fn run_on(
     ensures goes { RunsBy (going_of program.now only) branch desk.old memo.old.seen.items
         (stop_at program.now.excepts result) desk.new memo.new.seen.items }
 {
-    let mut seen = mem::replace(&mut memo.seen, Vec::new(alloc));
-    see_first(alloc, desk.machine(), branch, &mut seen);
+    if !see_first(alloc, desk.machine(), branch, &mut memo.seen) {
+        return Ended::Refused(branch.unwrap_or(0), Refusal::Memory);
+    }
     let plan = Plan {
         first: branch.unwrap_or(0),
         only,
         lines: program.stops.as_slice(),
         watched: program.watched.as_slice(),
-        seen: seen.as_slice(),
         most: program.launch.most,
     };
     go_on(alloc, desk, &plan, &mut memo.seen)
@@ -388,11 +386,10 @@ pub fn run_free(alloc: Global, desk: &mut Desk, program: &Program, answer: &mut 
         only: None,
         lines: &[],
         watched: &[],
-        seen: &[],
         most: program.launch.most,
     };
-    let mut kept = Vec::new(alloc);
-    let ended = go_on(alloc, desk, &plan, &mut kept);
+    let mut seen = Vec::new(alloc);
+    let ended = go_on(alloc, desk, &plan, &mut seen);
     tell_outputs(alloc, desk.machine(), before, answer);
     tell_free_end(alloc, desk.machine(), ended, answer);
 }
@@ -416,23 +413,28 @@ fn tell_free_end(alloc: Global, machine: &Machine, ended: Ended, answer: &mut An
     }
 }
 
-/// Keeps in mind the step before which the branch stands.
-fn see_first(alloc: Global, machine: &Machine, branch: Option<u32>, seen: &mut Vec<Choice>)
-    ensures { (d : AtDesk) → d.machine ≡ machine.now → AreSeen d branch seen.old.items seen.new.items }
+/// Keeps in mind the step before which the branch stands. Without memory for that nothing changes, and it returns
+/// `false`.
+fn see_first(alloc: Global, machine: &Machine, branch: Option<u32>, seen: &mut Vec<Choice>) -> bool
+    ensures { MatchBool result
+        ((d : AtDesk) → d.machine ≡ machine.now → AreSeen d branch seen.old.items seen.new.items)
+        (seen.new.items ≡ seen.old.items) }
 {
     match branch {
         Some(branch) => see_in(alloc, machine, branch, seen),
-        None => {}
+        None => true,
     }
 }
 
 /// Keeps in mind the first step of the branch, if it has one.
-fn see_in(alloc: Global, machine: &Machine, branch: u32, seen: &mut Vec<Choice>)
-    ensures { (d : AtDesk) → d.machine ≡ machine.now → AreSeen d (Some branch) seen.old.items seen.new.items }
+fn see_in(alloc: Global, machine: &Machine, branch: u32, seen: &mut Vec<Choice>) -> bool
+    ensures { MatchBool result
+        ((d : AtDesk) → d.machine ≡ machine.now → AreSeen d (Some branch) seen.old.items seen.new.items)
+        (seen.new.items ≡ seen.old.items) }
 {
     match machine.ready() {
         Ok(events) => see_among(alloc, machine, branch, &events, seen),
-        Err(_) => {}
+        Err(_) => false,
     }
 }
 
@@ -443,34 +445,16 @@ fn see_among(
     branch: u32,
     events: &Items<Event>,
     seen: &mut Vec<Choice>,
-)
+) -> bool
     requires { (T : State) × Reaches (object machine.now) T × ReadyList T events.now }
-    ensures { (d : AtDesk) → d.machine ≡ machine.now → AreSeen d (Some branch) seen.old.items seen.new.items }
+    ensures { MatchBool result
+        ((d : AtDesk) → d.machine ≡ machine.now → AreSeen d (Some branch) seen.old.items seen.new.items)
+        (seen.new.items ≡ seen.old.items) }
 {
     let system = machine.checked().system();
     match target_at(system, events.as_slice(), branch, 0) {
-        Some(event) => see(alloc, event, seen),
-        None => {}
-    }
-}
-
-/// Keeps the choice of the event in mind, where there is memory for it.
-fn see(alloc: Global, event: &Event, seen: &mut Vec<Choice>)
-    ensures { (seen.new.items ≡ seen.old.items) ⊎ (seen.new.items ≡ seen.old.items ++ choice_of event.now ∷ []) }
-{
-    match event.choice(alloc) {
-        Ok(choice) => add_seen(seen, choice),
-        Err(_) => {}
-    }
-}
-
-/// Keeps the choice in mind, where there is memory for it.
-fn add_seen(seen: &mut Vec<Choice>, choice: Choice)
-    ensures { (seen.new.items ≡ seen.old.items) ⊎ (seen.new.items ≡ seen.old.items ++ choice ∷ []) }
-{
-    match seen.push(choice) {
-        Ok(()) => {}
-        Err(_) => {}
+        Some(event) => see(alloc, seen, event),
+        None => true,
     }
 }
 

@@ -198,7 +198,7 @@ runs_weaker a b d d' goes will more h = elim h [
 pub keeps_of : (d d' : AtDesk) (b : Answer) (before after : List Choice) → Remembers d d' b before after → KeepsSome b before after
 keeps_of d d' b before after h = elim h [
   | inl none ↦ inl none
-  | inr more ↦ elim more [ inl same ↦ inr (inl same.0) | inr one ↦ inr (inr one) ]
+  | inr more ↦ elim more [ inl same ↦ inr (inl same.0) | inr one ↦ inr (inr (inl one)) ]
 ]
 
 -- or a request that moves nothing

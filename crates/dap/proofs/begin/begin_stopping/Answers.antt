@@ -1,7 +1,7 @@
 use Rattle.std.proofs.Common.{None, inl, inr, refl}
 use Rattle.dap_messages.specs.declared.told.Stop.{Stop}
 use Rattle.dap_requests.specs.Forth.{going_of}
-use Rattle.dap.proofs.Going.{keeps_run}
+use Rattle.dap_requests.proofs.public.Keeping.{keeps_run}
 use Rattle.dap.proofs.begin.begin_stopping.Goals as goal
 
 pub returns-then-program-clause-begins : goal.returns-then-program-clause-begins

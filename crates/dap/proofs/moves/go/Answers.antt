@@ -3,8 +3,9 @@ use Rattle.dap_messages.specs.declared.told.Stop.{Stop}
 use Rattle.dap_requests.specs.Forth.{RunsBy, alone, going_of}
 use Rattle.dap_requests.specs.Said.{TellsStop}
 use Rattle.dap.specs.Steps.{GoesOn, IsDenied, thread_of}
+use Rattle.dap_requests.proofs.public.Keeping.{keeps_run}
 use Rattle.dap_requests.proofs.public.Saying.{never_refused, runs_refused}
-use Rattle.dap.proofs.Going.{keeps_run, keeps_same, runs_in_thread, thread_found}
+use Rattle.dap.proofs.Going.{keeps_same, runs_in_thread, thread_found}
 use Rattle.dap.proofs.moves.go.Goals as goal
 
 pub returns-in-Some-clause-goes : goal.returns-in-Some-clause-goes
