@@ -24,6 +24,11 @@
   "The command of the debug adapter."
   :group 'dap-mode :type '(repeat string))
 
+;; dap-mode leaves these categories out: the steps taken and taken back, and why nothing can go on.
+(when dap-output-buffer-filter
+  (dolist (category '("console" "important"))
+    (add-to-list 'dap-output-buffer-filter category t)))
+
 (defun dap-balsa--populate (conf)
   "Fill in what CONF leaves open."
   (setq conf (plist-put conf :dap-server-path dap-balsa-command))
