@@ -19,7 +19,7 @@ use Rattle.dap_moves.specs.Led.{Led}
 use Rattle.dap_moves.proofs.public.Leading.{led_nowhere}
 use Rattle.dap_requests.specs.Said.{Runs}
 use Rattle.dap_requests.specs.Sets.{PlacesAsked, Stays, is_own, items_named, lines_asked, path_in}
-use Rattle.dap_requests.specs.Typed.{Evaluates, KeepsSome, is_typed}
+use Rattle.dap_requests.specs.Typed.{Evaluates, KeepsSome, Rests, is_typed}
 use Rattle.dap_requests.proofs.public.Saying.{runs_after, runs_weaker}
 use Rattle.dap_server.specs.Kinds.{moves}
 use Rattle.dap_threads.specs.Threads.{branch_named}
@@ -31,7 +31,7 @@ use Rattle.dap.specs.Begins.{Begins, begun}
 use Rattle.dap.specs.Goes.{Goes, GoesOn, IsSeen, IsSound, LaunchedGoes, Restarts, TellsBy, seen_as}
 use Rattle.dap.specs.Kinds.{asks, begins, changes, is_active, types}
 use Rattle.dap.specs.Sets.{Sets, SetsBegun, SetsBy}
-use Rattle.dap.specs.Steps.{Forward, IsDenied, MayRefuse, Steps, thread_of}
+use Rattle.dap.specs.Steps.{Forward, IsDenied, Steps, thread_of}
 use Rattle.dap.specs.declared.launch.Launched.{Launched}
 use Rattle.dap.proofs.Seeing.{seen_still, sight_set}
 
@@ -306,7 +306,7 @@ look_goes l request a b q still none sets tells = record {
 
 -- one that is held back
 held-goes : (l : Launched) (request : Request) (a b : Answer) → Sets request l.desk.machine.checked.main (unseen l.program) b (unseen l.program) →
-    changes request.kind ≡ true → MayRefuse l.program l.desk request → IsRefusal b.outcome → b.notes ≡ a.notes → LaunchedGoes l request a b l
+    changes request.kind ≡ true → Rests l.program → IsRefusal b.outcome → b.notes ≡ a.notes → LaunchedGoes l request a b l
 held-goes l request a b sets changing why refused same = record {
   led = led_nowhere l.desk;
   reads = λ reads. refl;
@@ -315,9 +315,9 @@ held-goes l request a b sets changing why refused same = record {
   refused = inl refl;
   looks = λ same typed. refl;
   moved = λ it. inl (refused, same, refl);
-  denied = λ it done no. why;
+  denied = λ it done no. elim why [ inl over ↦ inl over | inr waits ↦ inr (inl waits) ];
   begins = λ it. inl (refused, same, refl);
-  evaluates = λ it. (l.program.sight, λ seen. seen, inl (refl, same));
+  evaluates = λ it. (l.program.sight, λ seen. seen, inl ((refl, same), inr (inl why)));
   sets = sets;
   tells = λ reads. let no : true ≡ false = sym changing ∙ reads in absurd (cc);
   keeps = keeps_same b l.memo.seen.items;
@@ -342,7 +342,7 @@ pub early_goes : (l : Launched) (request : Request) (a b : Answer) → l.program
 early_goes l request a b waits active refused same =
     held-goes l request a b
     (active-none request.kind (is_typed request) (view request.arguments) l.desk.machine.checked.main (unseen l.program) b active)
-    (active-changes request.kind (is_typed request) active) (inr (inl waits)) refused same
+    (active-changes request.kind (is_typed request) active) (inr waits) refused same
 
 -- an expression
 pub typed_goes : (l : Launched) (request : Request) (a b : Answer) (d' : AtDesk) (memo : Memo) → asks request.kind ≡ true →

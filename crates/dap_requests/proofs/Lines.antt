@@ -1,5 +1,5 @@
 -- What typed lines do to a desk.
-use Rattle.std.proofs.Common.{◌≡◌, ◌⊎◌, ℕ, Bool, true, false, List, [], ◌∷◌, ◌++◌, None, Some, codes, inl, inr, sym, ap, subst, ◌∙◌}
+use Rattle.std.proofs.Common.{◌≡◌, ◌≢◌, ◌⊎◌, ℕ, Bool, true, false, List, [], ◌∷◌, ◌++◌, None, Some, codes, inl, inr, refl, sym, ap, subst, ◌∙◌}
 use Rattle.machine.specs.AtMachine.{AtMachine}
 use Rattle.serde_json.specs.View.{view}
 use Rattle.runs.specs.declared.event.Choice.{Choice}
@@ -7,7 +7,10 @@ use Rattle.locked_execution.specs.AtDesk.{AtDesk}
 use Rattle.locked_execution.specs.Performs.{Answers}
 use Rattle.locked_execution.specs.declared.command.Command.{Command}
 use Rattle.locked_execution.specs.declared.command.Reply.{Reply}
-use Rattle.debug_session.specs.Lines.{Asks, Says}
+use Rattle.system.specs.declared.system.System.{System}
+use Rattle.debug_session.specs.Lines.{Asks, AsksNothing, MayBeStep, Says}
+use Rattle.debug_session.specs.declared.fault.Fault.{Fault}
+use Rattle.debug_session.specs.declared.fault.Fault.TheVariants.{BadCommand, Memory}
 use Rattle.debug_session.specs.declared.line.Line.{Line}
 use Rattle.dap_messages.specs.Arguments.{number_named}
 use Rattle.dap_messages.specs.Notes.{IsDone, told_by}
@@ -16,11 +19,11 @@ use Rattle.dap_messages.specs.declared.answer.Note.{Note}
 use Rattle.dap_messages.specs.declared.request.Request.{Request}
 use Rattle.dap_messages.specs.declared.told.Stop.{Stop}
 use Rattle.dap_messages.specs.declared.told.Told.{Told}
-use Rattle.dap_threads.specs.Frames.{FindsNamed}
+use Rattle.dap_threads.specs.Frames.{FindsNamed, Misses}
 use Rattle.dap_views.specs.declared.program.Program.{Program}
 use Rattle.dap_requests.specs.Back.{Backs, Reverses}
 use Rattle.dap_requests.specs.Said.{TellsStop, TellsTexts}
-use Rattle.dap_requests.specs.Typed.{DoesNothing, Evaluates, LineDoes, TellsMove, has_moved, line_in}
+use Rattle.dap_requests.specs.Typed.{AsksNone, DoesNothing, Evaluates, IsName, LineDoes, TellsMove, frame_named, has_moved, is_asked, line_in}
 use Rattle.dap_requests.proofs.Reading.{led_still}
 use Rattle.dap_requests.proofs.public.Saying.{keeps_same}
 
@@ -59,10 +62,28 @@ asked-by d line said command is h = elim h [
   | inr empty ↦ let no : Line.Asked command ≡ Line.Empty = sym is ∙ empty.1 in absurd (cc)
 ]
 
-pub line_asks : (x : Program) (d d' : AtDesk) (k : ℕ) (a b : Answer) (line : List ℕ) (said : Line) (command : Command) → said ≡ Line.Asked command →
+pub line_asks : {P : Type 0} (x : Program) (d d' : AtDesk) (k : ℕ) (a b : Answer) (line : List ℕ) (said : Line) (command : Command) → said ≡ Line.Asked command →
     Says d.machine.checked line said → (reply : Reply) × Answers d 0 command reply d' × TellsMove (has_moved reply) a b →
-    DoesNothing d a b d' ⊎ LineDoes x d k line a b d'
+    P ⊎ LineDoes x d k line a b d'
 line_asks x d d' k a b line said command is says h = inr (inl (command, h.0, asked-by d line said command is says, h.1, h.2))
+
+-- one that says something else
+not-asked : (said : Line) → ((command : Command) → said ≡ Line.Asked command → ⊥) → is_asked said ≡ false
+not-asked (Line.Asked command) no = absurd (no command refl)
+not-asked _ no = refl
+
+pub asks_else : (system : System) (line : List ℕ) (said : Line) (b : Answer) → Says system line said →
+    ((command : Command) → said ≡ Line.Asked command → ⊥) → AsksNone system line b
+asks_else system line said b says no = inr (inl (said, says, not-asked said no))
+
+-- one that was not read asks for nothing, unless there was no memory to read it
+pub asks_unread : (system : System) (line bytes : List ℕ) (fault : Fault) (number : ℕ) (b : Answer) → bytes ≡ line →
+    ((fault ≡ Memory) × MayBeStep bytes) ⊎ ((fault ≡ BadCommand number) × (bytes ≢ []) × AsksNothing system bytes) →
+    (fault ≡ Memory → b.lacks ≡ true) → AsksNone system line b
+asks_unread system line bytes fault number b same why lacks = elim why [
+  | inl memory ↦ inr (inr (lacks memory.0, subst (λ (l : List ℕ). MayBeStep l) same memory.1))
+  | inr other ↦ inl (subst (λ (l : List ℕ). AsksNothing system l) same other.2)
+]
 
 -- a line `back`
 pub line_backs : (x : Program) (d d' : AtDesk) (k : ℕ) (a m b : Answer) (line : List ℕ) → line ≡ codes "back" → m.notes ≡ a.notes → (m.lacks ≡ false → a.lacks ≡ false) →
@@ -80,16 +101,22 @@ line_rewinds x d d' k a m b line back kept one off other same lacks done h = eli
 
 -- what the line of a request does
 pub evaluates_line : (x : Program) (request : Request) (d d' : AtDesk) (machine : AtMachine) (k call : ℕ) (line : List ℕ) (a m b : Answer) → machine ≡ d.machine →
-    FindsNamed machine x.index x.sight (number_named (codes "frameId") (view request.arguments)) (Some (k, call)) → line ≡ line_in request → m ≡ a →
-    DoesNothing d m b d' ⊎ LineDoes x d k line m b d' → Evaluates x request d a b d'
+    FindsNamed machine x.index x.sight (frame_named request) (Some (k, call)) → line ≡ line_in request → m ≡ a →
+    (DoesNothing d m b d' × (IsName x call line ⊎ AsksNone d.machine.checked line b)) ⊎ LineDoes x d k line m b d' → Evaluates x request d a b d'
 evaluates_line x request d d' machine k call line a m b own frame is same h =
-    let named = number_named (codes "frameId") (view request.arguments) in
-    let here = subst (λ (n : AtMachine). FindsNamed n x.index x.sight named (Some (k, call))) own frame in
-    let does = subst (λ (y : Answer). DoesNothing d y b d' ⊎ LineDoes x d k line y b d') same h in
+    let here = subst (λ (n : AtMachine). FindsNamed n x.index x.sight (frame_named request) (Some (k, call))) own frame in
+    let asked = subst (λ (l : List ℕ). (DoesNothing d m b d' × (IsName x call l ⊎ AsksNone d.machine.checked l b)) ⊎ LineDoes x d k l m b d') is h in
+    let does = subst (λ (y : Answer). (DoesNothing d y b d' × (IsName x call (line_in request) ⊎ AsksNone d.machine.checked (line_in request) b)) ⊎ LineDoes x d k (line_in request) y b d') same asked in
     elim does [
-      | inl none ↦ inl none
-      | inr done ↦ inr (k, (call, here), subst (λ (l : List ℕ). LineDoes x d k l a b d') is done)
+      | inl none ↦ inl (none.0, inr (inr (inr (k, call, here, none.1))))
+      | inr done ↦ inr (k, (call, here), done)
     ]
+
+-- one whose frame is not found
+pub evaluates_none : (x : Program) (request : Request) (d d' : AtDesk) (machine : AtMachine) (a b : Answer) → machine ≡ d.machine → d' ≡ d → b.notes ≡ a.notes →
+    Misses machine x.index x.sight (frame_named request) b → Evaluates x request d a b d'
+evaluates_none x request d d' machine a b own still quiet none =
+    inl ((still, quiet), inr (inr (inl (subst (λ (n : AtMachine). Misses n x.index x.sight (frame_named request) b) own none))))
 
 -- a desk that stays
 pub ruleset stays = (led_still, nothing_done, keeps_same)

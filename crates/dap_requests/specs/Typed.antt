@@ -1,5 +1,5 @@
 -- Expressions that were typed as lines.
-use Rattle.std.specs.Prelude.{◌≡◌, ◌⊎◌, ◌||◌, ◌==◌, ◌-◌, ◌++◌, ℕ, Bool, false, true, cond, List, [], ◌∷◌, Option, None, Some, nat_eq, codes, drop, length, take}
+use Rattle.std.specs.Prelude.{◌≡◌, ◌⊎◌, ◌||◌, ◌==◌, ◌-◌, ◌++◌, ℕ, Bool, false, true, cond, is_some, List, [], ◌∷◌, Option, None, Some, nat_eq, codes, drop, length, take}
 use Rattle.std.specs.Char.{is_ascii_whitespace}
 use Rattle.std.specs.Cmp.Lexicographic.{pointwise}
 use Rattle.std.specs.List.{prefix_len, suffix_len}
@@ -9,7 +9,8 @@ use Rattle.locked_execution.specs.AtDesk.{AtDesk}
 use Rattle.locked_execution.specs.Performs.{Answers}
 use Rattle.locked_execution.specs.declared.command.Command.{Command}
 use Rattle.locked_execution.specs.declared.command.Reply.{Reply}
-use Rattle.debug_session.specs.Lines.{Asks}
+use Rattle.system.specs.declared.system.System.{System}
+use Rattle.debug_session.specs.Lines.{Asks, AsksNothing, MayBeStep, Says}
 use Rattle.debug_session.specs.declared.line.Line.{Line}
 use Rattle.dap_messages.specs.Arguments.{number_named, text_named}
 use Rattle.dap_messages.specs.declared.answer.Answer.{Answer}
@@ -17,7 +18,8 @@ use Rattle.dap_messages.specs.declared.answer.Effect.{Effect}
 use Rattle.dap_messages.specs.declared.request.Request.{Request}
 use Rattle.dap_messages.specs.declared.told.Stop.{Stop}
 use Rattle.dap_messages.specs.declared.told.Told.{Told}
-use Rattle.dap_threads.specs.Frames.{HasFrame}
+use Rattle.dap_threads.specs.Frames.{FindsNamed, HasFrame, Misses}
+use Rattle.dap_views.specs.Named.{found, is_declared}
 use Rattle.dap_views.specs.declared.program.Program.{Program}
 use Rattle.dap_requests.specs.Back.{Backs, Reverses}
 use Rattle.dap_requests.specs.Said.{TellsStop, TellsTexts}
@@ -106,10 +108,44 @@ LineDoes program d k line a b d' =
 abbrev pub DoesNothing : AtDesk → Answer → Answer → AtDesk → Type 0
 DoesNothing d a b d' = (d' ≡ d) × (b.notes ≡ a.notes)
 
--- what a typed expression does: nothing; or what its line does, and the branch is that of the frame that is named
+-- nothing moves on it: it is over, or its run has not begun
+abbrev pub Rests : Program → Type 0
+Rests program = (program.ended ≡ true) ⊎ (program.begun ≡ false)
+
+-- a name that is read in this call: it means something there, or may mean more than one thing
+abbrev pub IsName : Program → ℕ → List ℕ → Type 0
+IsName program call line =
+    (is_some (found program.index call line) ≡ true) ⊎ (is_declared program.index.names.items line ≡ true)
+
+-- whether what a line says asks the desk for a command
+abbrev pub is_asked : Line → Bool
+is_asked (Line.Asked command) = true
+is_asked _ = false
+
+-- the line asks for no command, or may ask for a step and there was no memory to read it
+abbrev pub AsksNone : System → List ℕ → Answer → Type 0
+AsksNone system line b =
+    AsksNothing system line
+    ⊎ ((said : Line) × Says system line said × (is_asked said ≡ false))
+    ⊎ ((b.lacks ≡ true) × MayBeStep line)
+
+-- the number of the frame that a request names
+abbrev pub frame_named : Request → Option ℕ
+frame_named request = number_named (codes "frameId") (view request.arguments)
+
+-- why an expression does nothing: it was not typed; or nothing moves; or its frame is not found; or it is a name there,
+-- or asks for no command
+abbrev pub MayRest : Program → Request → AtDesk → Answer → Type 0
+MayRest program request d b =
+    (is_typed request ≡ false) ⊎ Rests program
+    ⊎ Misses d.machine program.index program.sight (frame_named request) b
+    ⊎ ((k : ℕ) × (call : ℕ) × FindsNamed d.machine program.index program.sight (frame_named request) (Some (k, call))
+    × (IsName program call (line_in request) ⊎ AsksNone d.machine.checked (line_in request) b))
+
+-- what an expression does: nothing, for one of these reasons; or what its line does, and the branch is that of the frame
+-- that is named
 abbrev pub Evaluates : Program → Request → AtDesk → Answer → Answer → AtDesk → Type 0
 Evaluates program request d a b d' =
-    DoesNothing d a b d'
-    ⊎ ((k : ℕ)
-    × HasFrame d.machine program.index program.sight (number_named (codes "frameId") (view request.arguments)) k
+    (DoesNothing d a b d' × MayRest program request d b)
+    ⊎ ((k : ℕ) × HasFrame d.machine program.index program.sight (frame_named request) k
     × LineDoes program d k (line_in request) a b d')

@@ -3,11 +3,12 @@ ghost use Rattle.std.specs.Prelude.{◌≡◌, ◌⊎◌, ◌↔◌, IsTrue, cod
 ghost use Rattle.locked_execution.specs.Performs.{Answers};
 ghost use Rattle.locked_execution.specs.declared.command.Reply.{Reply as Replied};
 ghost use Rattle.debug_session.specs.Lines.{Says};
+ghost use Rattle.debug_session.specs.declared.fault.Fault.{Fault as Failed};
 ghost use Rattle.dap_messages.specs.Notes.{IsDone};
 ghost use Rattle.dap_moves.specs.Led.{Led};
 ghost use Rattle.dap_requests.specs.Reading.{reads};
 ghost use Rattle.dap_requests.specs.Said.{TellsTexts};
-ghost use Rattle.dap_requests.specs.Typed.{DoesNothing, Evaluates, KeepsSome, LineDoes, TellsMove, has_moved, is_typed};
+ghost use Rattle.dap_requests.specs.Typed.{AsksNone, DoesNothing, Evaluates, IsName, KeepsSome, LineDoes, TellsMove, has_moved, is_typed};
 
 use crate::entered::{has_mark, is_typed, line_in};
 use crate::hints::add_in_place;
@@ -109,7 +110,8 @@ fn typed(
 )
     ensures led { Led desk.old desk.new }
     ensures system { desk.new.machine.checked ≡ desk.old.machine.checked }
-    ensures does { DoesNothing desk.old answer.old answer.new desk.new
+    ensures does { (DoesNothing desk.old answer.old answer.new desk.new
+        × (IsName program.now instance line.now ⊎ AsksNone desk.old.machine.checked line.now answer.new))
         ⊎ LineDoes program.now desk.old branch line.now answer.old answer.new desk.new }
     ensures refused { (desk.new ≡ desk.old) ⊎ (IsDone answer.old.outcome → IsDone answer.new.outcome) }
     ensures keeps { KeepsSome answer.new memo.old.seen.items memo.new.seen.items }
@@ -144,7 +146,8 @@ fn typed_word(
 )
     ensures led { Led desk.old desk.new }
     ensures system { desk.new.machine.checked ≡ desk.old.machine.checked }
-    ensures does { DoesNothing desk.old answer.old answer.new desk.new
+    ensures does { (DoesNothing desk.old answer.old answer.new desk.new
+        × AsksNone desk.old.machine.checked line.now answer.new)
         ⊎ LineDoes program.now desk.old branch line.now answer.old answer.new desk.new }
     ensures refused { (desk.new ≡ desk.old) ⊎ (IsDone answer.old.outcome → IsDone answer.new.outcome) }
     ensures keeps { KeepsSome answer.new memo.old.seen.items memo.new.seen.items }
@@ -170,7 +173,8 @@ fn typed_name(
 )
     ensures led { Led desk.old desk.new }
     ensures system { desk.new.machine.checked ≡ desk.old.machine.checked }
-    ensures does { DoesNothing desk.old answer.old answer.new desk.new
+    ensures does { (DoesNothing desk.old answer.old answer.new desk.new
+        × (IsName program.now instance line.now ⊎ AsksNone desk.old.machine.checked line.now answer.new))
         ⊎ LineDoes program.now desk.old branch line.now answer.old answer.new desk.new }
     ensures refused { (desk.new ≡ desk.old) ⊎ (IsDone answer.old.outcome → IsDone answer.new.outcome) }
     ensures keeps { KeepsSome answer.new memo.old.seen.items memo.new.seen.items }
@@ -196,6 +200,7 @@ fn looked_at(
     match program.index.find(instance, line) {
         Some(thing) => told(alloc, desk.machine(), program, thing, answer),
         None if program.index.is_declared(line) => tell_several(alloc, program, line, answer),
+        None if is_own(line) => only_typed(alloc, line, answer),
         None => looked_at_line(alloc, desk, program, line, answer),
     }
 }
@@ -343,7 +348,8 @@ fn typed_line(
 )
     ensures led { Led desk.old desk.new }
     ensures system { desk.new.machine.checked ≡ desk.old.machine.checked }
-    ensures does { DoesNothing desk.old answer.old answer.new desk.new
+    ensures does { (DoesNothing desk.old answer.old answer.new desk.new
+        × AsksNone desk.old.machine.checked line.now answer.new)
         ⊎ LineDoes program.now desk.old branch line.now answer.old answer.new desk.new }
     ensures refused { (desk.new ≡ desk.old) ⊎ (IsDone answer.old.outcome → IsDone answer.new.outcome) }
     ensures keeps { KeepsSome answer.new memo.old.seen.items memo.new.seen.items }
@@ -369,7 +375,8 @@ fn typed_said(
     requires { Says desk.old.machine.checked line.now said.now }
     ensures led { Led desk.old desk.new }
     ensures system { desk.new.machine.checked ≡ desk.old.machine.checked }
-    ensures does { DoesNothing desk.old answer.old answer.new desk.new
+    ensures does { (DoesNothing desk.old answer.old answer.new desk.new
+        × AsksNone desk.old.machine.checked line.now answer.new)
         ⊎ LineDoes program.now desk.old branch line.now answer.old answer.new desk.new }
     ensures refused { (desk.new ≡ desk.old) ⊎ (IsDone answer.old.outcome → IsDone answer.new.outcome) }
     ensures keeps { KeepsSome answer.new memo.old.seen.items memo.new.seen.items }
@@ -415,7 +422,8 @@ fn looked_at_said(
 
 /// Answers a line that says nothing, or that there was no memory to read.
 fn unread(alloc: Global, fault: Fault, line: &str, answer: &mut Answer)
-    ensures { answer.new.notes ≡ answer.old.notes }
+    ensures quiet { answer.new.notes ≡ answer.old.notes }
+    ensures memory { fault ≡ Failed.Memory → answer.new.lacks ≡ true }
 {
     match fault {
         Fault::Memory => answer.lacks = true,

@@ -42,6 +42,11 @@ agreed found (n ∷ ns) name =
 abbrev pub meant : List Named → ℕ → List ℕ → Option Thing
 meant names call name = option_or (declared names call name) (agreed None names name)
 
+-- whether something has the name, wherever it is declared
+abbrev pub is_declared : List Named → List ℕ → Bool
+is_declared [] name = false
+is_declared (n ∷ ns) name = has_name name n || is_declared ns name
+
 -- whether a `:` is among these bytes
 abbrev pub has_colon : List ℕ → Bool
 has_colon [] = false

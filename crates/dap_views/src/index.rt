@@ -205,7 +205,9 @@ impl Index {
     }
 
     /// Whether something has the name, wherever it is declared.
-    pub fn is_declared(&self, own: &str) -> bool {
+    pub fn is_declared(&self, own: &str) -> bool
+        ensures { result ≡ model.is_declared self.now.names.items own.now }
+    {
         for named in &self.names {
             if has_name(named, own) {
                 return true;
