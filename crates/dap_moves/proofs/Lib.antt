@@ -2,7 +2,6 @@ pub mod public
 mod Backward
 mod Counting
 mod GoingOut
-mod Listing
 mod Nearest
 mod Passing
 mod Returning

@@ -1,6 +1,5 @@
 -- The lines on which a command stands that can be an action of an event.
-use Rattle.std.specs.Prelude.{ℕ, ◌==◌, ◌||◌, ◌≡◌, ◌≤◌, ◌<◌, ◌↔◌, Bool, true, false, List, Option, None, Some}
-use Rattle.syntax.specs.Lists.{In}
+use Rattle.std.specs.Prelude.{ℕ, ◌==◌, ◌||◌, ◌≡◌, ◌≤◌, ◌<◌, Bool, true, false, Option, None, Some}
 use Rattle.system.specs.declared.command.Command.{Command}
 use Rattle.system.specs.declared.command.Action.TheOpen.{Action-F, Arm-F, Command-F, Guarded-F, Labelled-F}
 use Rattle.system.specs.declared.command.Action.TheFolds.{fold-Command}
@@ -50,7 +49,3 @@ NoneStops c low high = (line : ℕ) → low ≤ line → line < high → stops l
 abbrev pub FirstStop : Command → ℕ → ℕ → Option ℕ → Type 0
 FirstStop c from below None = NoneStops c from below
 FirstStop c from below (Some line) = (from ≤ line) × (line < below) × (stops line c ≡ true) × NoneStops c from line
-
--- exactly the lines that stop, of those from `from` on and before `below`
-abbrev pub ListsStops : Command → ℕ → ℕ → List ℕ → Type 0
-ListsStops c from below lines = (line : ℕ) → In line lines ↔ ((from ≤ line) × (line < below) × (stops line c ≡ true))

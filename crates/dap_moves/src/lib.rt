@@ -22,7 +22,7 @@ pub use locked_execution::{Command, Desk, Machine, Reply};
 pub use parts::{acts_in, newest_below, takes_part};
 pub use run::{Ended, Plan, go_on};
 pub use seen::{Watched, has_choice, is_watched, see};
-pub use stops::{first_stop, stop_lines};
+pub use stops::first_stop;
 pub use taken_back::{Marks, Rewound, rewind, rewind_branch};
 
 /// The session in which an adapter steps. It never sets a breakpoint there; lines that are typed are of session 0.

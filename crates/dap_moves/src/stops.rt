@@ -1,11 +1,10 @@
 // The lines on which a command stands that can be an action of an event.
-ghost use Rattle.std.specs.Prelude.{◌≡◌, ◌≤◌, ◌+◌, ℕ, false, map, IfOk, OnOk};
+ghost use Rattle.std.specs.Prelude.{◌≡◌, false, map};
 ghost use Rattle.std.specs.Option.{option_map};
 ghost use Rattle.system_places.specs.LinesBegun.{any_onto, last_of};
 ghost use Rattle.dap_moves.specs.Stops as model;
 ghost use Rattle.dap_moves.specs.internal.StopParts as parts;
 
-use std::alloc::{AllocError, Global};
 use system::{Action, Arm, Command, Guarded, Labelled, System};
 
 /// The first such line, of those from `from` on and before `below`.
@@ -18,36 +17,6 @@ pub fn first_stop(system: &System, from: u64, below: u64) -> Option<u64>
         }
     }
     None
-}
-
-/// All such lines from `from` on and before `below`, ascending. It is an error if there is no memory.
-#[tactic(auto, using(crate::proofs::Listing::lists_none))]
-pub fn stop_lines(
-    alloc: Global,
-    system: &System,
-    from: u64,
-    below: u64,
-) -> Result<Vec<u64>, AllocError>
-    ensures { IfOk result (λ lines. from ≤ below → model.ListsStops system.now.main from below lines.items) }
-{
-    let mut lines = Vec::new(alloc);
-    for line in from..below {
-        add_stop(system, line, &mut lines)?;
-    }
-    Ok(lines)
-}
-
-/// Adds the line behind these, where it is such a line.
-#[tactic(auto, using(crate::proofs::Listing::lists_passed, crate::proofs::Listing::lists_pushed))]
-fn add_stop(system: &System, line: u64, lines: &mut Vec<u64>) -> Result<(), AllocError>
-    ensures { OnOk result ((from : ℕ) → from ≤ line → model.ListsStops system.now.main from line lines.old.items
-        → model.ListsStops system.now.main from (line + 1) lines.new.items) }
-{
-    if !stops(&system.main, line) {
-        return Ok(());
-    }
-    lines.push(line)?;
-    Ok(())
 }
 
 /// Whether a command that has the line, or one within it, can be an action of an event.

@@ -36,11 +36,6 @@ impl Lines {
         })
     }
 
-    /// How many lines there are.
-    pub fn count(&self) -> u64 {
-        self.begins.len() as u64
-    }
-
     /// The column of the first byte of the line that is not blank, from 1.
     pub fn column(&self, source: &[u8], line: u64) -> u64 {
         let mut column = 1u64;
