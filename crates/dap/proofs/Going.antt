@@ -79,6 +79,7 @@ moves-none Kind.SetDataBreakpoints d c p b is = absurd (cc)
 moves-none Kind.SetExceptionBreakpoints d c p b is = absurd (cc)
 moves-none Kind.Terminate d c p b is = absurd (cc)
 moves-none Kind.ConfigurationDone d c p b is = absurd (cc)
+moves-none Kind.BreakpointLocations d c p b is = absurd (cc)
 moves-none _ d c p b is = refl
 
 sets-moving : (request : Request) (c : Command) (p : Program) (b : Answer) → moves request.kind ≡ true → Sets request c p b p
@@ -91,6 +92,7 @@ typed-none Kind.SetDataBreakpoints d c p b is other = absurd (cc)
 typed-none Kind.SetExceptionBreakpoints d c p b is other = absurd (cc)
 typed-none Kind.Terminate d c p b is other = absurd (cc)
 typed-none Kind.ConfigurationDone d c p b is other = absurd (other refl)
+typed-none Kind.BreakpointLocations d c p b is other = absurd (cc)
 typed-none _ d c p b is other = refl
 
 -- nor what would move something
@@ -100,6 +102,7 @@ active-none Kind.SetDataBreakpoints typed d c p b is = absurd (cc)
 active-none Kind.SetExceptionBreakpoints typed d c p b is = absurd (cc)
 active-none Kind.Terminate typed d c p b is = absurd (cc)
 active-none Kind.ConfigurationDone typed d c p b is = absurd (cc)
+active-none Kind.BreakpointLocations typed d c p b is = absurd (cc)
 active-none _ typed d c p b is = refl
 
 active-changes : (kind : Kind) (typed : Bool) → (moves kind || types kind typed) ≡ true → changes kind ≡ true
@@ -125,18 +128,21 @@ begun_debugged p free = ap (λ (f : Bool). record p { begun = true; ended = f ||
 
 -- what only shows sets nothing
 shows-none : (kind : Kind) (d : Data) (c : Command) (p : Program) (b : Answer) → asks kind ≡ false → (kind ≡ Kind.SetBreakpoints → ⊥) →
-    (kind ≡ Kind.SetDataBreakpoints → ⊥) → (kind ≡ Kind.SetExceptionBreakpoints → ⊥) → (kind ≡ Kind.Terminate → ⊥) → SetsBy kind d c p b p
-shows-none Kind.SetBreakpoints d c p b none one two three four = absurd (one refl)
-shows-none Kind.SetDataBreakpoints d c p b none one two three four = absurd (two refl)
-shows-none Kind.SetExceptionBreakpoints d c p b none one two three four = absurd (three refl)
-shows-none Kind.Terminate d c p b none one two three four = absurd (four refl)
-shows-none Kind.ConfigurationDone d c p b none one two three four = absurd (cc)
-shows-none _ d c p b none one two three four = refl
+    (kind ≡ Kind.SetDataBreakpoints → ⊥) → (kind ≡ Kind.SetExceptionBreakpoints → ⊥) → (kind ≡ Kind.Terminate → ⊥) →
+    (kind ≡ Kind.BreakpointLocations → ⊥) → SetsBy kind d c p b p
+shows-none Kind.SetBreakpoints d c p b none one two three four five = absurd (one refl)
+shows-none Kind.SetDataBreakpoints d c p b none one two three four five = absurd (two refl)
+shows-none Kind.SetExceptionBreakpoints d c p b none one two three four five = absurd (three refl)
+shows-none Kind.Terminate d c p b none one two three four five = absurd (four refl)
+shows-none Kind.ConfigurationDone d c p b none one two three four five = absurd (cc)
+shows-none Kind.BreakpointLocations d c p b none one two three four five = absurd (five refl)
+shows-none _ d c p b none one two three four five = refl
 
 pub sets_none : (request : Request) (c : Command) (p : Program) (b : Answer) → asks request.kind ≡ false → (request.kind ≡ Kind.SetBreakpoints → ⊥) →
     (request.kind ≡ Kind.SetDataBreakpoints → ⊥) → (request.kind ≡ Kind.SetExceptionBreakpoints → ⊥) → (request.kind ≡ Kind.Terminate → ⊥) →
-    Sets request c p b p
-sets_none request c p b none one two three four = shows-none request.kind (view request.arguments) c p b none one two three four
+    (request.kind ≡ Kind.BreakpointLocations → ⊥) → Sets request c p b p
+sets_none request c p b none one two three four five =
+    shows-none request.kind (view request.arguments) c p b none one two three four five
 
 -- a request of a known kind sets what that does
 pub sets_as : (request : Request) (known : Kind) (c : Command) (p q : Program) (b : Answer) → request.kind ≡ known →
@@ -231,6 +237,7 @@ by-unseen Kind.ConfigurationDone d c p q b h = elim h [
   | inl begins ↦ inl (begins.0, begins.1, ap unseen begins.2)
   | inr refused ↦ inr (refused.0, refused.1, ap unseen refused.2)
 ]
+by-unseen Kind.BreakpointLocations d c p q b h = (ap unseen h.0, h.1)
 by-unseen _ d c p q b h = ap unseen h
 
 sets-unseen : (request : Request) (c : Command) (p q : Program) (b : Answer) → Sets request c p b q → Sets request c (unseen p) b (unseen q)

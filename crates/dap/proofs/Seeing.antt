@@ -41,6 +41,7 @@ by-sight Kind.ConfigurationDone d c p q b h = elim h [
   | inl begins ↦ ap (λ (x : Program). x.sight) begins.2
   | inr refused ↦ ap (λ (x : Program). x.sight) refused.2
 ]
+by-sight Kind.BreakpointLocations d c p q b h = ap (λ (x : Program). x.sight) h.0
 by-sight _ d c p q b h = ap (λ (x : Program). x.sight) h
 
 pub sight_set : (request : Request) (c : Command) (p q : Program) (b : Answer) → Sets request c p b q → q.sight ≡ p.sight

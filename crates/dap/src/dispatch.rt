@@ -3,6 +3,7 @@ ghost use Rattle.std.specs.Prelude.{◌≡◌, ◌&&◌, ◌||◌, true, false, 
 ghost use Rattle.serde_json.specs.View.{view};
 ghost use Rattle.dap_messages.specs.Notes.{Adds, IsRefusal};
 ghost use Rattle.dap_messages.specs.declared.told.Told.{Told as Tells};
+ghost use Rattle.dap_requests.specs.Locations.{Locates};
 ghost use Rattle.dap_requests.specs.Sets.{SetsExcepts, SetsWatched};
 ghost use Rattle.dap_server.specs.Kinds.{moves};
 ghost use Rattle.dap_views.specs.Kept.{unseen};
@@ -251,6 +252,7 @@ fn look(
         Kind::SetDataBreakpoints => watch(alloc, program, request, answer),
         Kind::SetExceptionBreakpoints => filter(alloc, program, request, answer),
         Kind::Terminate => terminate(program, answer),
+        Kind::BreakpointLocations => locate(alloc, machine, program, request, answer),
         _ => show(alloc, machine, program, memo, request, answer),
     }
 }
@@ -272,6 +274,22 @@ fn filter(alloc: Global, program: &mut Program, request: &Request, answer: &mut 
 {
     let notes = mem::replace(&mut answer.notes, Vec::new(alloc));
     set_exceptions(program, request, answer);
+    answer.notes = notes;
+}
+
+/// Answers `breakpointLocations`, and tells no event.
+fn locate(
+    alloc: Global,
+    machine: &Machine,
+    program: &Program,
+    request: &Request,
+    answer: &mut Answer,
+)
+    ensures located { Locates machine.now.checked.main (view request.now.arguments) program.now answer.new }
+    ensures quiet { answer.new.notes ≡ answer.old.notes }
+{
+    let notes = mem::replace(&mut answer.notes, Vec::new(alloc));
+    locations(alloc, machine, program, request, answer);
     answer.notes = notes;
 }
 
@@ -307,7 +325,6 @@ fn tell(
         Kind::Variables => variables(alloc, machine, program, request, answer),
         Kind::StepInTargets => targets(alloc, machine, program, request, answer),
         Kind::DataBreakpointInfo => data_info(alloc, machine, program, request, answer),
-        Kind::BreakpointLocations => locations(alloc, machine, program, request, answer),
         _ => tell_other(alloc, program, memo, request, answer),
     }
 }

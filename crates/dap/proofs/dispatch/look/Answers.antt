@@ -46,10 +46,21 @@ returns-in-Terminate-clause-tells c =
     tells_as c.args.request.now.kind Kind.Terminate c.args.answer.now c.terminate.new.answer c.in-Terminate.is
     (tells_one c.args.answer.now c.terminate.new.answer Told.Terminated None c.terminate.ensures.tells)
 
+pub returns-in-BreakpointLocations-clause-sets : goal.returns-in-BreakpointLocations-clause-sets
+returns-in-BreakpointLocations-clause-sets c =
+    sets_as c.args.request.now Kind.BreakpointLocations c.args.machine.now.checked.main c.args.program.now c.args.program.now
+    c.locate.new.answer c.in-BreakpointLocations.is (refl, c.locate.ensures.located)
+
+pub returns-in-BreakpointLocations-clause-tells : goal.returns-in-BreakpointLocations-clause-tells
+returns-in-BreakpointLocations-clause-tells c =
+    tells_as c.args.request.now.kind Kind.BreakpointLocations c.args.answer.now c.locate.new.answer c.in-BreakpointLocations.is
+    c.locate.ensures.quiet
+
 pub returns-in_default-clause-sets : goal.returns-in_default-clause-sets
 returns-in_default-clause-sets c =
     sets_none c.args.request.now c.args.machine.now.checked.main c.args.program.now c.show.new.answer c.requires c.in_default.not-SetBreakpoints
     c.in_default.not-SetDataBreakpoints c.in_default.not-SetExceptionBreakpoints c.in_default.not-Terminate
+    c.in_default.not-BreakpointLocations
 
 pub returns-in_default-clause-tells : goal.returns-in_default-clause-tells
 returns-in_default-clause-tells c =
