@@ -1,6 +1,5 @@
 -- What comes before a launch.
 use Rattle.std.proofs.Common.{ℕ, ◌≡◌, ◌∙◌, List, Bool, true, false, Option, None, Some, inl, inr, refl, sym, ap, subst}
-use Rattle.std.specs.Prelude.{unwrap_or}
 use Rattle.serde_json.specs.Data.{Data}
 use Rattle.serde_json.specs.View.{view}
 use Rattle.dap_messages.specs.Notes.{IsDone, IsRefusal}
@@ -8,7 +7,6 @@ use Rattle.dap_messages.specs.declared.answer.Answer.{Answer}
 use Rattle.dap_messages.specs.declared.kind.Kind.{Kind}
 use Rattle.dap_messages.specs.declared.request.Request.{Request}
 use Rattle.dap_messages.specs.declared.told.Told.{Told}
-use Rattle.dap_requests.specs.Sets.{filters_refused}
 use Rattle.dap_server.specs.Kinds.{moves}
 use Rattle.dap_views.specs.declared.program.Counting.{Counting}
 use Rattle.dap.specs.Anew.{excepting}

@@ -1,4 +1,4 @@
-use Rattle.std.proofs.Common.{Some, ap, refl, sym, ◌∙◌, true, false}
+use Rattle.std.proofs.Common.{Some, ap, sym, ◌∙◌, true, false}
 use Rattle.serde_json.specs.View.{view}
 use Rattle.dap_views.specs.declared.program.Counting.{Counting}
 use Rattle.dap.specs.Meeting.{names_paths}
