@@ -17,7 +17,3 @@ SameButWatched p q = q ≡ record p { watched = q.watched }
 -- the same, but for whether refusals stop as exceptions
 abbrev pub SameButExcepts : Program → Program → Type 0
 SameButExcepts p q = q ≡ record p { excepts = q.excepts }
-
--- the same, but that it has begun, and that it is over
-abbrev pub SameButBegun : Program → Program → Type 0
-SameButBegun p q = q ≡ record p { begun = q.begun; ended = q.ended }

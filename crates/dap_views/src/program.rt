@@ -53,7 +53,7 @@ pub struct Refused {
 /// What is kept in mind of moves.
 #[derive(Drop)]
 pub struct Memo {
-    /// the step before which a run has stopped at a line, if it is not taken yet
+    /// the steps before which a run has stopped at a line, until one is taken or taken back
     pub seen: Vec<Choice>,
     /// the last refusal of a step
     pub refused: Option<Refused>,
