@@ -28,7 +28,7 @@ use Rattle.dap_views.specs.declared.program.Memo.{Memo}
 use Rattle.dap_views.specs.declared.program.Program.{Program}
 use Rattle.dap_views.specs.declared.sight.Sight.{Sight}
 use Rattle.dap.specs.Begins.{Begins, begun}
-use Rattle.dap.specs.Goes.{Goes, GoesOn, IsSeen, IsSound, LaunchedGoes, Restarts, TellsBy, seen_as}
+use Rattle.dap.specs.Goes.{Goes, GoesOn, HasBegun, IsSeen, IsSound, LaunchedGoes, Restarts, TellsBy, seen_as}
 use Rattle.dap.specs.Kinds.{asks, begins, changes, is_active, types}
 use Rattle.dap.specs.Sets.{Sets, SetsBegun, SetsBy}
 use Rattle.dap.specs.Steps.{Forward, IsDenied, Steps, thread_of}
@@ -313,8 +313,9 @@ look_goes l request a b q still none sets tells = record {
 
 -- one that is held back
 held-goes : (l : Launched) (request : Request) (a b : Answer) → Sets request l.desk.machine.checked.main (unseen l.program) b (unseen l.program) →
-    changes request.kind ≡ true → Rests l.program → IsRefusal b.outcome → b.notes ≡ a.notes → LaunchedGoes l request a b l
-held-goes l request a b sets changing why refused same = record {
+    changes request.kind ≡ true → Rests l.program → (request.kind ≡ Kind.ConfigurationDone → l.program.ended ≡ true) → IsRefusal b.outcome → b.notes ≡ a.notes →
+    LaunchedGoes l request a b l
+held-goes l request a b sets changing why over refused same = record {
   led = led_nowhere l.desk;
   reads = λ reads. refl;
   stays = λ ended. refl;
@@ -323,7 +324,7 @@ held-goes l request a b sets changing why refused same = record {
   looks = λ same typed. refl;
   moved = λ it. inl (refused, same, refl);
   denied = λ it done no. elim why [ inl over ↦ inl over | inr waits ↦ inr (inl waits) ];
-  begins = λ it. inl (refused, same, refl);
+  begins = λ it. inl (refused, same, refl, inr (over it));
   evaluates = λ it. (l.program.sight, λ seen. seen, inl ((refl, same), inr (inl why)));
   sets = sets;
   tells = λ reads. let no : true ≡ false = sym changing ∙ reads in absurd (cc);
@@ -337,10 +338,10 @@ pub over_goes : (l : Launched) (request : Request) (a b : Answer) → l.program.
 over_goes l request a b ended is refused same = elim is [
   | inl active ↦ held-goes l request a b
       (active-none request.kind (is_typed request) (view request.arguments) l.desk.machine.checked.main (unseen l.program) b active)
-      (active-changes request.kind (is_typed request) active) (inl ended) refused same
+      (active-changes request.kind (is_typed request) active) (inl ended) (λ it. ended) refused same
   | inr first ↦ held-goes l request a b
       (first-none request.kind (view request.arguments) l.desk.machine.checked.main (unseen l.program) b first ended refused)
-      (first-changes request.kind first) (inl ended) refused same
+      (first-changes request.kind first) (inl ended) (λ it. ended) refused same
 ]
 
 -- since it has not begun
@@ -349,7 +350,8 @@ pub early_goes : (l : Launched) (request : Request) (a b : Answer) → l.program
 early_goes l request a b waits active refused same =
     held-goes l request a b
     (active-none request.kind (is_typed request) (view request.arguments) l.desk.machine.checked.main (unseen l.program) b active)
-    (active-changes request.kind (is_typed request) active) (inr waits) refused same
+    (active-changes request.kind (is_typed request) active) (inr waits)
+    (λ it. let no : true ≡ false = sym active ∙ ap (λ (k : Kind). moves k || types k (is_typed request)) it in absurd (cc)) refused same
 
 -- an expression
 pub typed_goes : (l : Launched) (request : Request) (a b : Answer) (d' : AtDesk) (memo : Memo) → asks request.kind ≡ true →
@@ -385,9 +387,9 @@ BeginsOrNot l m a b =
     ⊎ (Begins l m a b × (l.program.begun ≡ false) × (m.program ≡ begun l.program))
 
 begun-refused : (l m : Launched) (a b : Answer) → BeginsOrNot l m a b →
-    (IsRefusal b.outcome × (b.notes ≡ a.notes) × (m.desk ≡ l.desk)) ⊎ Begins l m a b
+    (IsRefusal b.outcome × (b.notes ≡ a.notes) × (m.desk ≡ l.desk) × HasBegun l.program) ⊎ Begins l m a b
 begun-refused l m a b h = elim h [
-  | inl refused ↦ inl (refused.0, refused.1, ap (λ (x : Launched). x.desk) refused.2)
+  | inl refused ↦ inl (refused.0, refused.1, ap (λ (x : Launched). x.desk) refused.2, inl refused.3)
   | inr begins ↦ inr begins.0
 ]
 

@@ -13,8 +13,9 @@ use Rattle.dap.specs.declared.launch.Launched.{Launched}
 -- program is set. `before` are the steps before which a run has stood, and `after` those that are kept in mind
 abbrev pub Starts : Program → List Choice → List Choice → AtDesk → Stop → AtDesk → Type 0
 Starts program before after d stop d' =
-    ((program.launch.stops ≡ true) × (stop ≡ Stop.Entry) × (d' ≡ d))
-    ⊎ ((program.launch.stops ≡ false) × RunsBy (going_of program None) None d before stop d' after)
+    (program.launch.free ≡ false)
+    × (((program.launch.stops ≡ true) × (stop ≡ Stop.Entry) × (d' ≡ d) × (after ≡ before))
+    ⊎ ((program.launch.stops ≡ false) × RunsBy (going_of program None) None d before stop d' after))
 
 -- one `stopped` is told, behind texts, which tells how it has started; or where nobody debugs it, it runs until it
 -- ends, and that is told

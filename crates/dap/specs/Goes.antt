@@ -15,6 +15,7 @@ use Rattle.dap_server.specs.Kinds.{moves}
 use Rattle.dap_views.specs.Kept.{unseen}
 use Rattle.dap_views.specs.Seen.{Sees}
 use Rattle.dap_views.specs.declared.program.Counting.{Counting}
+use Rattle.dap_views.specs.declared.program.Program.{Program}
 use Rattle.dap_views.specs.declared.sight.Sight.{Sight}
 use Rattle.dap.specs.Anew.{GoesAnew, IsMeant, brought}
 use Rattle.dap.specs.Asking.{Asks, IsAsked, asked_by}
@@ -45,6 +46,10 @@ TellsBy Kind.Terminate a b = Tells a (Told.Terminated ∷ []) b
 TellsBy Kind.SetBreakpoints a b = Unit {0}
 TellsBy _ a b = b.notes ≡ a.notes
 
+-- its run has begun, or it is over
+abbrev pub HasBegun : Program → Type 0
+HasBegun program = (program.begun ≡ true) ⊎ (program.ended ≡ true)
+
 -- what a request that is answered so, from a to b, does to what is launched: the desk is what some commands of sessions
 -- leave, and the same where the request only reads, where it is refused, where words are only looked at, where the run
 -- has not begun, or where the client was told that it is over; a request to run moves it as it should, or is refused
@@ -62,7 +67,7 @@ pub record LaunchedGoes (l : Launched) (request : Request) (a b : Answer) (m : L
       (λ stop. Steps l.program l.memo.seen.items m.memo.seen.items l.desk request.kind request stop m.desk)
   pub denied : moves request.kind ≡ true → IsDone a.outcome → IsRefusal b.outcome → MayRefuse l.program l.desk request
   pub begins : request.kind ≡ Kind.ConfigurationDone →
-      (IsRefusal b.outcome × (b.notes ≡ a.notes) × (m.desk ≡ l.desk)) ⊎ Begins l m a b
+      (IsRefusal b.outcome × (b.notes ≡ a.notes) × (m.desk ≡ l.desk) × HasBegun l.program) ⊎ Begins l m a b
   pub evaluates : request.kind ≡ Kind.Evaluate →
       (sight : Option Sight) × (IsSeen l → IsSeen (seen_as l sight))
       × Evaluates (seen_as l sight).program request l.desk a b m.desk

@@ -64,6 +64,7 @@ fn begin_stopping(
     memo: &mut Memo,
     answer: &mut Answer,
 )
+    requires { program.now.launch.free ≡ false }
     ensures led { Led desk.old desk.new }
     ensures begins { (stop : Stopped) × TellsStop answer.old stop answer.new
         × Starts program.now memo.old.seen.items memo.new.seen.items desk.old stop desk.new }

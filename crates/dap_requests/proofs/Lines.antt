@@ -23,7 +23,7 @@ use Rattle.dap_threads.specs.Frames.{FindsNamed, Misses}
 use Rattle.dap_views.specs.declared.program.Program.{Program}
 use Rattle.dap_requests.specs.Back.{Backs, Reverses}
 use Rattle.dap_requests.specs.Said.{TellsStop, TellsTexts}
-use Rattle.dap_requests.specs.Typed.{AsksNone, DoesNothing, Evaluates, IsName, LineDoes, TellsMove, frame_named, has_moved, is_asked, line_in}
+use Rattle.dap_requests.specs.Typed.{AsksNone, DoesNothing, Evaluates, IsName, LineDoes, TellsMove, frame_named, has_moved, line_in}
 use Rattle.dap_requests.proofs.Reading.{led_still}
 use Rattle.dap_requests.proofs.public.Saying.{keeps_same}
 
@@ -67,22 +67,13 @@ pub line_asks : {P : Type 0} (x : Program) (d d' : AtDesk) (k : ℕ) (a b : Answ
     P ⊎ LineDoes x d k line a b d'
 line_asks x d d' k a b line said command is says h = inr (inl (command, h.0, asked-by d line said command is says, h.1, h.2))
 
--- one that says something else
-not-asked : (said : Line) → ((command : Command) → said ≡ Line.Asked command → ⊥) → is_asked said ≡ false
-not-asked (Line.Asked command) no = absurd (no command refl)
-not-asked _ no = refl
-
-pub asks_else : (system : System) (line : List ℕ) (said : Line) (b : Answer) → Says system line said →
-    ((command : Command) → said ≡ Line.Asked command → ⊥) → AsksNone system line b
-asks_else system line said b says no = inr (inl (said, says, not-asked said no))
-
 -- one that was not read asks for nothing, unless there was no memory to read it
-pub asks_unread : (system : System) (line bytes : List ℕ) (fault : Fault) (number : ℕ) (b : Answer) → bytes ≡ line →
-    ((fault ≡ Memory) × MayBeStep bytes) ⊎ ((fault ≡ BadCommand number) × (bytes ≢ []) × AsksNothing system bytes) →
+pub asks_unread : (system known : System) (line bytes : List ℕ) (fault : Fault) (number : ℕ) (b : Answer) → known ≡ system → bytes ≡ line →
+    ((fault ≡ Memory) × MayBeStep bytes) ⊎ ((fault ≡ BadCommand number) × (bytes ≢ []) × AsksNothing known bytes) →
     (fault ≡ Memory → b.lacks ≡ true) → AsksNone system line b
-asks_unread system line bytes fault number b same why lacks = elim why [
+asks_unread system known line bytes fault number b own same why lacks = elim why [
   | inl memory ↦ inr (inr (lacks memory.0, subst (λ (l : List ℕ). MayBeStep l) same memory.1))
-  | inr other ↦ inl (subst (λ (l : List ℕ). AsksNothing system l) same other.2)
+  | inr other ↦ inl (subst (λ (s : System). AsksNothing s line) own (subst (λ (l : List ℕ). AsksNothing known l) same other.2))
 ]
 
 -- a line `back`

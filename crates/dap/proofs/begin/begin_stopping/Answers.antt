@@ -5,10 +5,10 @@ use Rattle.dap_requests.proofs.public.Keeping.{keeps_run}
 use Rattle.dap.proofs.begin.begin_stopping.Goals as goal
 
 pub returns-then-program-clause-begins : goal.returns-then-program-clause-begins
-returns-then-program-clause-begins c = (Stop.Entry, c.stop.ensures, inl (c.if-program.true, refl, refl))
+returns-then-program-clause-begins c = (Stop.Entry, c.stop.ensures, (c.requires, inl (c.if-program.true, refl, refl, refl)))
 
 pub returns-else-program-clause-begins : goal.returns-else-program-clause-begins
-returns-else-program-clause-begins c = (c.run.ensures.goes.0, c.run.ensures.goes.1, inr (c.if-program.false, c.run.ensures.goes.2))
+returns-else-program-clause-begins c = (c.run.ensures.goes.0, c.run.ensures.goes.1, (c.requires, inr (c.if-program.false, c.run.ensures.goes.2)))
 
 pub returns-else-program-clause-keeps : goal.returns-else-program-clause-keeps
 returns-else-program-clause-keeps c =
