@@ -37,7 +37,8 @@ pub static NOTHING_LAUNCHED: Page = Page {
     name: "nothing is launched",
     meaning: "\
 The request asks about a run, and no source was launched, or its launch was
-refused. Nothing has changed.",
+refused; or it would move a run that has not begun, or that is over. Nothing has
+changed.",
     source: "",
     told: "\
 > next {\"threadId\":1}
@@ -93,8 +94,8 @@ pub static LAUNCHED_ALREADY: Page = Page {
     field: "",
     name: "launched already",
     meaning: "\
-A session debugs one source. What was launched goes on, and has not changed. For
-another source begin another session.",
+A session debugs one source, for one client, and its run begins once. What was
+launched goes on, and has not changed. For another source begin another session.",
     source: "",
     told: "\
 > launch {\"program\":\"one.balsa\"}
@@ -122,8 +123,9 @@ pub static NO_FRAME: Page = Page {
     field: "",
     name: "no such frame",
     meaning: "\
-A frame is a call in which a branch stands. After each step that an editor asks
-for, frames are to be asked for anew. Nothing has changed.",
+A frame is a place at which a branch stands, or a call around such a place.
+After each step that an editor asks for, frames are to be asked for anew. Nothing
+has changed.",
     source: "",
     told: "\
 > scopes {\"frameId\":32770}
@@ -150,8 +152,8 @@ pub static NOTHING_REFUSED: Page = Page {
     field: "",
     name: "nothing was refused",
     meaning: "\
-`exceptionInfo` tells of the last refusal at which the session stopped, and it
-has stopped at none. Nothing has changed.",
+`exceptionInfo` tells of the refusal at which the session stands, and it stands
+at none: it has stopped at none, or moved since. Nothing has changed.",
     source: "",
     told: "\
 > exceptionInfo {\"threadId\":1}
