@@ -1,5 +1,5 @@
 -- What is shown of the state.
-use Rattle.std.proofs.Common.{◌≡◌, ◌||◌, Bool, false, true, Option, refl, sym, ◌∙◌, ap, subst}
+use Rattle.std.proofs.Common.{◌≡◌, ◌||◌, Bool, false, true, Option, refl, sym, ◌∙◌, ap, subst, inl, inr}
 use Rattle.serde_json.specs.Data.{Data}
 use Rattle.serde_json.specs.View.{view}
 use Rattle.system.specs.declared.command.Command.{Command}
