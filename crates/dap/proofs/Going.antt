@@ -12,11 +12,13 @@ use Rattle.locked_execution.specs.AtDesk.{AtDesk, execution}
 use Rattle.dap_messages.specs.Arguments.{number_named}
 use Rattle.dap_messages.specs.Notes.{IsDone, IsRefusal}
 use Rattle.dap_messages.specs.declared.answer.Answer.{Answer}
+use Rattle.dap_messages.specs.declared.answer.Note.{Note}
 use Rattle.dap_messages.specs.declared.kind.Kind.{Kind}
 use Rattle.dap_messages.specs.declared.request.Request.{Request}
 use Rattle.dap_messages.specs.declared.told.Stop.{Stop}
 use Rattle.dap_moves.specs.Led.{Led}
 use Rattle.dap_moves.proofs.public.Leading.{led_nowhere}
+use Rattle.dap_requests.specs.Locations.{LocatesOn}
 use Rattle.dap_requests.specs.Said.{Runs}
 use Rattle.dap_requests.specs.Sets.{PlacesAsked, Stays, is_own, items_named, lines_asked, path_in}
 use Rattle.dap_requests.specs.Typed.{Evaluates, KeepsSome, Rests, is_typed}
@@ -222,6 +224,17 @@ lines-unseen d c p q b own h = elim h [
   )
 ]
 
+locates-unseen : (asked : Option ℕ) (d : Data) (c : Command) (p : Program) (b : Answer) → LocatesOn asked c d p b → LocatesOn asked c d (unseen p) b
+locates-unseen None d c p b h = h
+locates-unseen (Some line) d c p b h = h
+
+-- what a list of lines tells, it tells beside any events
+pub locates_beside : (asked : Option ℕ) (d : Data) (c : Command) (p : Program) (b : Answer) (notes : Vec Note Global) → LocatesOn asked c d p b →
+    LocatesOn asked c d p
+    (record { alloc = b.alloc; outcome = b.outcome; notes = notes; lacks = b.lacks; effect = b.effect })
+locates_beside None d c p b notes h = h
+locates_beside (Some line) d c p b notes h = h
+
 by-unseen : (kind : Kind) (d : Data) (c : Command) (p q : Program) (b : Answer) → SetsBy kind d c p b q → SetsBy kind d c (unseen p) b (unseen q)
 by-unseen Kind.SetBreakpoints d c p q b h = elim h [
   | inl other ↦ inl (other.0, ap unseen other.1, other.2)
@@ -237,7 +250,7 @@ by-unseen Kind.ConfigurationDone d c p q b h = elim h [
   | inl begins ↦ inl (begins.0, begins.1, ap unseen begins.2)
   | inr refused ↦ inr (refused.0, refused.1, ap unseen refused.2)
 ]
-by-unseen Kind.BreakpointLocations d c p q b h = (ap unseen h.0, h.1)
+by-unseen Kind.BreakpointLocations d c p q b h = (ap unseen h.0, locates-unseen (number_named (codes "line") d) d c p b h.1)
 by-unseen _ d c p q b h = ap unseen h
 
 sets-unseen : (request : Request) (c : Command) (p q : Program) (b : Answer) → Sets request c p b q → Sets request c (unseen p) b (unseen q)
