@@ -26,7 +26,8 @@ MANY_BREAKS = "".join(f"break {line}\n" for line in range(1, 65))
 # What an editor has sent before the request of an example.
 INITIALIZE = "initialize {}"
 LAUNCH = 'launch {"program":"one.balsa"}'
-BEGINNINGS: list[list[str]] = [[], [INITIALIZE], [INITIALIZE, LAUNCH]]
+BEGIN = "configurationDone"
+BEGINNINGS: list[list[str]] = [[], [INITIALIZE], [INITIALIZE, LAUNCH], [INITIALIZE, LAUNCH, BEGIN]]
 MARK = re.compile(r"^ *\^ +(refused \d+(?: \d+)?)(?::.*)?\n?", re.M)
 
 
