@@ -52,10 +52,7 @@ pub fn serve<R: Read, W: Write, F: Files>(
     writer: &mut W,
     files: &F,
 ) -> Result<(), Ended> {
-    match dap::serve(alloc, reader, writer, &Asked { files }) {
-        Ok(()) => Ok(()),
-        Err(fault) => Err(ended_by(fault)),
-    }
+    dap::serve(alloc, reader, writer, &Asked { files }).map_err(ended_by)
 }
 
 /// How the session ended, by the fault of the adapter.
