@@ -6,7 +6,7 @@
 kept=out/balsadbg
 kept_trial=out/balsadbg-trial
 # As README.md says.
-build_takes="about an hour on 4 processors"
+build_takes="one to two hours on 4 processors"
 
 needs_toolchain() {
     command -v rt >/dev/null && return
