@@ -71,6 +71,10 @@ mod shells;
 #[cfg(test)]
 mod specified;
 #[cfg(test)]
+mod specified_forms;
+#[cfg(test)]
+mod specified_numbers;
+#[cfg(test)]
 mod specified_parts;
 #[cfg(test)]
 mod steps;

@@ -3,6 +3,7 @@
 
 use crate::examples::{BUFFER, TWO_BUFFERS, TWO_WRITES};
 use crate::told::place;
+use crate::transcripts::has_memory;
 use branch_workers::{Gate, run_workers};
 use calculus::{Choice, Event, Refusal};
 use debug_session::{Line, Session, debug, read_command, write_reply};
@@ -180,9 +181,9 @@ fn a_branch_steps_up_to_a_breakpoint(rt: HostRuntime) -> Result<(), Fail> {
     Ok(())
 }
 
-/// A reply in a word.
-fn word(reply: &Reply) -> &'static str {
-    match reply {
+/// A reply in a word. Want of memory fails the test.
+fn word(reply: &Reply) -> Result<&'static str, Refusal> {
+    Ok(match reply {
         Reply::Stepped(_, _) => "stepped",
         Reply::Undone(_, _) => "undone",
         Reply::Rolled(_) => "rolled",
@@ -194,9 +195,9 @@ fn word(reply: &Reply) -> &'static str {
         Reply::Stopped(_) => "stopped",
         Reply::Idle => "idle",
         Reply::Done => "done",
-        Reply::Refused(Refusal::Memory) => "no memory",
+        Reply::Refused(Refusal::Memory) => return Err(Refusal::Memory),
         Reply::Refused(_) => "refused",
-    }
+    })
 }
 
 /// Each command once, with its answer in a word, behind one another on the two writes.
@@ -224,7 +225,7 @@ fn a_desk_performs_each_command(rt: HostRuntime) -> Result<(), Fail> {
     let asked = commands(rt.alloc())?;
     for (command, answer) in &asked {
         let reply: Reply = desk.perform(0, command);
-        assert_eq!(rt; word(&reply), *answer);
+        assert_eq!(rt; word(&reply)?, *answer);
     }
     let replies: Result<Vec<Reply>, locked_execution::Fault> = run_commands(
         rt.alloc(),
@@ -251,15 +252,13 @@ fn passes_call_one_execution(rt: HostRuntime) -> Result<(), Fail> {
         return Err(Fail::from("two passes"));
     };
     let reply: Reply = shared.call(&rt, &mut one, &Command::Step(choice(rt.alloc(), b"/0.0")?));
-    assert_eq!(rt; word(&reply), "stepped");
+    assert_eq!(rt; word(&reply)?, "stepped");
     let length: u64 = shared.length(&mut one);
     assert_eq!(rt; length, 1);
     let met: u64 = shared.meet(&mut other, &mut one);
     assert_eq!(rt; met, 1);
-    assert_eq!(rt;
-        word(&shared.call(&rt, &mut other, &Command::Undo(1))),
-        "undone"
-    );
+    let reply = shared.call(&rt, &mut other, &Command::Undo(1));
+    assert_eq!(rt; word(&reply)?, "undone");
     let machine: Machine = shared.finish();
     assert!(rt; machine.live_at(0).is_none());
     Ok(())
@@ -287,10 +286,11 @@ fn workers_step_one_execution(rt: HostRuntime) -> Result<(), Fail> {
         30,
     );
     match ran {
-        Ok((passes, stepped, lost)) => {
+        // There was no memory for a turn that was lost.
+        Ok((_passes, _stepped, lost)) if lost != 0 => Err(Fail::from(AllocError)),
+        Ok((passes, stepped, _lost)) => {
             assert_eq!(rt; passes.len(), 1);
             assert_eq!(rt; stepped, 7);
-            assert_eq!(rt; lost, 0);
             Ok(())
         }
         Err((_passes, fault)) => Err(Fail::from(fault)),
@@ -307,9 +307,9 @@ fn a_keeper_performs_without_a_lock(rt: HostRuntime) -> Result<(), Fail> {
     let (board, mut keeper): (Board, Keeper) = shared.into_keeper(&rt);
     let step = Command::Step(choice(rt.alloc(), b"/0.0")?);
     let reply: Reply = keeper.perform(&board, &mut pass, &step);
-    assert_eq!(rt; word(&reply), "stepped");
+    assert_eq!(rt; word(&reply)?, "stepped");
     let reply: Reply = keeper.perform(&board, &mut pass, &step);
-    assert_eq!(rt; word(&reply), "refused");
+    assert_eq!(rt; word(&reply)?, "refused");
     let machine: Machine = keeper.into_machine();
     assert!(rt; machine.live_at(0).is_some());
     Ok(())
@@ -351,7 +351,9 @@ fn a_session_reads_and_writes(rt: HostRuntime) -> Result<(), Fail> {
         b"step /0.0",
         1,
     );
-    assert!(rt; answer?.as_slice() == b"step 1 turn /0.0\n".as_slice());
+    let answer = answer?;
+    has_memory(answer.as_slice())?;
+    assert!(rt; answer.as_slice() == b"step 1 turn /0.0\n".as_slice());
     let ended: debug_session::Fault = locked_execution::Fault::Memory.into();
     assert_eq!(rt; ended.number(), 1);
     Ok(())
@@ -370,18 +372,22 @@ fn a_long_place_is_read(rt: HostRuntime) -> Result<(), Fail> {
         return Err(Fail::from("a command"));
     };
     let mut desk = Desk::new(Machine::new(rt.alloc(), BUFFER.checked(rt.alloc())?)?);
-    assert!(rt; matches!(desk.perform(0, &command), Reply::Refused(Refusal::NotReady)));
+    let reply = desk.perform(0, &command);
+    assert_eq!(rt; word(&reply)?, "refused");
+    assert!(rt; matches!(reply, Reply::Refused(Refusal::NotReady)));
     line.push(b'x')?;
-    let refused = read_command(rt.alloc(), &checked, line.as_slice(), 7);
-    assert!(rt; matches!(refused, Err(debug_session::Fault::BadCommand(7))));
-    Ok(())
+    match read_command(rt.alloc(), &checked, line.as_slice(), 7) {
+        Err(debug_session::Fault::BadCommand(7)) => Ok(()),
+        Err(fault) => Err(Fail::from(fault)),
+        Ok(_) => Err(Fail::from("a refusal")),
+    }
 }
 
 #[test]
 fn a_script_is_debugged(rt: HostRuntime) -> Result<(), Fail> {
     let script = b"ready\nstep /0.0\n";
     let mut reader = Counted::new(BufReader::with_capacity(rt.alloc(), 64, script.as_slice())?);
-    let mut out: Vec<u8> = Vec::new(rt.alloc());
+    let mut out: Vec<u8> = Vec::with_capacity(rt.alloc(), 1024)?;
     let ended: Result<(), debug_session::Fault> = debug(
         rt.alloc(),
         &mut reader,
@@ -390,6 +396,7 @@ fn a_script_is_debugged(rt: HostRuntime) -> Result<(), Fail> {
         BUFFER.stimulus.as_bytes(),
     );
     ended?;
+    has_memory(out.as_slice())?;
     assert!(rt; out.as_slice() == b"ready 1\n  turn /0.0\nstep 1 turn /0.0\n".as_slice());
     Ok(())
 }
@@ -404,7 +411,7 @@ fn a_machine_is_shown_saved_and_loaded(rt: HostRuntime) -> Result<(), Fail> {
         b"one line",
     );
     assert!(rt; !shown?.is_empty());
-    let mut text: Vec<u8> = Vec::new(rt.alloc());
+    let mut text: Vec<u8> = Vec::with_capacity(rt.alloc(), 1024)?;
     let saved: Result<(), trace_file::Fault> = save(
         rt.alloc(),
         &machine,
