@@ -1,3 +1,4 @@
 mod Around
 mod Listing
 mod Numbers
+mod Unfolding
