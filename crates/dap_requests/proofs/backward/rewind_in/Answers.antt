@@ -1,7 +1,7 @@
 use Rattle.std.proofs.Common.{Bool, None, Some, sym, ap}
 use Rattle.dap_requests.specs.Forth.{alone}
 use Rattle.dap_requests.proofs.Forward.{goes_back_by}
-use Rattle.dap_requests.proofs.moves.rewind_in.Goals as goal
+use Rattle.dap_requests.proofs.backward.rewind_in.Goals as goal
 
 pub returns-then-single-clause-back : goal.returns-then-single-clause-back
 returns-then-single-clause-back c =

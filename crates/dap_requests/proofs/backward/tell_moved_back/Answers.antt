@@ -1,10 +1,13 @@
-use Rattle.std.proofs.Common.{refl, sym, subst, ap}
-use Rattle.dap_messages.specs.declared.told.Stop.{Stop}
+use Rattle.std.proofs.Common.{◌∙◌, ap, refl, sym, subst}
+use Rattle.locked_execution.specs.declared.command.Reply.{Reply}
 use Rattle.dap_moves.specs.declared.back.Back.{Back}
-use Rattle.dap_requests.specs.Back.{SeenBehind, stop_back}
-use Rattle.dap_requests.specs.Forth.{stop_of}
-use Rattle.dap_requests.proofs.Forward.{tells_as}
-use Rattle.dap_requests.proofs.moves.tell_moved_back.Goals as goal
+use Rattle.dap_requests.specs.Back.{SeenBehind}
+use Rattle.dap_requests.proofs.Forward.{told_back}
+use Rattle.dap_requests.proofs.backward.tell_moved_back.Goals as goal
+
+pub tell_back-requires : goal.tell_back-requires
+tell_back-requires c = λ u is.
+    c.requires c.in-Asked.ticket u (c.in-Asked.is ∙ ap (λ (r : Reply). Back.Asked c.in-Asked.ticket r) is)
 
 pub returns-in-AtBeginning-clause-seen : goal.returns-in-AtBeginning-clause-seen
 returns-in-AtBeginning-clause-seen c =
@@ -13,8 +16,8 @@ returns-in-AtBeginning-clause-seen c =
 
 pub returns-in-AtBeginning-clause-stops : goal.returns-in-AtBeginning-clause-stops
 returns-in-AtBeginning-clause-stops c =
-    tells_as c.args.answer.now c.stop.new.answer Stop.Stepped (stop_back c.args.program.now.excepts c.args.moved.now)
-    (ap (λ (m : Back). stop_back c.args.program.now.excepts m) (sym c.in-AtBeginning.is)) c.stop.ensures
+    told_back c.args.program.now.excepts c.args.machine.now c.args.answer.now c.stop.new.answer c.args.branch Back.AtBeginning c.args.moved.now
+    c.in-AtBeginning.is (c.args.branch, c.stop.ensures, refl)
 
 pub returns-in-Asked-clause-seen : goal.returns-in-Asked-clause-seen
 returns-in-Asked-clause-seen c =
@@ -22,5 +25,5 @@ returns-in-Asked-clause-seen c =
 
 pub returns-in-Asked-clause-stops : goal.returns-in-Asked-clause-stops
 returns-in-Asked-clause-stops c =
-    tells_as c.args.answer.now c.tell_back.new.answer (stop_of c.args.program.now.excepts c.in-Asked.reply) (stop_back c.args.program.now.excepts c.args.moved.now)
-    (ap (λ (m : Back). stop_back c.args.program.now.excepts m) (sym c.in-Asked.is)) c.tell_back.ensures.stops
+    told_back c.args.program.now.excepts c.args.machine.now c.args.answer.now c.tell_back.new.answer c.args.branch
+    (Back.Asked c.in-Asked.ticket c.in-Asked.reply) c.args.moved.now c.in-Asked.is c.tell_back.ensures.stops
