@@ -18,9 +18,10 @@ use Rattle.dap_messages.specs.declared.members.Members.{Members}
 use Rattle.dap_moves.specs.Moves.{acts, joins, targets}
 use Rattle.dap_moves.specs.Parts.{takes_part}
 use Rattle.dap_threads.specs.Frames.{FindsNamed}
+use Rattle.dap_threads.specs.Given.{AreNumbered, numbers_to}
 use Rattle.dap_views.specs.declared.index.Index.{Index}
 use Rattle.dap_views.specs.declared.sight.Sight.{Sight}
-use Rattle.dap_requests.specs.Targets.{AreNumbered, GivesSteps, GivesTargets, ListsTargets, ListsTargetsOf, numbers_to}
+use Rattle.dap_requests.specs.Targets.{GivesSteps, GivesTargets, ListsTargets, ListsTargetsOf}
 
 -- no more pass two tests that are apart than there are
 one-more : {X : Type 0} (s t : Bool) (x : X) (ys zs : List X) (n : ℕ) → (t ≡ true → s ≡ false) → length ys + length zs ≤ n →
@@ -45,23 +46,6 @@ few-targets : (system : System) (k : ℕ) (es : List Event) → length (targets 
 few-targets system k es =
     let few = few-pass (acts system k) (joins system k) es (λ e h. and-not (takes_part system k e) (acts system k e) h) in
     let all = length-append (filter (acts system k) es) (filter (joins system k) es) in omega (arith, few, all)
-
--- one step more is numbered
-pub numbered_more : (before after : Listed) (ms : Members) (n : ℕ) → (before.lacks ≡ false → AreNumbered (map view before.made.items) (numbers_to n)) →
-    Has ms (codes "id") (number (unsigned (n + 1))) → Pushes before ms after → after.lacks ≡ false →
-    AreNumbered (map view after.made.items) (numbers_to (n + 1))
-numbered_more before after ms n h has push full =
-    let more = push full in
-    let d = object (members_view ms.made.entries) in
-    let id : number_named (codes "id") d ≡ Some (n + 1) =
-    ap (λ (o : Option Data). option_and_then as_u64 (option_and_then as_number o)) (has more.1) in
-    let next : suc n ≡ n + 1 = omega arith in
-    ap (λ (ds : List Data). map (number_named (codes "id")) ds) more.2
-    ∙ map-append (number_named (codes "id")) (map view before.made.items) (d ∷ [])
-    ∙ ap (λ (xs : List (Option ℕ)). xs ++ number_named (codes "id") d ∷ []) (h more.0)
-    ∙ ap (λ (x : Option ℕ). map (λ (k : ℕ). Some k) (numbers_to n) ++ x ∷ []) id
-    ∙ sym (map-append (λ (k : ℕ). Some k) (numbers_to n) ((n + 1) ∷ []))
-    ∙ ap (λ (k : ℕ). map (λ (j : ℕ). Some j) (numbers_to k)) next
 
 -- all are
 pub numbered_all : (m : AtMachine) (k n : ℕ) (es : List Event) (list : Listed) → (list.lacks ≡ false → AreNumbered (map view list.made.items) (numbers_to n)) →

@@ -36,7 +36,7 @@ use Rattle.dap_moves.specs.declared.taken_back.Rewound.{Rewound}
 use Rattle.dap_threads.specs.Threads.{branch_named}
 use Rattle.dap_views.specs.declared.program.Program.{Program}
 use Rattle.dap_requests.specs.Back.{Reverses, ReversesFor, ReversesIn, SeenBehind, StandsBack, stands_behind, stop_back, stop_behind}
-use Rattle.dap_requests.specs.Forth.{AreSeen, Going, IsPlanned, RunsBy, RunsFree, SeesStep, StepsForth, Takes, alone, stands_at, stop_at, stop_of, target_of}
+use Rattle.dap_requests.specs.Forth.{AreSeen, Going, IsPlanned, RunsBy, RunsFree, SeenAfter, SeesStep, StepsForth, Takes, alone, stands_at, stop_at, stop_of, target_of}
 use Rattle.dap_requests.specs.Said.{Runs, TellsOutputs, TellsStop}
 use Rattle.dap_requests.proofs.public.Saying.{runs_on, stops_behind, stops_on}
 
@@ -152,10 +152,14 @@ tells_rewound a b k branch known ended is there h =
     (subst (λ (n : ℕ). TellsStop a (stop_behind known) n b) there h)
 
 -- nothing is kept in mind behind a step back that was not refused
+pub seen_after : (reply : Reply) (before after : List Choice) → ((why : Refusal) → reply ≡ Reply.Refused why → ⊥) → after ≡ [] →
+    SeenAfter reply before after
+seen_after (Reply.Refused why) before after other none = absurd (other why refl)
+seen_after _ before after other none = none
+
 pub seen_cleared : (t : ℕ) (reply : Reply) (before after : List Choice) → ((why : Refusal) → reply ≡ Reply.Refused why → ⊥) → after ≡ [] →
     SeenBehind (Back.Asked t reply) before after
-seen_cleared t (Reply.Refused why) before after other none = absurd (other why refl)
-seen_cleared t _ before after other none = none
+seen_cleared t reply before after other none = seen_after reply before after other none
 
 -- a run back of the same branch, which the same lines stop and the same that is watched
 pub goes_back_by : (only only' : Option ℕ) (lines lines' : List ℕ) (watched watched' : List Watched) (d d' : AtDesk) (ended : Rewound) (kept : List Choice) →

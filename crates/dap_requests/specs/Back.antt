@@ -19,7 +19,7 @@ use Rattle.dap_moves.specs.declared.back.Back.{Back}
 use Rattle.dap_moves.specs.declared.taken_back.Rewound.{Rewound}
 use Rattle.dap_threads.specs.Threads.{branch_named}
 use Rattle.dap_views.specs.declared.program.Program.{Program}
-use Rattle.dap_requests.specs.Forth.{alone, stop_of}
+use Rattle.dap_requests.specs.Forth.{SeenAfter, alone, stop_of}
 
 -- how a thread stands behind a step back
 abbrev pub stop_back : Bool → Back → Stop
@@ -33,12 +33,10 @@ StandsBack m k (Back.Asked t (Reply.Refused (NeededBy u))) branch =
     (e : Event) × LiveAt m.live u e × (branch ≡ unwrap_or (branch_at m.checked (acting e)) k)
 StandsBack m k _ branch = branch ≡ k
 
--- of the steps before which a run has stood all stay in mind where there was no step to take back, or that was refused;
--- else none
+-- which steps stay in mind of those before which a run has stood: all, where there was no step to take back
 abbrev pub SeenBehind : Back → List Choice → List Choice → Type 0
 SeenBehind Back.AtBeginning before after = after ≡ before
-SeenBehind (Back.Asked t (Reply.Refused why)) before after = after ≡ before
-SeenBehind (Back.Asked t _) before after = after ≡ []
+SeenBehind (Back.Asked t reply) before after = SeenAfter reply before after
 
 -- the newest step of branch k is taken back, if there is one, and how it went is told
 abbrev pub Backs : Bool → AtDesk → ℕ → List Choice → Stop → ℕ → AtDesk → List Choice → Type 0

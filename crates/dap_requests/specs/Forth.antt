@@ -26,12 +26,17 @@ abbrev pub stop_of : Bool → Reply → Stop
 stop_of excepts (Reply.Refused why) = Stop.Refused (refusal_number why) excepts
 stop_of excepts _ = Stop.Stepped
 
+-- of the steps before which a run has stood all stay in mind behind a step that is refused, and none behind another
+abbrev pub SeenAfter : Reply → List Choice → List Choice → Type 0
+SeenAfter (Reply.Refused why) before after = after ≡ before
+SeenAfter _ before after = after ≡ []
+
 -- the step of this event is asked for, if there is one, and how it went is told. `before` are the steps before which a
--- run has stood; none of them is kept in mind then, and all where there is no step to ask for
+-- run has stood, and `after` those that are kept in mind
 abbrev pub Takes : Bool → AtDesk → Option Event → List Choice → Stop → AtDesk → List Choice → Type 0
 Takes excepts d None before stop d' after = (stop ≡ Stop.Stepped) × (d' ≡ d) × (after ≡ before)
 Takes excepts d (Some e) before stop d' after =
-    (reply : Reply) × StepsAt d e reply d' × (stop ≡ stop_of excepts reply) × (after ≡ [])
+    (reply : Reply) × StepsAt d e reply d' × (stop ≡ stop_of excepts reply) × SeenAfter reply before after
 
 -- of the steps that branch k can be, the one of this number is asked for, if there is one; or there was no memory to
 -- list them: nothing changed, and that is told

@@ -1,5 +1,5 @@
 -- The steps that `stepIn` may name.
-use Rattle.std.specs.Prelude.{ℕ, zero, suc, ◌≡◌, ◌+◌, List, [], ◌∷◌, ◌++◌, Option, None, Some, codes, length, map}
+use Rattle.std.specs.Prelude.{ℕ, List, Option, None, Some, codes, length}
 use Rattle.serde_json.specs.Data.{Data}
 use Rattle.machine.specs.AtMachine.{AtMachine}
 use Rattle.dap_messages.specs.Arguments.{number_named}
@@ -8,18 +8,9 @@ use Rattle.dap_messages.specs.declared.answer.Answer.{Answer}
 use Rattle.dap_messages.specs.declared.answer.Outcome.{Outcome}
 use Rattle.dap_moves.specs.Moves.{targets}
 use Rattle.dap_threads.specs.Frames.{FindsNamed}
-use Rattle.dap_threads.specs.Given.{Gives}
+use Rattle.dap_threads.specs.Given.{AreNumbered, Gives, numbers_to}
 use Rattle.dap_views.specs.declared.index.Index.{Index}
 use Rattle.dap_views.specs.declared.sight.Sight.{Sight}
-
--- the numbers from 1 on, so many
-abbrev pub numbers_to : ℕ → List ℕ
-numbers_to zero = []
-numbers_to (suc n) = numbers_to n ++ (n + 1) ∷ []
-
--- the items have these numbers, in order
-abbrev pub AreNumbered : List Data → List ℕ → Type 0
-AreNumbered items ids = map (number_named (codes "id")) items ≡ map (λ (id : ℕ). Some id) ids
 
 -- as many steps are given as a step of this branch can be, numbered from 1 on
 pub record GivesSteps (m : AtMachine) (sight : Sight) (branch : ℕ) (outcome : Outcome) : Type 0 where

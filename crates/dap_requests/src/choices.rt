@@ -7,7 +7,8 @@ ghost use Rattle.dap_messages.specs.Arguments.{number_named};
 ghost use Rattle.dap_messages.specs.Written.{Has};
 ghost use Rattle.dap_moves.specs.Moves as moves;
 ghost use Rattle.dap_threads.specs.Frames.{FindsNamed};
-ghost use Rattle.dap_requests.specs.Targets.{AreNumbered, GivesSteps, GivesTargets, ListsTargets, numbers_to};
+ghost use Rattle.dap_threads.specs.Given.{AreNumbered, numbers_to};
+ghost use Rattle.dap_requests.specs.Targets.{GivesSteps, GivesTargets, ListsTargets};
 
 use dap_messages::{Answer, Listed, Members, Request};
 use dap_moves::{Machine, target_at};

@@ -14,7 +14,7 @@ ghost use Rattle.dap_messages.specs.Notes.{IsDone, IsRefusal};
 ghost use Rattle.dap_messages.specs.declared.kind.Kind as asks;
 ghost use Rattle.dap_messages.specs.declared.told.Stop.{Stop as Stopped};
 ghost use Rattle.dap_requests.specs.Denied.{NamesNoStep};
-ghost use Rattle.dap_requests.specs.Forth.{AreSeen, RunsBy, RunsFree, StepsForth, Takes, alone, going_of, stands_at, stop_at, stop_of, target_in};
+ghost use Rattle.dap_requests.specs.Forth.{AreSeen, RunsBy, RunsFree, SeenAfter, StepsForth, Takes, alone, going_of, stands_at, stop_at, stop_of, target_in};
 ghost use Rattle.dap_requests.specs.Said.{Runs, TellsOutputs, TellsStop};
 
 use crate::said::{stop, stop_at_line, tell, tell_outputs, tell_refused, tell_step, words_of};
@@ -42,6 +42,7 @@ pub fn step_in(
         (λ stop there. (there ≡ branch) × StepsForth program.now.excepts desk.old branch (target_in request.now)
         memo.old.seen.items stop desk.new memo.new.seen.items) }
     ensures denied { IsDone answer.old.outcome → IsRefusal answer.new.outcome → NamesNoStep request.now }
+    ensures named { NamesNoStep request.now → IsRefusal answer.new.outcome }
 {
     match target_asked(request, answer) {
         Some(number) => next_in(alloc, desk, program, memo, branch, number, answer),
@@ -54,7 +55,7 @@ pub fn step_in(
 fn target_asked(request: &Request, answer: &mut Answer) -> Option<u64>
     ensures { MatchOption result
         (IsRefusal answer.new.outcome × (answer.new.notes ≡ answer.old.notes) × NamesNoStep request.now)
-        (λ number. (number ≡ target_in request.now) × (answer.new ≡ answer.old)) }
+        (λ number. (number ≡ target_in request.now) × (answer.new ≡ answer.old) × (NamesNoStep request.now → ⊥)) }
 {
     match request.kind {
         Kind::StepIn => target_named(request, answer),
@@ -67,7 +68,7 @@ fn target_named(request: &Request, answer: &mut Answer) -> Option<u64>
     requires { request.now.kind ≡ asks.Kind.StepIn }
     ensures { MatchOption result
         (IsRefusal answer.new.outcome × (answer.new.notes ≡ answer.old.notes) × NamesNoStep request.now)
-        (λ number. (number ≡ target_in request.now) × (answer.new ≡ answer.old)) }
+        (λ number. (number ≡ target_in request.now) × (answer.new ≡ answer.old) × (NamesNoStep request.now → ⊥)) }
 {
     match request.number("targetId") {
         Some(number) => target_numbered(request, number, answer),
@@ -81,7 +82,7 @@ fn target_numbered(request: &Request, number: u64, answer: &mut Answer) -> Optio
     requires named { number_named (codes "targetId") (view request.now.arguments) ≡ Some number }
     ensures { MatchOption result
         (IsRefusal answer.new.outcome × (answer.new.notes ≡ answer.old.notes) × NamesNoStep request.now)
-        (λ target. (target ≡ target_in request.now) × (answer.new ≡ answer.old)) }
+        (λ target. (target ≡ target_in request.now) × (answer.new ≡ answer.old) × (NamesNoStep request.now → ⊥)) }
 {
     if number > 0 {
         Some(number - 1)
@@ -97,7 +98,7 @@ fn target_unnumbered(request: &Request, answer: &mut Answer) -> Option<u64>
     requires named { number_named (codes "targetId") (view request.now.arguments) ≡ None }
     ensures { MatchOption result
         (IsRefusal answer.new.outcome × (answer.new.notes ≡ answer.old.notes) × NamesNoStep request.now)
-        (λ target. (target ≡ target_in request.now) × (answer.new ≡ answer.old)) }
+        (λ target. (target ≡ target_in request.now) × (answer.new ≡ answer.old) × (NamesNoStep request.now → ⊥)) }
 {
     if names_target(request) {
         answer.refuse(104, "`targetId` is no number from 1 on");
@@ -189,7 +190,7 @@ fn take(
 {
     let before = desk.machine().live_events().len();
     let reply = step_at(alloc, desk, event);
-    memo.seen.clear();
+    forget_seen(memo, &reply);
     tell_took(
         alloc,
         desk.machine(),
@@ -200,6 +201,16 @@ fn take(
         &reply,
         answer,
     );
+}
+
+/// Forgets before which steps a run has stood, where a step was taken.
+fn forget_seen(memo: &mut Memo, reply: &Reply)
+    ensures { SeenAfter reply.now memo.old.seen.items memo.new.seen.items }
+{
+    match reply {
+        Reply::Refused(_) => {}
+        _ => memo.seen.clear(),
+    }
 }
 
 /// Tells what came of a step; where it was taken it is the live one at this index.

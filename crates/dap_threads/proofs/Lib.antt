@@ -1,3 +1,4 @@
+pub mod public
 mod Around
 mod Listing
 mod Numbers

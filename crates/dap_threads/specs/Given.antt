@@ -1,5 +1,5 @@
 -- The lists that responses give.
-use Rattle.std.specs.Prelude.{ℕ, ◌≡◌, ◌<◌, ◌^◌, List, [], ◌∷◌, Some, codes}
+use Rattle.std.specs.Prelude.{ℕ, zero, suc, ◌≡◌, ◌<◌, ◌+◌, ◌^◌, List, [], ◌∷◌, ◌++◌, Some, codes, map}
 use Rattle.serde_json.specs.Data.{Data, array}
 use Rattle.serde_json.specs.Find.{get}
 use Rattle.serde_json.specs.View.{items_of}
@@ -14,6 +14,15 @@ pub record Gives (name : List ℕ) (items : List Data) (outcome : Outcome) : Typ
   pub body : Data
   pub done : IsDoneWith body outcome
   pub listed : get name body ≡ Some (array (items_of items))
+
+-- the numbers from 1 on, so many
+abbrev pub numbers_to : ℕ → List ℕ
+numbers_to zero = []
+numbers_to (suc n) = numbers_to n ++ (n + 1) ∷ []
+
+-- the items have these numbers, in order
+abbrev pub AreNumbered : List Data → List ℕ → Type 0
+AreNumbered items ids = map (number_named (codes "id")) items ≡ map (λ (id : ℕ). Some id) ids
 
 -- the number by which a client unfolds an item is that of this
 abbrev pub IsUnfoldedBy : Data → Handle → Type 0

@@ -70,7 +70,7 @@ fn scopes_in(
 }
 
 /// A list of this name.
-fn listing(alloc: Global, name: &str, list: Listed) -> Members
+pub(crate) fn listing(alloc: Global, name: &str, list: Listed) -> Members
     ensures lists { Has result name.now (array (items_view list.made.items)) }
     ensures whole { result.lacks ≡ false → list.lacks ≡ false }
 {
@@ -332,7 +332,7 @@ fn channels_of(alloc: Global, machine: &Machine, program: &Program, instance: us
 }
 
 /// A list that has no memory.
-fn lacking(alloc: Global) -> Listed
+pub(crate) fn lacking(alloc: Global) -> Listed
     ensures { result.lacks ≡ true }
 {
     let mut list = Listed::new(alloc);

@@ -1,5 +1,6 @@
 use Rattle.std.proofs.Common.{◌∙◌}
-use Rattle.dap_requests.proofs.Choosing.{numbered_all, numbered_last, numbered_more, target_past, target_within}
+use Rattle.dap_threads.proofs.public.Numbered.{numbered_more}
+use Rattle.dap_requests.proofs.Choosing.{numbered_all, numbered_last, target_past, target_within}
 use Rattle.dap_requests.proofs.choices.target_list.Goals as goal
 
 pub loop-number-preserved : goal.loop-number-preserved

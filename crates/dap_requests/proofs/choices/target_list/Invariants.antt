@@ -2,7 +2,7 @@
 use Rattle.std.proofs.Common.{◌≡◌, ◌≤◌, false, length, map}
 use Rattle.serde_json.specs.View.{view}
 use Rattle.dap_moves.specs.Moves.{targets}
-use Rattle.dap_requests.specs.Targets.{AreNumbered, numbers_to}
+use Rattle.dap_threads.specs.Given.{AreNumbered, numbers_to}
 use Rattle.dap_requests.proofs.choices.target_list.Given as goal
 
 abbrev pub invariant-loop-number : goal.invariant-loop-number

@@ -25,5 +25,11 @@ returns-in-Some-clause-denied c =
     never_refused c.args.answer.now c.target_asked.new.answer c.next_in.new.answer c.next_in.ensures.goes.0 c.args.branch
     (NamesNoStep c.args.request.now) c.in-Some.ensures.1 c.next_in.ensures.goes.1
 
+pub returns-in-Some-clause-named : goal.returns-in-Some-clause-named
+returns-in-Some-clause-named c = λ none. absurd (c.in-Some.ensures.2 none)
+
+pub returns-in-None-clause-named : goal.returns-in-None-clause-named
+returns-in-None-clause-named c = λ none. c.in-None.ensures.0
+
 pub returns-in-None-clause-denied : goal.returns-in-None-clause-denied
 returns-in-None-clause-denied c = λ done refused. c.in-None.ensures.2
