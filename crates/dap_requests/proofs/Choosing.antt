@@ -1,9 +1,8 @@
 -- The steps that a step of a branch can be, as they are listed.
-use Rattle.std.proofs.Common.{◌≡◌, ◌≤◌, ◌+◌, ◌++◌, ◌∷◌, [], ◌∙◌, ◌&&◌, ℕ, suc, zero, Bool, List, Option, None, Some, false, true, cond, codes, filter, length, map, option_and_then, append_assoc, ap, arith, refl, sym, subst}
-use Rattle.std.proofs.lemmas.List.{length-append, map-append}
+use Rattle.std.proofs.Common.{◌≡◌, ◌≤◌, ◌+◌, ◌∷◌, [], ◌∙◌, ◌&&◌, ℕ, suc, zero, Bool, List, Option, None, Some, false, true, cond, codes, filter, length, map, ap, arith, refl, sym, subst}
+use Rattle.std.proofs.lemmas.List.{length-append}
 use Rattle.std.specs.Prelude.{not, slice_get}
-use Rattle.serde_json.specs.Data.{Data, array, number, object, unsigned}
-use Rattle.serde_json.specs.Find.{as_number, as_u64}
+use Rattle.serde_json.specs.Data.{Data, array, object}
 use Rattle.serde_json.specs.View.{items_view, members_view, view}
 use Rattle.system.specs.declared.system.System.{System}
 use Rattle.runs.specs.declared.event.Event.{Event}
@@ -11,7 +10,7 @@ use Rattle.machine.proofs.public.Entries.{within-at}
 use Rattle.machine.specs.AtMachine.{AtMachine}
 use Rattle.dap_messages.specs.Arguments.{number_named}
 use Rattle.dap_messages.specs.Notes.{IsDoneWith, IsRefusal}
-use Rattle.dap_messages.specs.Written.{Has, Pushes}
+use Rattle.dap_messages.specs.Written.{Has}
 use Rattle.dap_messages.specs.declared.answer.Answer.{Answer}
 use Rattle.dap_messages.specs.declared.members.Listed.{Listed}
 use Rattle.dap_messages.specs.declared.members.Members.{Members}

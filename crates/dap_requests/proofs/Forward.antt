@@ -1,5 +1,5 @@
 -- Steps forth, and runs.
-use Rattle.std.proofs.Common.{◌≡◌, ◌⊎◌, ◌∙◌, ℕ, ◌-◌, List, [], ◌∷◌, ◌++◌, Option, None, Some, Bool, true, false, inl, inr, ap, subst, refl, sym, codes}
+use Rattle.std.proofs.Common.{◌≡◌, ◌∙◌, ℕ, ◌-◌, List, [], Option, None, Some, Bool, true, false, inl, inr, ap, subst, refl, sym, codes}
 use Rattle.std.specs.Bool.{MatchBool}
 use Rattle.std.specs.Prelude.{slice_get, unwrap_or}
 use Rattle.serde_json.specs.View.{view}
@@ -18,14 +18,14 @@ use Rattle.runs.specs.declared.event.Event.{Event}
 use Rattle.runs.proofs.public.Options.{some-injective}
 use Rattle.machine.proofs.public.Standing.{live-at}
 use Rattle.machine.specs.AtMachine.{AtMachine, object}
-use Rattle.locked_execution.specs.AtDesk.{AtDesk, execution}
+use Rattle.locked_execution.specs.AtDesk.{AtDesk}
 use Rattle.locked_execution.specs.declared.command.Reply.{Reply}
 use Rattle.dap_messages.specs.Arguments.{is_single, number_named}
 use Rattle.dap_messages.specs.declared.answer.Answer.{Answer}
 use Rattle.dap_messages.specs.declared.kind.Kind.{Kind}
 use Rattle.dap_messages.specs.declared.request.Request.{Request}
 use Rattle.dap_messages.specs.declared.told.Stop.{Stop}
-use Rattle.dap_moves.specs.Moves.{StepsAt, targets}
+use Rattle.dap_moves.specs.Moves.{targets}
 use Rattle.dap_moves.specs.Running.{RunsFrom, Sees}
 use Rattle.dap_moves.specs.TakingBack.{GoesBack}
 use Rattle.dap_moves.specs.declared.back.Back.{Back}
@@ -38,7 +38,7 @@ use Rattle.dap_views.specs.declared.program.Program.{Program}
 use Rattle.dap_requests.specs.Back.{Reverses, ReversesFor, ReversesIn, SeenBehind, StandsBack, stands_behind, stop_back, stop_behind}
 use Rattle.dap_requests.specs.Forth.{AreSeen, Going, IsPlanned, RunsBy, RunsFree, SeenAfter, SeesStep, StepsForth, Takes, alone, stands_at, stop_at, stop_of, target_of}
 use Rattle.dap_requests.specs.Said.{Runs, TellsOutputs, TellsStop}
-use Rattle.dap_requests.proofs.public.Saying.{runs_on, stops_behind, stops_on}
+use Rattle.dap_requests.proofs.public.Saying.{runs_on, stops_on}
 
 -- what was looked for in the desk's own system and list
 here : (d : AtDesk) (system : System) (es fs : List Event) (k n : ℕ) (o : Option Event) → system ≡ d.machine.checked → fs ≡ es →

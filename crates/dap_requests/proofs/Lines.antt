@@ -1,7 +1,6 @@
 -- What typed lines do to a desk.
 use Rattle.std.proofs.Common.{◌≡◌, ◌≢◌, ◌⊎◌, ℕ, Bool, true, false, List, [], ◌∷◌, ◌++◌, None, Some, codes, inl, inr, refl, sym, ap, subst, ◌∙◌}
 use Rattle.machine.specs.AtMachine.{AtMachine}
-use Rattle.serde_json.specs.View.{view}
 use Rattle.runs.specs.declared.event.Choice.{Choice}
 use Rattle.locked_execution.specs.AtDesk.{AtDesk}
 use Rattle.locked_execution.specs.Performs.{Answers}
@@ -12,7 +11,6 @@ use Rattle.debug_session.specs.Lines.{Asks, AsksNothing, MayBeStep, Says}
 use Rattle.debug_session.specs.declared.fault.Fault.{Fault}
 use Rattle.debug_session.specs.declared.fault.Fault.TheVariants.{BadCommand, Memory}
 use Rattle.debug_session.specs.declared.line.Line.{Line}
-use Rattle.dap_messages.specs.Arguments.{number_named}
 use Rattle.dap_messages.specs.Notes.{IsDone, told_by}
 use Rattle.dap_messages.specs.declared.answer.Answer.{Answer}
 use Rattle.dap_messages.specs.declared.answer.Note.{Note}

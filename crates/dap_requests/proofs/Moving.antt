@@ -1,6 +1,5 @@
 -- Which breakpoints have moved, and how that is told.
-use Rattle.std.proofs.Common.{◌≡◌, ◌⊎◌, ◌∙◌, ◌++◌, ◌∷◌, [], ◌||◌, ℕ, List, Bool, Option, None, Some, Vec, Global, IfSome, false, true, cond, filter, length, map, append_assoc, append-nil, ap, arith, inl, inr, refl, sym, subst}
-use Rattle.std.specs.Prelude.{not}
+use Rattle.std.proofs.Common.{◌≡◌, ◌⊎◌, ◌∙◌, ◌++◌, ◌∷◌, [], ◌||◌, ℕ, List, Bool, Option, None, Some, Vec, Global, false, true, cond, filter, length, map, append-nil, ap, arith, inl, inr, refl, sym, subst}
 use Rattle.std.proofs.lemmas.List.{map-append}
 use Rattle.std.proofs.lemmas.List.Elements.{filter-append}
 use Rattle.serde_json.specs.Data.{Data, object}
@@ -9,7 +8,6 @@ use Rattle.serde_json.specs.declared.value.Value.{Value}
 use Rattle.dap_messages.specs.Notes.{Adds, told_by}
 use Rattle.dap_messages.specs.Written.{Pushes}
 use Rattle.dap_messages.specs.declared.answer.Answer.{Answer}
-use Rattle.dap_messages.specs.declared.answer.Note.{Note}
 use Rattle.dap_messages.specs.declared.members.Listed.{Listed}
 use Rattle.dap_messages.specs.declared.members.Members.{Members}
 use Rattle.dap_messages.specs.declared.told.Told.{Told}

@@ -1,5 +1,5 @@
 -- Steps back.
-use Rattle.std.specs.Prelude.{◌≡◌, ℕ, Bool, List, [], Option, None, Some, codes, unwrap_or}
+use Rattle.std.specs.Prelude.{◌≡◌, ℕ, Bool, List, Option, None, Some, codes, unwrap_or}
 use Rattle.serde_json.specs.View.{view}
 use Rattle.machine.specs.AtMachine.{AtMachine}
 use Rattle.system_places.specs.SystemBranches.{branch_at, branch_count}

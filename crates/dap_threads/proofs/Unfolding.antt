@@ -1,5 +1,5 @@
 -- Lists of what is unfolded, an item at a time.
-use Rattle.std.proofs.Common.{◌≡◌, ◌<◌, ◌≤◌, ◌+◌, ◌++◌, ◌∷◌, [], ◌∙◌, ℕ, suc, Bool, List, Option, None, Some, false, true, if◌then◌else◌, cond, codes, filter, get_or, length, map, option_and_then, string_bytes, take, append_assoc, append-nil, ap, arith, sym, subst}
+use Rattle.std.proofs.Common.{◌≡◌, ◌<◌, ◌≤◌, ◌+◌, ◌++◌, ◌∷◌, [], ◌∙◌, ℕ, suc, Bool, List, Option, None, Some, false, true, if◌then◌else◌, codes, filter, get_or, length, map, option_and_then, string_bytes, take, append_assoc, append-nil, ap, arith, sym, subst}
 use Rattle.std.proofs.lemmas.List.{map-append, take_all}
 use Rattle.std.proofs.lemmas.List.Elements.{filter_more}
 use Rattle.serde_json.specs.Data.{Data, array, number, object, string, unsigned}

@@ -1,5 +1,5 @@
 -- What is listed where something is unfolded.
-use Rattle.std.specs.Prelude.{ℕ, zero, suc, ◌≡◌, ◌==◌, ◌&&◌, ◌≤◌, Bool, true, false, if◌then◌else◌, List, [], ◌∷◌, ◌++◌, Option, None, Some, codes, filter, length, map, string_bytes}
+use Rattle.std.specs.Prelude.{ℕ, zero, suc, ◌≡◌, ◌==◌, ◌&&◌, Bool, true, false, if◌then◌else◌, List, [], ◌∷◌, ◌++◌, Option, None, Some, codes, filter, length, map, string_bytes}
 use Rattle.syntax.specs.Lists.{Every}
 use Rattle.serde_json.specs.Data.{Data}
 use Rattle.machine.specs.AtMachine.{AtMachine}

@@ -1,11 +1,10 @@
 -- What is told behind one another.
-use Rattle.std.proofs.Common.{◌≡◌, ◌⊎◌, ◌+◌, ℕ, List, [], ◌∷◌, ◌++◌, Bool, false, true, Option, Some, inl, inr, refl, sym, ◌∙◌, ap, subst, append_assoc, bytes_eq, codes}
+use Rattle.std.proofs.Common.{◌≡◌, ◌+◌, ℕ, List, [], ◌∷◌, ◌++◌, false, true, Option, Some, inl, inr, refl, sym, ◌∙◌, ap, subst, append_assoc, bytes_eq, codes}
 use Rattle.std.specs.Prelude.{option_and_then}
 use Rattle.serde_json.specs.Data.{Data, number, object, string, unsigned}
 use Rattle.serde_json.specs.Find.{as_number, as_str, as_u64}
 use Rattle.serde_json.specs.View.{members_view}
 use Rattle.std.proofs.lemmas.List.{append-nil}
-use Rattle.syntax.specs.Lists.{Every}
 use Rattle.runs.specs.declared.event.Choice.{Choice}
 use Rattle.dap_messages.specs.Messages.{reason_of}
 use Rattle.dap_messages.specs.Notes.{Adds, IsDone, IsRefusal, told_by}
@@ -14,7 +13,6 @@ use Rattle.dap_messages.proofs.public.Held.{has_put, has_stays}
 use Rattle.dap_messages.proofs.public.Telling.{told-more}
 use Rattle.dap_messages.specs.declared.members.Members.{Members}
 use Rattle.dap_messages.specs.declared.answer.Answer.{Answer}
-use Rattle.dap_messages.specs.declared.answer.Effect.{Effect}
 use Rattle.dap_messages.specs.declared.answer.Note.{Note}
 use Rattle.dap_messages.specs.declared.answer.Outcome.{Outcome}
 use Rattle.dap_messages.specs.declared.told.Stop.{Stop}

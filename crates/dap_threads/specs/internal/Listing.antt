@@ -1,5 +1,5 @@
 -- Lists that are being made, an item at a time.
-use Rattle.std.specs.Prelude.{ℕ, ◌≡◌, ◌<◌, ◌^◌, ◌++◌, false, List, codes, map}
+use Rattle.std.specs.Prelude.{◌≡◌, ◌<◌, ◌^◌, ◌++◌, false, List, codes, map}
 use Rattle.serde_json.specs.Data.{Data, number, unsigned}
 use Rattle.serde_json.specs.View.{view}
 use Rattle.dap_messages.specs.Written.{Has}

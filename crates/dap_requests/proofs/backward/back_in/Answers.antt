@@ -1,6 +1,5 @@
 use Rattle.runs.specs.declared.command.Refusal.TheVariants.{NeededBy}
-use Rattle.std.proofs.Common.{ℕ, refl, subst}
-use Rattle.locked_execution.specs.declared.command.Reply.{Reply}
+use Rattle.std.proofs.Common.{refl, subst}
 use Rattle.dap_moves.specs.Moves.{StepsBack}
 use Rattle.dap_moves.specs.declared.back.Back.{Back}
 use Rattle.machine.specs.AtMachine.{AtMachine}

@@ -1,12 +1,12 @@
-use Rattle.std.proofs.Common.{◌≡◌, ◌∙◌, ◌++◌, ◌∷◌, [], List, Option, Some, Vec, Global, length, option_map, append_assoc, ap, arith, subst, sym}
+use Rattle.std.proofs.Common.{◌≡◌, ◌∙◌, ◌∷◌, [], List, Some, length, append_assoc, ap, arith, subst, sym}
 use Rattle.std.specs.Vec.Iter.{into_iter_items}
 use Rattle.serde_json.specs.Data.{object}
-use Rattle.serde_json.specs.View.{members_view, view}
+use Rattle.serde_json.specs.View.{members_view}
 use Rattle.serde_json.specs.declared.value.Value.{Value}
 use Rattle.dap_messages.specs.declared.told.Told.{Told}
 use Rattle.dap_requests.specs.Said.{Tells}
 use Rattle.dap_requests.specs.Sets.{changes_of}
-use Rattle.dap_requests.proofs.Moving.{all_yielded, tells_more, tells_nothing}
+use Rattle.dap_requests.proofs.Moving.{all_yielded, tells_more}
 use Rattle.dap_requests.proofs.breakpoints.tell_each.Goals as goal
 
 pub loop-one-preserved : goal.loop-one-preserved

@@ -1,4 +1,3 @@
-use Rattle.dap_messages.specs.declared.told.Stop.{Stop}
 use Rattle.dap_requests.proofs.public.Saying.{stops_on}
 use Rattle.dap_requests.proofs.moves.tell_and_stop.Goals as goal
 

@@ -1,4 +1,4 @@
-use Rattle.std.proofs.Common.{Option, subst, sym}
+use Rattle.std.proofs.Common.{Option, subst}
 use Rattle.serde_json.specs.Data.{Items}
 use Rattle.dap_requests.specs.Sets.{TellsNoData}
 use Rattle.dap_requests.proofs.watches.set_data_before.Goals as goal
