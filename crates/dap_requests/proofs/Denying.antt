@@ -1,5 +1,5 @@
 -- Why a request to move is refused.
-use Rattle.std.proofs.Common.{◌≡◌, ◌≤◌, ℕ, true, Option, None, Some, codes, ap, arith, subst, sym, ◌∙◌}
+use Rattle.std.proofs.Common.{◌≡◌, ◌≤◌, ◌<◌, ℕ, true, false, Option, None, Some, codes, ap, arith, subst, sym, ◌∙◌}
 use Rattle.std.specs.Prelude.{is_some}
 use Rattle.serde_json.specs.View.{view}
 use Rattle.system_places.specs.SystemBranches.{branch_count}
@@ -27,6 +27,24 @@ no_number request is named there = (
   is,
   subst (λ (o : Option ℕ). IsNoTarget (part_named (codes "targetId") (view request.arguments)) o) (sym named) there,
 )
+
+-- nor does it where it is named by another
+pub step_named : (request : Request) (n : ℕ) → number_named (codes "targetId") (view request.arguments) ≡ Some n → 0 < n → NamesNoStep request → ⊥
+step_named request n named some h =
+    let none : n ≡ 0 =
+    subst (λ (o : Option ℕ). IsNoTarget (part_named (codes "targetId") (view request.arguments)) o) named h.1 in omega (arith, some, none)
+
+-- or by none
+pub step_unnamed : (request : Request) → number_named (codes "targetId") (view request.arguments) ≡ None →
+    is_some (part_named (codes "targetId") (view request.arguments)) ≡ false → NamesNoStep request → ⊥
+step_unnamed request named none h =
+    let there : is_some (part_named (codes "targetId") (view request.arguments)) ≡ true =
+    subst (λ (o : Option ℕ). IsNoTarget (part_named (codes "targetId") (view request.arguments)) o) named h.1 in
+    let no : true ≡ false = sym there ∙ none in cc
+
+-- a request of another kind names none
+pub other_step : (request : Request) → (request.kind ≡ Kind.StepIn → ⊥) → NamesNoStep request → ⊥
+other_step request other h = other h.0
 
 -- no thread was found
 pub no_thread : (d : AtDesk) (m : AtMachine) (request : Request) (found : Option ℕ) → m ≡ d.machine →

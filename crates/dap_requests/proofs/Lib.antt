@@ -1,8 +1,10 @@
 pub mod public
+mod Choosing
 mod Denying
 mod Forward
 mod Lines
 mod Listing
+mod Moving
 mod Placed
 mod Reading
 mod Setting

@@ -26,7 +26,8 @@ use Rattle.dap_requests.specs.Sets.{ArePlaced, all_verified, all_watched, id_in,
 use Rattle.dap_requests.proofs.Setting.{watched_more}
 use Rattle.dap_requests.specs.declared.breakpoints.Making.{Making}
 use Rattle.dap_requests.specs.declared.breakpoints.Placing.{Placing}
-use Rattle.dap_requests.specs.internal.Placing.{AreShown, AreTold, TellsMore}
+use Rattle.dap_requests.specs.internal.Placing.{AreMoved, AreMoving, AreShown, AreTold, TellsMore}
+use Rattle.dap_requests.proofs.Moving.{moved_all}
 
 -- the list that was put into the body of what is done
 pub listed_in : (outcome : Outcome) (ms : Members) (d : Data) → IsDoneWith (object (members_view ms.made.entries)) outcome →
@@ -94,15 +95,17 @@ told_more less a before after added told h =
 
 -- all of them are placed, and told
 pub made_all : (own : Bool) (c : Command) (lines : Lines) (less i : ℕ) (asked : List Asked) (m : Making) (result : Option Placing) → length asked ≤ i →
-    ArePlaced own c lines [] (take i asked) m.asked.items m.stops.items → AreTold less m →
-    IfSome result (λ placing. (placing.asked ≡ m.asked) × (placing.stops ≡ m.stops) × (m.shown.lacks ≡ false) × (placing.shown ≡ m.shown.made)) →
-    IfSome result (λ placing. ArePlaced own c lines [] asked placing.asked.items placing.stops.items × AreShown less placing)
-made_all own c lines less i asked m None end placed told h = tt
-made_all own c lines less i asked m (Some placing) end placed told h =
+    ArePlaced own c lines [] (take i asked) m.asked.items m.stops.items → AreTold less m → AreMoving m →
+    IfSome result (λ placing. (placing.asked ≡ m.asked) × (placing.stops ≡ m.stops) × (m.shown.lacks ≡ false) × (placing.shown ≡ m.shown.made)
+    × (m.moved.lacks ≡ false) × (placing.moved ≡ m.moved.made)) →
+    IfSome result (λ placing. ArePlaced own c lines [] asked placing.asked.items placing.stops.items × AreShown less placing × AreMoved placing)
+made_all own c lines less i asked m None end placed told moving h = tt
+made_all own c lines less i asked m (Some placing) end placed told moving h =
     let all = subst (λ (xs : List Asked). ArePlaced own c lines [] xs m.asked.items m.stops.items) (take_all i asked end) placed in
     let asked_all = subst (λ (v : Vec Asked Global). ArePlaced own c lines [] asked v.items m.stops.items) (sym h.0) all in (
       subst (λ (v : Vec ℕ Global). ArePlaced own c lines [] asked placing.asked.items v.items) (sym h.1) asked_all,
       ap (λ (v : Vec Value Global). each breakpoint_told (items_view v.items)) h.3 ∙ told h.2 ∙ ap (λ (v : Vec Asked Global). all_shown less v.items) (sym h.0),
+      moved_all m placing moving h.0 h.4 h.5,
     )
 
 -- what was placed is what the response lists, where that is kept
@@ -169,6 +172,27 @@ verified_more index vs i d before after one known low same h is has pushes full 
     ∙ ap (λ y. (front ++ y ∷ []) ++ rest) says
     ∙ append_assoc front (read d ∷ []) rest
     ∙ ap (λ xs. front ++ xs) (sym all)
+    ∙ h (pushes full).0
+
+-- one item more that is not watched
+abbrev pub no-data : Data → Option Bool
+no-data d = Some false
+
+pub unwatched_more : (vs : List Value) (i : ℕ) (d : Value) (before after : Listed) (one : Members) → i < length vs →
+    (before.lacks ≡ false → each verified_told (items_view before.made.items) ++ each no-data (items_view (drop i vs)) ≡ each no-data (items_view vs)) →
+    Has one (codes "verified") (boolean false) → Pushes before one after → after.lacks ≡ false →
+    each verified_told (items_view after.made.items) ++ each no-data (items_view (drop (i + 1) vs)) ≡ each no-data (items_view vs)
+unwatched_more vs i d before after one low h has pushes full =
+    let rest = each no-data (items_view (drop (i + 1) vs)) in
+    let front = each verified_told (items_view before.made.items) in
+    let says : verified_told (object (members_view one.made.entries)) ≡ Some false =
+    ap (λ (o : Option Data). option_and_then as_bool o) (has (pushes full).1) in
+    let more : each no-data (items_view (drop i vs)) ≡ Some false ∷ rest =
+    ap (λ (xs : List Value). each no-data (items_view xs)) (drop_more vs i d low) in
+    ap (λ xs. xs ++ rest) (each_pushed verified_told before after one pushes full)
+    ∙ ap (λ y. (front ++ y ∷ []) ++ rest) says
+    ∙ append_assoc front (Some false ∷ []) rest
+    ∙ ap (λ xs. front ++ xs) (sym more)
     ∙ h (pushes full).0
 
 -- the lines that stop, from one line on

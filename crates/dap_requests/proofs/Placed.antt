@@ -1,5 +1,5 @@
 -- Breakpoints that are placed one after another.
-use Rattle.std.proofs.Common.{◌≡◌, ◌∙◌, ◌<◌, ◌+◌, ◌++◌, ◌∷◌, [], ℕ, Bool, List, Option, None, cond, length, get_or, take, ap, refl, sym, subst}
+use Rattle.std.proofs.Common.{◌≡◌, ◌∙◌, ◌<◌, ◌+◌, ◌++◌, ◌∷◌, [], ℕ, Bool, List, Option, None, Some, IfSome, Vec, Global, cond, length, get_or, take, ap, refl, sym, subst}
 use Rattle.std.proofs.lemmas.List.{take_more}
 use Rattle.system.specs.declared.command.Command.{Command}
 use Rattle.dap_views.specs.declared.lines.Lines.{Lines}
@@ -9,7 +9,9 @@ use Rattle.dap_views.specs.declared.program.Program.{Program}
 use Rattle.dap_requests.specs.Sets.{ArePlaced, PlacesAnew, StandsIn, asked_on, with_stop}
 use Rattle.dap_requests.specs.declared.breakpoints.Placing.{Placing}
 use Rattle.dap_requests.specs.declared.breakpoints.Making.{Making}
-use Rattle.dap_requests.specs.internal.Placing.{PlacesOne}
+use Rattle.dap_requests.specs.internal.Placing.{MovesMore, PlacesOne, TellsMore}
+use Rattle.dap_requests.proofs.Listing.{told_more}
+use Rattle.dap_requests.proofs.Moving.{moving_more}
 
 -- one more behind them
 placed-behind : (own : Bool) (c : Command) (lines : Lines) (stops : List ℕ) (xs ys : List Asked) (all : List ℕ) (a : Asked) (at : Option ℕ) →
@@ -47,3 +49,24 @@ places_anew own c lines count p q placing all placed set = record {
       set
       ∙ ap (λ (x : Program). record p { asked = x.asked; elsewhere = x.elsewhere; stops = x.stops; last_id = x.last_id }) (sym set);
 }
+
+-- one more is placed, and told
+pub one_placed : {R : Type 0} (own : Bool) (c : Command) (lines : Lines) (less : ℕ) (one : Asked) (at : Option ℕ) (before told : Making)
+    (asked : Vec Asked Global) (stops : Vec ℕ Global) (added : Option R) → StandsIn own c lines before.stops.items one.line at →
+    (told.asked ≡ before.asked) × (told.stops ≡ before.stops) → TellsMore less (record one { at = at }) before.shown told.shown →
+    MovesMore (record one { at = at }) before.moved told.moved → asked.items ≡ told.asked.items ++ record one { at = at } ∷ [] →
+    IfSome added (λ done. stops.items ≡ with_stop told.stops.items at) →
+    IfSome added (λ done. PlacesOne own c lines less one before (record told { asked = asked; stops = stops }))
+one_placed own c lines less one at before told asked stops None stands same tells moves more stop = tt
+one_placed own c lines less one at before told asked stops (Some done) stands same tells moves more stop =
+    let after : Making = record told { asked = asked; stops = stops } in
+    let added : asked.items ≡ before.asked.items ++ record one { at = at } ∷ [] =
+    more ∙ ap (λ (v : Vec Asked Global). v.items ++ record one { at = at } ∷ []) same.0 in
+    record {
+      at = at;
+      stands = stands;
+      asked = added;
+      stops = stop ∙ ap (λ (v : Vec ℕ Global). with_stop v.items at) same.1;
+      told = told_more less (record one { at = at }) before after added tells;
+      moved = moving_more (record one { at = at }) before after added moves;
+    }

@@ -1,5 +1,5 @@
 -- What only reads leaves the desk.
-use Rattle.std.proofs.Common.{◌≡◌, ℕ, Bool, true, false, inl, inr, sym, subst}
+use Rattle.std.proofs.Common.{◌≡◌, ℕ, true, inl, inr, sym, subst}
 use Rattle.runs.specs.Does as calculus
 use Rattle.runs.specs.declared.command.Command as runs_command
 use Rattle.runs.specs.declared.command.Reply as runs_reply

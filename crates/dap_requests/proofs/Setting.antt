@@ -77,17 +77,17 @@ watches_only items p q r is set =
     (ap (λ (x : Program). x.watched.items) set ∙ is, set ∙ ap (λ (x : Program). record p { watched = x.watched }) (sym set))
 
 -- the file is meant, or it is not
-meant-by : (p : Program) (path : List ℕ) (own meant known : Bool) → own ≡ is_own p path → meant ≡ (own || is_elsewhere p path) → meant ≡ known →
+pub meant_by : (p : Program) (path : List ℕ) (own meant known : Bool) → own ≡ is_own p path → meant ≡ (own || is_elsewhere p path) → meant ≡ known →
     is_meant p path ≡ known
-meant-by p path own meant known own_is meant_is h = ap (λ (x : Bool). x || is_elsewhere p path) (sym own_is) ∙ sym meant_is ∙ h
+meant_by p path own meant known own_is meant_is h = ap (λ (x : Bool). x || is_elsewhere p path) (sym own_is) ∙ sym meant_is ∙ h
 
 pub sets_in : (c : Command) (d : Data) (p : Program) (b : Answer) (q : Program) (path : List ℕ) (own meant : Bool) → path ≡ path_in d →
     own ≡ is_own p path → meant ≡ (own || is_elsewhere p path) → meant ≡ true → PlacesAsked own c d p b q → SetsLines c d p b q
 sets_in c d p b q path own meant path_is own_is meant_is h placed =
     subst (λ (x : List ℕ). SetsIn x c d p b q) path_is
-    (inr (meant-by p path own meant true own_is meant_is h, subst (λ (x : Bool). PlacesAsked x c d p b q) own_is placed))
+    (inr (meant_by p path own meant true own_is meant_is h, subst (λ (x : Bool). PlacesAsked x c d p b q) own_is placed))
 
 pub sets_elsewhere : (c : Command) (d : Data) (p : Program) (b : Answer) (path : List ℕ) (own meant : Bool) → path ≡ path_in d →
     own ≡ is_own p path → meant ≡ (own || is_elsewhere p path) → meant ≡ false → TellsNone d b → SetsLines c d p b p
 sets_elsewhere c d p b path own meant path_is own_is meant_is h none =
-    subst (λ (x : List ℕ). SetsIn x c d p b p) path_is (inl (meant-by p path own meant false own_is meant_is h, refl, none))
+    subst (λ (x : List ℕ). SetsIn x c d p b p) path_is (inl (meant_by p path own meant false own_is meant_is h, refl, none))

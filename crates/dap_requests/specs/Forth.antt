@@ -26,18 +26,25 @@ abbrev pub stop_of : Bool → Reply → Stop
 stop_of excepts (Reply.Refused why) = Stop.Refused (refusal_number why) excepts
 stop_of excepts _ = Stop.Stepped
 
--- the step of this event is asked for, if there is one, and how it went is told
-abbrev pub Takes : Bool → AtDesk → Option Event → Stop → AtDesk → Type 0
-Takes excepts d None stop d' = (stop ≡ Stop.Stepped) × (d' ≡ d)
-Takes excepts d (Some e) stop d' = (reply : Reply) × StepsAt d e reply d' × (stop ≡ stop_of excepts reply)
+-- of the steps before which a run has stood all stay in mind behind a step that is refused, and none behind another
+abbrev pub SeenAfter : Reply → List Choice → List Choice → Type 0
+SeenAfter (Reply.Refused why) before after = after ≡ before
+SeenAfter _ before after = after ≡ []
+
+-- the step of this event is asked for, if there is one, and how it went is told. `before` are the steps before which a
+-- run has stood, and `after` those that are kept in mind
+abbrev pub Takes : Bool → AtDesk → Option Event → List Choice → Stop → AtDesk → List Choice → Type 0
+Takes excepts d None before stop d' after = (stop ≡ Stop.Stepped) × (d' ≡ d) × (after ≡ before)
+Takes excepts d (Some e) before stop d' after =
+    (reply : Reply) × StepsAt d e reply d' × (stop ≡ stop_of excepts reply) × SeenAfter reply before after
 
 -- of the steps that branch k can be, the one of this number is asked for, if there is one; or there was no memory to
 -- list them: nothing changed, and that is told
-abbrev pub StepsForth : Bool → AtDesk → ℕ → ℕ → Stop → AtDesk → Type 0
-StepsForth excepts d k number stop d' =
+abbrev pub StepsForth : Bool → AtDesk → ℕ → ℕ → List Choice → Stop → AtDesk → List Choice → Type 0
+StepsForth excepts d k number before stop d' after =
     ((T : State) × (es : List Event) × Reaches (execution d) T × ReadyList T es
-    × Takes excepts d (slice_get (targets d.machine.checked k es) number) stop d')
-    ⊎ ((stop ≡ Stop.Refused 1 excepts) × (d' ≡ d))
+    × Takes excepts d (slice_get (targets d.machine.checked k es) number) before stop d' after)
+    ⊎ ((stop ≡ Stop.Refused 1 excepts) × (d' ≡ d) × (after ≡ before))
 
 -- which step a request of this kind asks for, from 0, where this one is named, from 1: `stepIn` may name any, the
 -- others ask for the first
@@ -56,6 +63,14 @@ stop_at excepts (Ended.AtLine branch line) = Stop.AtLine
 stop_at excepts (Ended.Watched branch ticket) = Stop.Watched
 stop_at excepts (Ended.Most branch) = Stop.Pause
 stop_at excepts (Ended.Refused branch why) = Stop.Refused (refusal_number why) excepts
+
+-- the thread of which branch stands there, where it began with branch k, or with the first
+abbrev pub stands_at : Option ℕ → Ended → ℕ
+stands_at k Ended.Nothing = unwrap_or k 0
+stands_at k (Ended.AtLine branch line) = branch
+stands_at k (Ended.Watched branch ticket) = branch
+stands_at k (Ended.Most branch) = branch
+stands_at k (Ended.Refused branch why) = branch
 
 -- the step of this event, if there is one, is kept in mind behind others, unless it is there already
 abbrev pub SeesStep : Option Event → List Choice → List Choice → Type 0
@@ -102,10 +117,11 @@ pub record IsPlanned (going : Going) (k : Option ℕ) (plan : Plan) : Type 0 whe
   pub most : plan.most ≡ going.most
   pub only : plan.only ≡ going.only
 
--- a run goes on from d, where branch k stands, to d', and how it ended is told. It passes no line but at its first
--- step, where it has stood before that: `before` are the steps that were kept in mind, `after` those that are
-pub record GoesFrom (going : Going) (k : Option ℕ) (d : AtDesk) (before : List Choice) (stop : Stop) (d' : AtDesk)
-    (after : List Choice) : Type 0 where
+-- a run goes on from d, where branch k stands, to d', and it is told how it ended, and the thread of which branch
+-- stands. It passes no line but at its first step, where it has stood before that: `before` are the steps that were
+-- kept in mind, `after` those that are
+pub record GoesFrom (going : Going) (k : Option ℕ) (d : AtDesk) (before : List Choice) (stop : Stop) (branch : ℕ)
+    (d' : AtDesk) (after : List Choice) : Type 0 where
   pub plan : Plan
   pub ended : Ended
   pub seen : List Choice
@@ -113,12 +129,13 @@ pub record GoesFrom (going : Going) (k : Option ℕ) (d : AtDesk) (before : List
   pub are : AreSeen d k before seen
   pub runs : RunsFrom plan seen d d' ended after
   pub told : stop ≡ stop_at going.excepts ended
+  pub stands : branch ≡ stands_at k ended
 
 -- the same; or there was no memory to keep in mind where it begins: nothing changed, and that is told
-abbrev pub RunsBy : Going → Option ℕ → AtDesk → List Choice → Stop → AtDesk → List Choice → Type 0
-RunsBy going k d before stop d' after =
-    GoesFrom going k d before stop d' after
-    ⊎ ((stop ≡ Stop.Refused 1 going.excepts) × (d' ≡ d) × (after ≡ before))
+abbrev pub RunsBy : Going → Option ℕ → AtDesk → List Choice → Stop → ℕ → AtDesk → List Choice → Type 0
+RunsBy going k d before stop branch d' after =
+    GoesFrom going k d before stop branch d' after
+    ⊎ ((stop ≡ Stop.Refused 1 going.excepts) × (branch ≡ unwrap_or k 0) × (d' ≡ d) × (after ≡ before))
 
 -- a run that nobody debugs, from d to d': it begins with the first branch, of all, takes no more steps than these, and
 -- neither lines nor what is watched stop it

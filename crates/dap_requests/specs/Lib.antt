@@ -7,5 +7,6 @@ pub mod Reading
 pub mod Said
 pub mod Sets
 pub mod Stands
+pub mod Targets
 pub mod Typed
 pub mod internal

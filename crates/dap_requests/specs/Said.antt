@@ -1,9 +1,10 @@
 -- What an answer tells behind its response.
-use Rattle.std.specs.Prelude.{◌≡◌, ◌++◌, ◌⊎◌, List, [], ◌∷◌, Some, codes, false}
-use Rattle.serde_json.specs.Data.{Data, string}
+use Rattle.std.specs.Prelude.{ℕ, ◌≡◌, ◌+◌, ◌++◌, ◌⊎◌, List, [], ◌∷◌, Some, codes, false}
+use Rattle.serde_json.specs.Data.{Data, number, string, unsigned}
 use Rattle.syntax.specs.Lists.{Every}
+use Rattle.runs.specs.declared.event.Choice.{Choice}
 use Rattle.locked_execution.specs.AtDesk.{AtDesk}
-use Rattle.dap_messages.specs.Arguments.{text_named}
+use Rattle.dap_messages.specs.Arguments.{number_named, text_named}
 use Rattle.dap_messages.specs.Messages.{reason_of}
 use Rattle.dap_messages.specs.Notes.{IsBehind, IsDone, IsRefusal, told_by}
 use Rattle.dap_messages.specs.Written.{Has}
@@ -34,30 +35,35 @@ pub record TellsOutputs (a b : Answer) : Type 0 where
   pub done : IsDone a.outcome → IsDone b.outcome
   pub effect : b.effect ≡ a.effect
 
--- the reason of a `stopped` is among these members
-abbrev pub GivesReason : Stop → Members → Type 0
-GivesReason stop ms = Has ms (codes "reason") (string (reason_of stop))
+-- among these members are the reason of a `stopped`, and the thread that stands, that of a branch: threads count from 1
+pub record GivesStop (stop : Stop) (branch : ℕ) (ms : Members) : Type 0 where
+  pub reason : Has ms (codes "reason") (string (reason_of stop))
+  pub thread : Has ms (codes "threadId") (number (unsigned (branch + 1)))
 
--- the last event is this `stopped`, and its body gives the reason
-abbrev pub SaysStop : Stop → Answer → Type 0
-SaysStop stop b =
+-- the last event is this `stopped`, and its body gives the reason, and the thread of this branch
+abbrev pub SaysStop : Stop → ℕ → Answer → Type 0
+SaysStop stop branch b =
     (before : List Note) × (body : Data) × IsBehind before (Told.Stopped stop) (Some body) b.notes.items
     × (text_named (codes "reason") body ≡ Some (reason_of stop))
+    × (number_named (codes "threadId") body ≡ Some (branch + 1))
 
--- texts are told, and behind them one `stopped`, which comes even where there is no memory for others
-pub record TellsStop (a : Answer) (stop : Stop) (b : Answer) : Type 0 where
+-- texts are told, and behind them one `stopped` of the thread of this branch, which comes even where there is no memory
+-- for others
+pub record TellsStop (a : Answer) (stop : Stop) (branch : ℕ) (b : Answer) : Type 0 where
   pub outputs : List Told
   pub are : AreOutputs outputs
   pub told : Tells a (outputs ++ Told.Stopped stop ∷ []) b
-  pub says : b.lacks ≡ false → SaysStop stop b
+  pub says : b.lacks ≡ false → SaysStop stop branch b
   pub done : IsDone a.outcome → IsDone b.outcome
   pub effect : b.effect ≡ Effect.Due (Told.Stopped stop)
 
 -- a request to run is refused, and tells nothing and changes nothing; or it ends with one `stopped`, which tells how it
--- went
-abbrev pub Runs : Answer → Answer → AtDesk → AtDesk → (Stop → Type 0) → Type 0
-Runs a b d d' goes =
-    (IsRefusal b.outcome × (b.notes ≡ a.notes) × (d' ≡ d)) ⊎ ((stop : Stop) × TellsStop a stop b × goes stop)
+-- went, and the thread of which branch stands. `before` are the steps before which a run has stood, and `after` those
+-- that are kept in mind
+abbrev pub Runs : Answer → Answer → AtDesk → AtDesk → List Choice → List Choice → (Stop → ℕ → Type 0) → Type 0
+Runs a b d d' before after goes =
+    (IsRefusal b.outcome × (b.notes ≡ a.notes) × (d' ≡ d) × (after ≡ before))
+    ⊎ ((stop : Stop) × (branch : ℕ) × TellsStop a stop branch b × goes stop branch)
 
 -- texts are told, and that the run has ended and there is nothing more to debug
 pub record TellsEnd (a b : Answer) : Type 0 where

@@ -1,5 +1,5 @@
 -- What a client sets on what is launched.
-use Rattle.std.specs.Prelude.{◌≡◌, ◌⊎◌, ◌||◌, ◌==◌, ℕ, Bool, true, false, cond, if◌then◌else◌, is_some, nat_eq, nat_lt, not, List, [], ◌∷◌, ◌++◌, length, Option, None, Some, codes, option_and_then, string_bytes, unwrap_or}
+use Rattle.std.specs.Prelude.{◌≡◌, ◌⊎◌, ◌||◌, ◌==◌, ℕ, Bool, true, false, cond, if◌then◌else◌, is_some, nat_eq, nat_lt, not, List, [], ◌∷◌, ◌++◌, filter, length, map, MatchOption, Option, None, Some, codes, option_and_then, string_bytes, unwrap_or}
 use Rattle.std.specs.Cmp.Lexicographic.{pointwise}
 use Rattle.std.specs.List.{after_first, before_first, list_any, position_or_len}
 use Rattle.std.specs.Option.{option_map, option_map_or}
@@ -7,8 +7,10 @@ use Rattle.serde_json.specs.Data.{Data, Items, item, no_items}
 use Rattle.serde_json.specs.Find.{as_array, as_number, as_str, as_u64}
 use Rattle.system.specs.declared.command.Command.{Command}
 use Rattle.dap_messages.specs.Arguments.{number_named, part_named, text_named}
-use Rattle.dap_messages.specs.Notes.{IsRefusal}
+use Rattle.dap_messages.specs.Notes.{IsDone, IsRefusal}
 use Rattle.dap_messages.specs.declared.answer.Answer.{Answer}
+use Rattle.dap_messages.specs.declared.answer.Effect.{Effect}
+use Rattle.dap_messages.specs.declared.told.Told.{Told}
 use Rattle.dap_moves.specs.declared.seen.Watched.{Watched}
 use Rattle.dap_views.specs.Counted.{at_most_all}
 use Rattle.dap_views.specs.Files.{same_file}
@@ -19,7 +21,8 @@ use Rattle.dap_views.specs.declared.index.Thing.{Thing}
 use Rattle.dap_views.specs.declared.lines.Lines.{Lines}
 use Rattle.dap_views.specs.declared.program.Asked.{Asked}
 use Rattle.dap_views.specs.declared.program.Program.{Program}
-use Rattle.dap_requests.specs.Lists.{Lists, all_shown, breakpoint_told, none_shown, stand_told, verified_told}
+use Rattle.dap_requests.specs.Lists.{Lists, all_shown, breakpoint_told, each, none_shown, stand_told, verified_told}
+use Rattle.dap_requests.specs.Said.{Tells}
 use Rattle.dap_requests.specs.Stands.{StandsOn}
 
 -- the items of a part that is a list; none where it is not there, `None` where it is no list
@@ -52,6 +55,12 @@ filters_refused d = option_map has_refused (items_named (codes "filters") d)
 abbrev pub SetsExcepts : Data → Program → Program → Type 0
 SetsExcepts d p q = q ≡ record p { excepts = unwrap_or (filters_refused d) p.excepts }
 
+-- it is refused where the filters are no list; else it is done, which stays however little memory there is
+abbrev pub AnswersFilters : Option Bool → Answer → Answer → Type 0
+AnswersFilters asked a b =
+    MatchOption asked (IsRefusal b.outcome)
+    (λ excepts. (IsDone a.outcome → IsDone b.outcome) × (b.effect ≡ Effect.Done) × (b.lacks ≡ a.lacks))
+
 -- what is watched by a word for its kind, if it means this
 abbrev pub watched_as : List ℕ → Option Thing → Option Watched
 watched_as kind None = None
@@ -73,6 +82,12 @@ id_in d = unwrap_or (text_named (codes "dataId") d) []
 abbrev pub watched_before : Option Watched → List Watched → List Watched
 watched_before None ws = ws
 watched_before (Some w) ws = w ∷ ws
+
+-- before a launch none of these is watched, and so the response tells of each, in order; or it is refused, since they
+-- are no list
+abbrev pub TellsNoData : Option Items → Answer → Type 0
+TellsNoData None b = IsRefusal b.outcome
+TellsNoData (Some items) b = Lists verified_told (each (λ d. Some false) items) b
 
 -- what is watched by these items, in order; those that mean nothing are left out
 abbrev pub all_watched : Index → Items → List Watched
@@ -130,6 +145,11 @@ asked_on less id (line ∷ lines) =
 abbrev pub StandsIn : Bool → Command → Lines → List ℕ → ℕ → Option ℕ → Type 0
 StandsIn true c lines stops line at = StandsOn c lines stops line at
 StandsIn false c lines stops line at = at ≡ None
+
+-- whether it stands on this line
+abbrev pub stands_on : ℕ → Option ℕ → Bool
+stands_on line None = false
+stands_on line (Some at) = at == line
 
 -- the lines that stop, once one more breakpoint stands there: each is among them once
 abbrev pub with_stop : List ℕ → Option ℕ → List ℕ
@@ -191,6 +211,31 @@ SetsIn path c d p b q =
 -- in the file that is named
 abbrev pub SetsLines : Command → Data → Program → Answer → Program → Type 0
 SetsLines c d p b q = SetsIn (path_in d) c d p b q
+
+-- whether a breakpoint stands on another line than it was asked for, or on none
+abbrev pub is_moved : Asked → Bool
+is_moved a = not (stands_on a.line a.at)
+
+-- a text for each of these; or that a breakpoint has changed
+abbrev pub texts_of : {A : Type 0} → List A → List Told
+texts_of xs = map (λ x. Told.Output) xs
+
+abbrev pub changes_of : {A : Type 0} → List A → List Told
+changes_of xs = map (λ x. Told.Breakpoint) xs
+
+-- a text is told for each that does
+abbrev pub moves_told : List Asked → List Told
+moves_told asked = texts_of (filter is_moved asked)
+
+-- which events are told where breakpoints are set that are meant, and on these lines: these texts; none, where they are
+-- not, or no lines are asked for
+abbrev pub TellsSet : Bool → Option (List ℕ) → Answer → Program → Answer → Type 0
+TellsSet true (Some lines) a q b = Tells a (moves_told q.asked.items) b
+TellsSet _ _ a q b = b.notes ≡ a.notes
+
+-- so it is in the file that is named, where p was set before
+abbrev pub TellsLines : Data → Program → Answer → Program → Answer → Type 0
+TellsLines d p a q b = TellsSet (is_meant p (path_in d)) (lines_asked d) a q b
 
 -- the file for which the breakpoints were set
 abbrev pub file_of : Program → List ℕ

@@ -1,5 +1,5 @@
 -- Expressions that were typed as lines.
-use Rattle.std.specs.Prelude.{◌≡◌, ◌⊎◌, ◌||◌, ◌==◌, ◌-◌, ◌++◌, ℕ, Bool, false, true, cond, is_some, List, [], ◌∷◌, Option, None, Some, nat_eq, codes, drop, length, take}
+use Rattle.std.specs.Prelude.{◌≡◌, ◌⊎◌, ◌||◌, ◌==◌, ◌-◌, ℕ, Bool, false, true, cond, is_some, List, [], ◌∷◌, Option, None, Some, nat_eq, codes, drop, length, take}
 use Rattle.std.specs.Char.{is_ascii_whitespace}
 use Rattle.std.specs.Cmp.Lexicographic.{pointwise}
 use Rattle.std.specs.List.{prefix_len, suffix_len}
@@ -14,10 +14,8 @@ use Rattle.debug_session.specs.Lines.{Asks, AsksNothing, MayBeStep, Says}
 use Rattle.debug_session.specs.declared.line.Line.{Line}
 use Rattle.dap_messages.specs.Arguments.{number_named, text_named}
 use Rattle.dap_messages.specs.declared.answer.Answer.{Answer}
-use Rattle.dap_messages.specs.declared.answer.Effect.{Effect}
 use Rattle.dap_messages.specs.declared.request.Request.{Request}
 use Rattle.dap_messages.specs.declared.told.Stop.{Stop}
-use Rattle.dap_messages.specs.declared.told.Told.{Told}
 use Rattle.dap_threads.specs.Frames.{FindsNamed, HasFrame, Misses}
 use Rattle.dap_views.specs.Named.{found, is_declared}
 use Rattle.dap_views.specs.declared.program.Program.{Program}
@@ -68,19 +66,16 @@ line_of (Some text) = bare (without_before is_mark (bare text))
 abbrev pub line_in : Request → List ℕ
 line_in request = line_of (text_named (codes "expression") (view request.arguments))
 
--- what is kept in mind of the steps before which a run has stood: nothing; or the same; or one step, where it was told
--- that a thread stands at a line; or the same and others, where it was told that a thread stands
-abbrev pub KeepsSome : Answer → List Choice → List Choice → Type 0
-KeepsSome answer before after =
-    (after ≡ []) ⊎ (after ≡ before)
-    ⊎ ((answer.effect ≡ Effect.Due (Told.Stopped Stop.AtLine)) × ((c : Choice) × (after ≡ c ∷ [])))
-    ⊎ ((stop : Stop) × (answer.effect ≡ Effect.Due (Told.Stopped stop))
-    × ((more : List Choice) × (after ≡ before ++ more)))
+-- how a command is told: that the thread of this branch stands, where steps were taken or taken back; else in texts
+-- alone
+abbrev pub TellsMove : Bool → ℕ → Answer → Answer → Type 0
+TellsMove true k a b = TellsStop a Stop.Stepped k b
+TellsMove false k a b = TellsTexts a b
 
--- how a command is told: that nothing moves, where steps were taken or taken back; else in texts alone
-abbrev pub TellsMove : Bool → Answer → Answer → Type 0
-TellsMove true a b = TellsStop a Stop.Stepped b
-TellsMove false a b = TellsTexts a b
+-- what is kept in mind of the steps before which a run has stood: none where steps were taken or taken back, else all
+abbrev pub kept_by : Bool → List Choice → List Choice
+kept_by true before = []
+kept_by false before = before
 
 -- whether a reply tells that steps were taken or taken back
 abbrev pub has_moved : Reply → Bool
@@ -89,20 +84,28 @@ has_moved (Reply.Undone t e) = true
 has_moved (Reply.Rolled count) = true
 has_moved _ = false
 
--- the command for which the line asks is asked, in the session of the console
-abbrev pub AsksAt : AtDesk → List ℕ → Answer → Answer → AtDesk → Type 0
-AsksAt d line a b d' =
-    (command : Command) × (reply : Reply) × Asks d.machine.checked line (Line.Asked command)
-    × Answers d 0 command reply d' × TellsMove (has_moved reply) a b
+-- a command is answered in the session of the console, and told where branch k is meant
+abbrev pub AnswersAt : AtDesk → ℕ → Command → List Choice → Answer → Answer → AtDesk → List Choice → Type 0
+AnswersAt d k command before a b d' after =
+    (reply : Reply) × Answers d 0 command reply d' × TellsMove (has_moved reply) k a b
+    × (after ≡ kept_by (has_moved reply) before)
+
+-- the command for which the line asks is asked there
+abbrev pub AsksAt : AtDesk → ℕ → List ℕ → List Choice → Answer → Answer → AtDesk → List Choice → Type 0
+AsksAt d k line before a b d' after =
+    (command : Command) × Asks d.machine.checked line (Line.Asked command) × AnswersAt d k command before a b d' after
 
 -- what a typed line does to a desk where branch k is meant, and how that is told: the command for which it asks; or
--- where it is `back`, the newest step of the branch is taken back; or where it is `rewind`, steps of all are
-abbrev pub LineDoes : Program → AtDesk → ℕ → List ℕ → Answer → Answer → AtDesk → Type 0
-LineDoes program d k line a b d' =
-    AsksAt d line a b d'
-    ⊎ ((line ≡ codes "back") × ((stop : Stop) × TellsStop a stop b × Backs program.excepts d k stop d'))
+-- where it is `back`, the newest step of the branch is taken back; or where it is `rewind`, steps of all are. `before`
+-- are the steps before which a run has stood, and `after` those that are kept in mind
+abbrev pub LineDoes : Program → AtDesk → ℕ → List ℕ → List Choice → Answer → Answer → AtDesk → List Choice → Type 0
+LineDoes program d k line before a b d' after =
+    AsksAt d k line before a b d' after
+    ⊎ ((line ≡ codes "back")
+    × ((stop : Stop) × (branch : ℕ) × TellsStop a stop branch b
+    × Backs program.excepts d k before stop branch d' after))
     ⊎ ((line ≡ codes "rewind")
-    × ((stop : Stop) × (kept : List Choice) × TellsStop a stop b × Reverses program None d stop d' kept))
+    × ((stop : Stop) × (branch : ℕ) × TellsStop a stop branch b × Reverses program k None d stop branch d' after))
 
 -- nothing is done, and no event told
 abbrev pub DoesNothing : AtDesk → Answer → Answer → AtDesk → Type 0
@@ -144,8 +147,8 @@ MayRest program request d b =
 
 -- what an expression does: nothing, for one of these reasons; or what its line does, and the branch is that of the frame
 -- that is named
-abbrev pub Evaluates : Program → Request → AtDesk → Answer → Answer → AtDesk → Type 0
-Evaluates program request d a b d' =
-    (DoesNothing d a b d' × MayRest program request d b)
+abbrev pub Evaluates : Program → Request → AtDesk → List Choice → Answer → Answer → AtDesk → List Choice → Type 0
+Evaluates program request d before a b d' after =
+    (DoesNothing d a b d' × (after ≡ before) × MayRest program request d b)
     ⊎ ((k : ℕ) × HasFrame d.machine program.index program.sight (frame_named request) k
-    × LineDoes program d k (line_in request) a b d')
+    × LineDoes program d k (line_in request) before a b d' after)

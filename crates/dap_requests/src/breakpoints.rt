@@ -11,13 +11,15 @@ ghost use Rattle.dap_moves.specs.Stops.{FirstStop};
 ghost use Rattle.dap_views.specs.Counted.{at_most_all, shown_line};
 ghost use Rattle.dap_views.specs.Lined.{end_of};
 ghost use Rattle.dap_requests.specs.Lists.{Lists, Tells, all_shown, breakpoint_told, list_in, none_shown, stand_told};
-ghost use Rattle.dap_requests.specs.Sets.{ArePlaced, PlacesAnew, PlacesAsked, SetsExcepts, SetsLines, StandsIn, TellsNone, asked_on};
+ghost use Rattle.dap_requests.specs.Said.{Tells as Notes};
+ghost use Rattle.dap_requests.specs.Sets.{AnswersFilters, ArePlaced, PlacesAnew, PlacesAsked, SetsExcepts, SetsLines, StandsIn, TellsLines, TellsNone, TellsSet, asked_on};
+ghost use Rattle.dap_requests.specs.Sets.{changes_of, moves_told, stands_on, texts_of};
 ghost use Rattle.dap_requests.specs.Sets.{filters_refused, has_refused, is_bare, is_refused, items_named, line_of};
 ghost use Rattle.dap_requests.specs.Sets.{file_of, is_again, is_elsewhere, lines_asked, lines_of, list_name, listed};
 ghost use Rattle.dap_requests.specs.Sets.{path_in, with_stop};
 ghost use Rattle.dap_requests.specs.Stands.{StandsOn, is_full};
 ghost use Rattle.dap_requests.specs.declared.breakpoints.Unlisted.{Unlisted as Lacks};
-ghost use Rattle.dap_requests.specs.internal.Placing.{AreShown, PlacesOne, TellsMore};
+ghost use Rattle.dap_requests.specs.internal.Placing.{AreMoved, AreShown, MovesMore, PlacesOne, TellsMore};
 
 use crate::lists::{give, give_made};
 use dap_messages::{Answer, Listed, Members, Request, Told, number_in, text_in};
@@ -38,7 +40,8 @@ pub fn set_before(alloc: Global, request: &Request, answer: &mut Answer)
 
 /// Answers that none is set, for this reason.
 fn set_none(alloc: Global, request: &Request, reason: &str, answer: &mut Answer)
-    ensures { TellsNone (view request.now.arguments) answer.new }
+    ensures none { TellsNone (view request.now.arguments) answer.new }
+    ensures quiet { answer.new.notes ≡ answer.old.notes }
 {
     match lines_in(alloc, request, answer) {
         Some(lines) => {
@@ -68,6 +71,7 @@ pub(crate) fn items_in<'a>(
 ) -> Option<&'a [Value]>
     ensures items { option_map (λ xs. items_view xs.now) result ≡ items_named name.now (view request.now.arguments) }
     ensures answer { MatchOption result (IsRefusal answer.new.outcome) (λ xs. answer.new ≡ answer.old) }
+    ensures quiet { answer.new.notes ≡ answer.old.notes }
 {
     match listed(request.part(name)) {
         Some(items) => Some(items),
@@ -100,9 +104,11 @@ fn items_of(value: &Value) -> Option<&[Value]>
 
 /// The lines that are asked for, as the client counts. It is refused where one is missing or no number.
 fn lines_in(alloc: Global, request: &Request, answer: &mut Answer) -> Option<Vec<u64>>
-    ensures { MatchOption result (((lines_asked (view request.now.arguments) ≡ None) × IsRefusal answer.new.outcome)
+    ensures lines { MatchOption result
+        (((lines_asked (view request.now.arguments) ≡ None) × IsRefusal answer.new.outcome)
         ⊎ (answer.new.lacks ≡ true))
         (λ lines. lines_asked (view request.now.arguments) ≡ Some lines.items) }
+    ensures answer { MatchOption result (answer.new.notes ≡ answer.old.notes) (λ lines. answer.new ≡ answer.old) }
 {
     let bare = is_bare(request);
     match items_in(request, list_name(bare), answer) {
@@ -130,9 +136,10 @@ fn list_name(bare: bool) -> &'static str
 
 /// The lines of these items. It is refused where one is missing or no number.
 fn lines_among(alloc: Global, bare: bool, items: &[Value], answer: &mut Answer) -> Option<Vec<u64>>
-    ensures { MatchOption result (((lines_of bare (items_view items.now) ≡ None) × IsRefusal answer.new.outcome)
-        ⊎ (answer.new.lacks ≡ true))
+    ensures lines { MatchOption result
+        (((lines_of bare (items_view items.now) ≡ None) × IsRefusal answer.new.outcome) ⊎ (answer.new.lacks ≡ true))
         (λ lines. lines_of bare (items_view items.now) ≡ Some lines.items) }
+    ensures answer { MatchOption result (answer.new.notes ≡ answer.old.notes) (λ lines. answer.new ≡ answer.old) }
 {
     match lines_of(alloc, bare, items) {
         Ok(lines) => Some(lines),
@@ -204,7 +211,8 @@ pub fn set_lines(
     request: &Request,
     answer: &mut Answer,
 )
-    ensures { SetsLines machine.now.checked.main (view request.now.arguments) program.old answer.new program.new }
+    ensures sets { SetsLines machine.now.checked.main (view request.now.arguments) program.old answer.new program.new }
+    ensures tells { TellsLines (view request.now.arguments) program.old answer.old program.new answer.new }
 {
     let path = path_in(request);
     let own = program.is_at(path);
@@ -267,7 +275,9 @@ fn set_anew(
     request: &Request,
     answer: &mut Answer,
 )
-    ensures { PlacesAsked own machine.now.checked.main (view request.now.arguments) program.old answer.new program.new }
+    ensures sets { PlacesAsked own machine.now.checked.main (view request.now.arguments) program.old answer.new
+        program.new }
+    ensures tells { TellsSet true (lines_asked (view request.now.arguments)) answer.old program.new answer.new }
 {
     match lines_in(alloc, request, answer) {
         Some(lines) => set_on(alloc, machine, program, own, lines.as_slice(), answer),
@@ -284,9 +294,10 @@ fn set_on(
     lines: &[u64],
     answer: &mut Answer,
 )
-    ensures { (PlacesAnew own machine.now.checked.main lines.now program.old program.new
+    ensures sets { (PlacesAnew own machine.now.checked.main lines.now program.old program.new
         × Lists breakpoint_told (all_shown program.old.counting.lines program.new.asked.items) answer.new)
         ⊎ ((program.new ≡ program.old) × (answer.new.lacks ≡ true)) }
+    ensures tells { Notes answer.old (moves_told program.new.asked.items) answer.new }
 {
     match placed_on(alloc, machine, program, own, lines) {
         Some(placing) => keep_on(alloc, program, own, lines.len() as u64, placing, answer),
@@ -310,6 +321,7 @@ fn keep_on(
       last_id = at_most_all program.old.last_id count;
     } }
     ensures told { answer.new.lacks ≡ false → list_in answer.new.outcome ≡ Some (items_view placing.shown.items) }
+    ensures tells { Notes answer.old (texts_of placing.moved.items) answer.new }
 {
     let last = program.last_id.saturating_add(count);
     forget_elsewhere(program, own);
@@ -338,7 +350,7 @@ fn placed_on(
 ) -> Option<Placing>
     ensures { IfSome result (λ placing. ArePlaced own machine.now.checked.main program.now.lines []
         (asked_on program.now.counting.lines program.now.last_id lines.now) placing.asked.items placing.stops.items
-        × AreShown program.now.counting.lines placing) }
+        × AreShown program.now.counting.lines placing × AreMoved placing) }
 {
     match asked_for(alloc, program, lines) {
         Some(asked) => place_all(alloc, machine, program, asked.as_slice(), own),
@@ -381,7 +393,7 @@ pub fn place_again(
 ) -> Option<Placing>
     ensures { IfSome result (λ placing. ArePlaced (is_again before.now program.now) machine.now.checked.main
         program.now.lines [] before.now.asked.items placing.asked.items placing.stops.items
-        × AreShown program.now.counting.lines placing) }
+        × AreShown program.now.counting.lines placing × AreMoved placing) }
 {
     let own = is_again(before, program);
     place_all(alloc, machine, program, before.asked.as_slice(), own)
@@ -415,7 +427,7 @@ fn place_all(
 ) -> Option<Placing>
     ensures { IfSome result (λ placing. ArePlaced own machine.now.checked.main program.now.lines []
         asked.now placing.asked.items placing.stops.items
-        × AreShown program.now.counting.lines placing) }
+        × AreShown program.now.counting.lines placing × AreMoved placing) }
 {
     let mut making = Making {
         asked: Vec::new(alloc),
@@ -441,7 +453,8 @@ struct Making {
 /// What was made; `None` where there was no memory.
 fn made(making: Making) -> Option<Placing>
     ensures { IfSome result (λ placing. (placing.asked ≡ making.asked) × (placing.stops ≡ making.stops)
-        × (making.shown.lacks ≡ false) × (placing.shown ≡ making.shown.made)) }
+        × (making.shown.lacks ≡ false) × (placing.shown ≡ making.shown.made)
+        × (making.moved.lacks ≡ false) × (placing.moved ≡ making.moved.made)) }
 {
     let Making {
         asked,
@@ -484,15 +497,28 @@ fn tell_placed(alloc: Global, program: &Program, one: Asked, placed: &Placed, ma
     ensures same { (making.new.asked ≡ making.old.asked) × (making.new.stops ≡ making.old.stops) }
     ensures told { TellsMore program.now.counting.lines (record one { at = placed.now.line }) making.old.shown
         making.new.shown }
+    ensures moved { MovesMore (record one { at = placed.now.line }) making.old.moved making.new.moved }
 {
-    tell_moved(alloc, one, &placed.words, &mut making.moved);
+    tell_moved(alloc, one, placed, &mut making.moved);
     making.shown.push(shown(alloc, program, one, placed));
 }
 
 /// Makes a line of text for a breakpoint that stands elsewhere, or nowhere.
-fn tell_moved(alloc: Global, one: Asked, why: &Words, moved: &mut Listed) {
-    if !why.is_empty() {
-        moved.push(moved_line(alloc, one, why));
+fn tell_moved(alloc: Global, one: Asked, placed: &Placed, moved: &mut Listed)
+    ensures { MovesMore (record one { at = placed.now.line }) moved.old moved.new }
+{
+    if !stands_on(one.line, placed.line) {
+        moved.push(moved_line(alloc, one, &placed.words));
+    }
+}
+
+/// Whether a breakpoint stands on this line.
+fn stands_on(line: u64, at: Option<u64>) -> bool
+    ensures { result ≡ stands_on line at }
+{
+    match at {
+        Some(at) => at == line,
+        None => false,
     }
 }
 
@@ -507,6 +533,8 @@ fn add_asked(asked: &mut Vec<Asked>, one: Asked) -> Option<()>
 fn keep(program: &mut Program, placing: Placing, answer: &mut Answer) -> Vec<Value>
     ensures set { program.new ≡ record program.old { asked = placing.asked; stops = placing.stops } }
     ensures shown { result ≡ placing.shown }
+    ensures tells { Notes answer.old (texts_of placing.moved.items) answer.new }
+    ensures same { (answer.new.outcome ≡ answer.old.outcome) × (answer.new.effect ≡ answer.old.effect) }
 {
     let Placing {
         asked,
@@ -516,10 +544,18 @@ fn keep(program: &mut Program, placing: Placing, answer: &mut Answer) -> Vec<Val
     } = placing;
     program.asked = asked;
     program.stops = stops;
-    for body in moved {
+    tell_texts(moved, answer);
+    shown
+}
+
+/// Tells these lines of text.
+fn tell_texts(texts: Vec<Value>, answer: &mut Answer)
+    ensures tells { Notes answer.old (texts_of texts.items) answer.new }
+    ensures same { (answer.new.outcome ≡ answer.old.outcome) × (answer.new.effect ≡ answer.old.effect) }
+{
+    for body in texts {
         answer.add(Told::Output, Some(body));
     }
-    shown
 }
 
 /// Adds the line to those that stop, where there is one; `None` where there is no memory for it.
@@ -671,19 +707,31 @@ fn add_reason(one: &mut Members, words: &Words)
 
 /// Keeps the breakpoints, and tells them again, since they may have moved in another source.
 pub fn tell_changed(alloc: Global, program: &mut Program, placing: Placing, answer: &mut Answer)
-    ensures { program.new ≡ record program.old { asked = placing.asked; stops = placing.stops } }
+    ensures set { program.new ≡ record program.old { asked = placing.asked; stops = placing.stops } }
+    ensures tells { Notes answer.old (texts_of placing.moved.items ++ changes_of placing.shown.items) answer.new }
+    ensures same { (answer.new.outcome ≡ answer.old.outcome) × (answer.new.effect ≡ answer.old.effect) }
 {
-    for shown in keep(program, placing, answer) {
+    let told = keep(program, placing, answer);
+    tell_each(alloc, told, answer);
+}
+
+/// Tells of each of these breakpoints that it has changed.
+fn tell_each(alloc: Global, shown: Vec<Value>, answer: &mut Answer)
+    ensures tells { Notes answer.old (changes_of shown.items) answer.new }
+    ensures same { (answer.new.outcome ≡ answer.old.outcome) × (answer.new.effect ≡ answer.old.effect) }
+{
+    for one in shown {
         let mut body = Members::new(alloc);
         body.text("reason", "changed");
-        body.value("breakpoint", shown);
+        body.value("breakpoint", one);
         answer.note(Told::Breakpoint, body);
     }
 }
 
 /// Answers `setExceptionBreakpoints`.
 pub fn set_exceptions(program: &mut Program, request: &Request, answer: &mut Answer)
-    ensures { SetsExcepts (view request.now.arguments) program.old program.new }
+    ensures sets { SetsExcepts (view request.now.arguments) program.old program.new }
+    ensures answers { AnswersFilters (filters_refused (view request.now.arguments)) answer.old answer.new }
 {
     match asks_for_refusals(request, answer) {
         Some(excepts) => program.excepts = excepts,
@@ -694,7 +742,7 @@ pub fn set_exceptions(program: &mut Program, request: &Request, answer: &mut Ans
 /// Whether the filters that are set have refusals among them. It is refused where they are no list.
 pub fn asks_for_refusals(request: &Request, answer: &mut Answer) -> Option<bool>
     ensures refusals { result ≡ filters_refused (view request.now.arguments) }
-    ensures answer { MatchOption result (IsRefusal answer.new.outcome) (λ asked. answer.new.lacks ≡ answer.old.lacks) }
+    ensures answers { AnswersFilters result answer.old answer.new }
 {
     match items_in(request, "filters", answer) {
         Some(filters) => {

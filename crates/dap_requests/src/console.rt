@@ -1,18 +1,17 @@
 // Expressions and lines that are typed, and how they can be completed.
 ghost use Rattle.std.specs.Prelude.{◌≡◌, ◌⊎◌, ◌↔◌, IsTrue, codes, false, true};
 ghost use Rattle.locked_execution.specs.Performs.{Answers};
-ghost use Rattle.locked_execution.specs.declared.command.Reply.{Reply as Replied};
 ghost use Rattle.debug_session.specs.Lines.{Says};
 ghost use Rattle.debug_session.specs.declared.fault.Fault.{Fault as Failed};
 ghost use Rattle.dap_messages.specs.Notes.{IsDone};
 ghost use Rattle.dap_moves.specs.Led.{Led};
 ghost use Rattle.dap_requests.specs.Reading.{reads};
 ghost use Rattle.dap_requests.specs.Said.{TellsTexts};
-ghost use Rattle.dap_requests.specs.Typed.{AsksNone, DoesNothing, Evaluates, IsName, KeepsSome, LineDoes, TellsMove, has_moved, is_typed};
+ghost use Rattle.dap_requests.specs.Typed.{AnswersAt, AsksNone, DoesNothing, Evaluates, IsName, LineDoes, has_moved, is_typed};
 
+use crate::backward::{back_in, reverse_in};
 use crate::entered::{has_mark, is_typed, line_in};
 use crate::hints::add_in_place;
-use crate::moves::{back_in, reverse_in};
 use crate::said::{stop, tell, words_of};
 use dap_messages::{Answer, Members, Request, Stop};
 use dap_moves::{Command, Desk, Machine, Reply};
@@ -39,10 +38,11 @@ pub fn evaluate(
 )
     ensures led { Led desk.old desk.new }
     ensures system { desk.new.machine.checked ≡ desk.old.machine.checked }
-    ensures looks { is_typed request.now ≡ false → desk.new ≡ desk.old }
-    ensures does { Evaluates program.now request.now desk.old answer.old answer.new desk.new }
+    ensures looks { is_typed request.now ≡ false
+        → (desk.new ≡ desk.old) × (memo.new.seen.items ≡ memo.old.seen.items) }
+    ensures does { Evaluates program.now request.now desk.old memo.old.seen.items answer.old answer.new desk.new
+        memo.new.seen.items }
     ensures refused { (desk.new ≡ desk.old) ⊎ (IsDone answer.old.outcome → IsDone answer.new.outcome) }
-    ensures keeps { KeepsSome answer.new memo.old.seen.items memo.new.seen.items }
 {
     if is_typed(request) {
         evaluate_typed(alloc, desk, program, memo, request, answer);
@@ -63,9 +63,9 @@ fn evaluate_typed(
 )
     ensures led { Led desk.old desk.new }
     ensures system { desk.new.machine.checked ≡ desk.old.machine.checked }
-    ensures does { Evaluates program.now request.now desk.old answer.old answer.new desk.new }
+    ensures does { Evaluates program.now request.now desk.old memo.old.seen.items answer.old answer.new desk.new
+        memo.new.seen.items }
     ensures refused { (desk.new ≡ desk.old) ⊎ (IsDone answer.old.outcome → IsDone answer.new.outcome) }
-    ensures keeps { KeepsSome answer.new memo.old.seen.items memo.new.seen.items }
 {
     match frame_in(alloc, desk.machine(), program, request, answer) {
         Some((branch, instance)) => {
@@ -111,10 +111,11 @@ fn typed(
     ensures led { Led desk.old desk.new }
     ensures system { desk.new.machine.checked ≡ desk.old.machine.checked }
     ensures does { (DoesNothing desk.old answer.old answer.new desk.new
+        × (memo.new.seen.items ≡ memo.old.seen.items)
         × (IsName program.now instance line.now ⊎ AsksNone desk.old.machine.checked line.now answer.new))
-        ⊎ LineDoes program.now desk.old branch line.now answer.old answer.new desk.new }
+        ⊎ LineDoes program.now desk.old branch line.now memo.old.seen.items answer.old answer.new desk.new
+        memo.new.seen.items }
     ensures refused { (desk.new ≡ desk.old) ⊎ (IsDone answer.old.outcome → IsDone answer.new.outcome) }
-    ensures keeps { KeepsSome answer.new memo.old.seen.items memo.new.seen.items }
 {
     if is_command(program, instance, line, marked) {
         typed_word(alloc, desk, program, memo, branch, line, answer);
@@ -147,10 +148,10 @@ fn typed_word(
     ensures led { Led desk.old desk.new }
     ensures system { desk.new.machine.checked ≡ desk.old.machine.checked }
     ensures does { (DoesNothing desk.old answer.old answer.new desk.new
-        × AsksNone desk.old.machine.checked line.now answer.new)
-        ⊎ LineDoes program.now desk.old branch line.now answer.old answer.new desk.new }
+        × (memo.new.seen.items ≡ memo.old.seen.items) × AsksNone desk.old.machine.checked line.now answer.new)
+        ⊎ LineDoes program.now desk.old branch line.now memo.old.seen.items answer.old answer.new desk.new
+        memo.new.seen.items }
     ensures refused { (desk.new ≡ desk.old) ⊎ (IsDone answer.old.outcome → IsDone answer.new.outcome) }
-    ensures keeps { KeepsSome answer.new memo.old.seen.items memo.new.seen.items }
 {
     if is_own(line) {
         own_line(alloc, desk, program, memo, branch, line, answer);
@@ -174,10 +175,11 @@ fn typed_name(
     ensures led { Led desk.old desk.new }
     ensures system { desk.new.machine.checked ≡ desk.old.machine.checked }
     ensures does { (DoesNothing desk.old answer.old answer.new desk.new
+        × (memo.new.seen.items ≡ memo.old.seen.items)
         × (IsName program.now instance line.now ⊎ AsksNone desk.old.machine.checked line.now answer.new))
-        ⊎ LineDoes program.now desk.old branch line.now answer.old answer.new desk.new }
+        ⊎ LineDoes program.now desk.old branch line.now memo.old.seen.items answer.old answer.new desk.new
+        memo.new.seen.items }
     ensures refused { (desk.new ≡ desk.old) ⊎ (IsDone answer.old.outcome → IsDone answer.new.outcome) }
-    ensures keeps { KeepsSome answer.new memo.old.seen.items memo.new.seen.items }
 {
     match program.index.find(instance, line) {
         Some(thing) => told(alloc, desk.machine(), program, thing, answer),
@@ -248,9 +250,9 @@ fn own_line(
     requires { (line.now ≡ codes "back") ⊎ (line.now ≡ codes "rewind") }
     ensures led { Led desk.old desk.new }
     ensures system { desk.new.machine.checked ≡ desk.old.machine.checked }
-    ensures does { LineDoes program.now desk.old branch line.now answer.old answer.new desk.new }
+    ensures does { LineDoes program.now desk.old branch line.now memo.old.seen.items answer.old answer.new desk.new
+        memo.new.seen.items }
     ensures done { IsDone answer.old.outcome → IsDone answer.new.outcome }
-    ensures keeps { KeepsSome answer.new memo.old.seen.items memo.new.seen.items }
 {
     result(alloc, line, "", answer);
     if is_back(line) {
@@ -349,10 +351,10 @@ fn typed_line(
     ensures led { Led desk.old desk.new }
     ensures system { desk.new.machine.checked ≡ desk.old.machine.checked }
     ensures does { (DoesNothing desk.old answer.old answer.new desk.new
-        × AsksNone desk.old.machine.checked line.now answer.new)
-        ⊎ LineDoes program.now desk.old branch line.now answer.old answer.new desk.new }
+        × (memo.new.seen.items ≡ memo.old.seen.items) × AsksNone desk.old.machine.checked line.now answer.new)
+        ⊎ LineDoes program.now desk.old branch line.now memo.old.seen.items answer.old answer.new desk.new
+        memo.new.seen.items }
     ensures refused { (desk.new ≡ desk.old) ⊎ (IsDone answer.old.outcome → IsDone answer.new.outcome) }
-    ensures keeps { KeepsSome answer.new memo.old.seen.items memo.new.seen.items }
 {
     match read_command(alloc, desk.machine().checked(), line.as_bytes(), 1) {
         Ok(said) => typed_said(alloc, desk, program, memo, branch, line, &said, answer),
@@ -376,10 +378,10 @@ fn typed_said(
     ensures led { Led desk.old desk.new }
     ensures system { desk.new.machine.checked ≡ desk.old.machine.checked }
     ensures does { (DoesNothing desk.old answer.old answer.new desk.new
-        × AsksNone desk.old.machine.checked line.now answer.new)
-        ⊎ LineDoes program.now desk.old branch line.now answer.old answer.new desk.new }
+        × (memo.new.seen.items ≡ memo.old.seen.items) × AsksNone desk.old.machine.checked line.now answer.new)
+        ⊎ LineDoes program.now desk.old branch line.now memo.old.seen.items answer.old answer.new desk.new
+        memo.new.seen.items }
     ensures refused { (desk.new ≡ desk.old) ⊎ (IsDone answer.old.outcome → IsDone answer.new.outcome) }
-    ensures keeps { KeepsSome answer.new memo.old.seen.items memo.new.seen.items }
 {
     match said {
         Line::Asked(command) => ask(alloc, desk, memo, branch, command, answer),
@@ -496,10 +498,9 @@ fn ask(
 )
     ensures led { Led desk.old desk.new }
     ensures system { desk.new.machine.checked ≡ desk.old.machine.checked }
-    ensures does { (reply : Replied) × Answers desk.old 0 command.now reply desk.new
-        × TellsMove (has_moved reply) answer.old answer.new }
+    ensures does { AnswersAt desk.old branch command.now memo.old.seen.items answer.old answer.new desk.new
+        memo.new.seen.items }
     ensures done { IsDone answer.old.outcome → IsDone answer.new.outcome }
-    ensures keeps { KeepsSome answer.new memo.old.seen.items memo.new.seen.items }
 {
     let reply = asked(desk, command);
     show_reply(alloc, desk.machine(), command, &reply, answer);

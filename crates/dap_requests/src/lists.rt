@@ -10,7 +10,9 @@ use std::alloc::Global;
 
 /// Gives the response this list of breakpoints.
 pub(crate) fn give(alloc: Global, list: Value, answer: &mut Answer)
-    ensures { answer.new.lacks ≡ false → list_in answer.new.outcome ≡ as_array (view list) }
+    ensures list { answer.new.lacks ≡ false → list_in answer.new.outcome ≡ as_array (view list) }
+    ensures quiet { answer.new.notes ≡ answer.old.notes }
+    ensures lacks { answer.new.lacks ≡ false → answer.old.lacks ≡ false }
 {
     let mut body = Members::new(alloc);
     body.value("breakpoints", list);
@@ -19,8 +21,9 @@ pub(crate) fn give(alloc: Global, list: Value, answer: &mut Answer)
 
 /// Gives the response a list of breakpoints that was made.
 pub(crate) fn give_made(alloc: Global, list: Listed, answer: &mut Answer)
-    ensures { answer.new.lacks ≡ false
+    ensures list { answer.new.lacks ≡ false
         → (list.lacks ≡ false) × (list_in answer.new.outcome ≡ Some (items_view list.made.items)) }
+    ensures quiet { answer.new.notes ≡ answer.old.notes }
 {
     let mut body = Members::new(alloc);
     body.list("breakpoints", list);

@@ -1,5 +1,5 @@
-// Requests to run: forth and back. Each that succeeds ends with one `stopped`.
-ghost use Rattle.std.specs.Prelude.{◌≡◌, [], MatchBool, MatchOption, None, Some, codes, is_some, slice_get};
+// Requests to run forth. Each that succeeds ends with one `stopped`.
+ghost use Rattle.std.specs.Prelude.{◌≡◌, [], ℕ, MatchBool, MatchOption, None, Some, codes, is_some, slice_get};
 ghost use Rattle.serde_json.specs.View.{view};
 ghost use Rattle.runs.specs.Object.{Reaches};
 ghost use Rattle.runs.specs.Ready.{ReadyList};
@@ -9,30 +9,22 @@ ghost use Rattle.machine.specs.AtMachine.{object};
 ghost use Rattle.locked_execution.specs.AtDesk.{AtDesk};
 ghost use Rattle.dap_moves.specs.Led.{Led};
 ghost use Rattle.dap_moves.specs.Moves.{targets};
-ghost use Rattle.dap_moves.specs.TakingBack.{GoesBack};
-ghost use Rattle.dap_moves.specs.declared.back.Back as moved;
 ghost use Rattle.dap_messages.specs.Arguments.{number_named, part_named};
 ghost use Rattle.dap_messages.specs.Notes.{IsDone, IsRefusal};
 ghost use Rattle.dap_messages.specs.declared.kind.Kind as asks;
 ghost use Rattle.dap_messages.specs.declared.told.Stop.{Stop as Stopped};
-ghost use Rattle.dap_requests.specs.Back.{Backs, Remembers, Reverses, ReversesFor, SeenBehind, stop_back, stop_behind};
-ghost use Rattle.dap_requests.specs.Denied.{NamesNoStep, NamesNoThread};
-ghost use Rattle.dap_requests.specs.Forth.{AreSeen, RunsBy, RunsFree, StepsForth, Takes, alone, going_of, stop_at, stop_of, target_in};
+ghost use Rattle.dap_requests.specs.Denied.{NamesNoStep};
+ghost use Rattle.dap_requests.specs.Forth.{AreSeen, RunsBy, RunsFree, SeenAfter, StepsForth, Takes, alone, going_of, stands_at, stop_at, stop_of, target_in};
 ghost use Rattle.dap_requests.specs.Said.{Runs, TellsOutputs, TellsStop};
 
 use crate::said::{stop, stop_at_line, tell, tell_outputs, tell_refused, tell_step, words_of};
 use crate::still::{nothing_words, why_none};
 use dap_messages::{Answer, Kind, Members, Request, Stop};
-use dap_moves::{
-    Back, Desk, Ended, Machine, Marks, Plan, Reply, Rewound, go_on, rewind, rewind_branch, see,
-    step_at, step_back, step_back_laws, target_at,
-};
-use dap_threads::thread_in;
+use dap_moves::{Desk, Ended, Machine, Plan, Reply, go_on, see, step_at, target_at};
 use dap_views::{Memo, Program, Words, event_words};
 use runs::{Choice, Event, Refusal};
 use std::alloc::Global;
 use syntax::Items;
-use system_places::branch_at;
 
 /// Answers `next`, `stepIn` and `stepOut`: one step of the branch.
 pub fn step_in(
@@ -46,10 +38,11 @@ pub fn step_in(
 )
     ensures led { Led desk.old desk.new }
     ensures system { desk.new.machine.checked ≡ desk.old.machine.checked }
-    ensures goes { Runs answer.old answer.new desk.old desk.new
-        (λ stop. StepsForth program.now.excepts desk.old branch (target_in request.now) stop desk.new) }
+    ensures goes { Runs answer.old answer.new desk.old desk.new memo.old.seen.items memo.new.seen.items
+        (λ stop there. (there ≡ branch) × StepsForth program.now.excepts desk.old branch (target_in request.now)
+        memo.old.seen.items stop desk.new memo.new.seen.items) }
     ensures denied { IsDone answer.old.outcome → IsRefusal answer.new.outcome → NamesNoStep request.now }
-    ensures keeps { Remembers desk.old desk.new answer.new memo.old.seen.items memo.new.seen.items }
+    ensures named { NamesNoStep request.now → IsRefusal answer.new.outcome }
 {
     match target_asked(request, answer) {
         Some(number) => next_in(alloc, desk, program, memo, branch, number, answer),
@@ -62,7 +55,7 @@ pub fn step_in(
 fn target_asked(request: &Request, answer: &mut Answer) -> Option<u64>
     ensures { MatchOption result
         (IsRefusal answer.new.outcome × (answer.new.notes ≡ answer.old.notes) × NamesNoStep request.now)
-        (λ number. (number ≡ target_in request.now) × (answer.new ≡ answer.old)) }
+        (λ number. (number ≡ target_in request.now) × (answer.new ≡ answer.old) × (NamesNoStep request.now → ⊥)) }
 {
     match request.kind {
         Kind::StepIn => target_named(request, answer),
@@ -75,7 +68,7 @@ fn target_named(request: &Request, answer: &mut Answer) -> Option<u64>
     requires { request.now.kind ≡ asks.Kind.StepIn }
     ensures { MatchOption result
         (IsRefusal answer.new.outcome × (answer.new.notes ≡ answer.old.notes) × NamesNoStep request.now)
-        (λ number. (number ≡ target_in request.now) × (answer.new ≡ answer.old)) }
+        (λ number. (number ≡ target_in request.now) × (answer.new ≡ answer.old) × (NamesNoStep request.now → ⊥)) }
 {
     match request.number("targetId") {
         Some(number) => target_numbered(request, number, answer),
@@ -89,7 +82,7 @@ fn target_numbered(request: &Request, number: u64, answer: &mut Answer) -> Optio
     requires named { number_named (codes "targetId") (view request.now.arguments) ≡ Some number }
     ensures { MatchOption result
         (IsRefusal answer.new.outcome × (answer.new.notes ≡ answer.old.notes) × NamesNoStep request.now)
-        (λ target. (target ≡ target_in request.now) × (answer.new ≡ answer.old)) }
+        (λ target. (target ≡ target_in request.now) × (answer.new ≡ answer.old) × (NamesNoStep request.now → ⊥)) }
 {
     if number > 0 {
         Some(number - 1)
@@ -105,7 +98,7 @@ fn target_unnumbered(request: &Request, answer: &mut Answer) -> Option<u64>
     requires named { number_named (codes "targetId") (view request.now.arguments) ≡ None }
     ensures { MatchOption result
         (IsRefusal answer.new.outcome × (answer.new.notes ≡ answer.old.notes) × NamesNoStep request.now)
-        (λ target. (target ≡ target_in request.now) × (answer.new ≡ answer.old)) }
+        (λ target. (target ≡ target_in request.now) × (answer.new ≡ answer.old) × (NamesNoStep request.now → ⊥)) }
 {
     if names_target(request) {
         answer.refuse(104, "`targetId` is no number from 1 on");
@@ -137,9 +130,9 @@ pub fn next_in(
 )
     ensures led { Led desk.old desk.new }
     ensures system { desk.new.machine.checked ≡ desk.old.machine.checked }
-    ensures goes { (stop : Stopped) × TellsStop answer.old stop answer.new
-        × StepsForth program.now.excepts desk.old branch number stop desk.new }
-    ensures keeps { Remembers desk.old desk.new answer.new memo.old.seen.items memo.new.seen.items }
+    ensures goes { (stop : Stopped) × TellsStop answer.old stop branch answer.new
+        × StepsForth program.now.excepts desk.old branch number memo.old.seen.items stop desk.new
+        memo.new.seen.items }
 {
     match desk.machine().ready() {
         Ok(events) => take_target(alloc, desk, program, memo, &events, branch, number, answer),
@@ -150,7 +143,7 @@ pub fn next_in(
 /// Tells that there is no memory to look for a step.
 fn no_memory(alloc: Global, program: &Program, memo: &mut Memo, branch: u32, answer: &mut Answer)
     ensures seen { memo.new.seen ≡ memo.old.seen }
-    ensures stops { TellsStop answer.old (Stopped.Refused 1 program.now.excepts) answer.new }
+    ensures stops { TellsStop answer.old (Stopped.Refused 1 program.now.excepts) branch answer.new }
 {
     let words = "no memory to look for a step";
     tell_refused(alloc, program, memo, answer, branch, Refusal::Memory, words);
@@ -169,10 +162,9 @@ fn take_target(
 )
     ensures led { Led desk.old desk.new }
     ensures system { desk.new.machine.checked ≡ desk.old.machine.checked }
-    ensures goes { (stop : Stopped) × TellsStop answer.old stop answer.new
+    ensures goes { (stop : Stopped) × TellsStop answer.old stop branch answer.new
         × Takes program.now.excepts desk.old (slice_get (targets desk.old.machine.checked branch events.now) number)
-        stop desk.new }
-    ensures keeps { Remembers desk.old desk.new answer.new memo.old.seen.items memo.new.seen.items }
+        memo.old.seen.items stop desk.new memo.new.seen.items }
 {
     let system = desk.machine().checked().system();
     match target_at(system, events.as_slice(), branch, number) {
@@ -193,13 +185,12 @@ fn take(
 )
     ensures led { Led desk.old desk.new }
     ensures system { desk.new.machine.checked ≡ desk.old.machine.checked }
-    ensures goes { (stop : Stopped) × TellsStop answer.old stop answer.new
-        × Takes program.now.excepts desk.old (Some event.now) stop desk.new }
-    ensures keeps { memo.new.seen.items ≡ [] }
+    ensures goes { (stop : Stopped) × TellsStop answer.old stop branch answer.new
+        × Takes program.now.excepts desk.old (Some event.now) memo.old.seen.items stop desk.new memo.new.seen.items }
 {
     let before = desk.machine().live_events().len();
     let reply = step_at(alloc, desk, event);
-    memo.seen.clear();
+    forget_seen(memo, &reply);
     tell_took(
         alloc,
         desk.machine(),
@@ -210,6 +201,16 @@ fn take(
         &reply,
         answer,
     );
+}
+
+/// Forgets before which steps a run has stood, where a step was taken.
+fn forget_seen(memo: &mut Memo, reply: &Reply)
+    ensures { SeenAfter reply.now memo.old.seen.items memo.new.seen.items }
+{
+    match reply {
+        Reply::Refused(_) => {}
+        _ => memo.seen.clear(),
+    }
 }
 
 /// Tells what came of a step; where it was taken it is the live one at this index.
@@ -224,7 +225,7 @@ fn tell_took(
     answer: &mut Answer,
 )
     ensures seen { memo.new.seen ≡ memo.old.seen }
-    ensures stops { TellsStop answer.old (stop_of program.now.excepts reply.now) answer.new }
+    ensures stops { TellsStop answer.old (stop_of program.now.excepts reply.now) branch answer.new }
 {
     match reply {
         Reply::Refused(why) => {
@@ -236,7 +237,7 @@ fn tell_took(
 
 /// Tells the live step at this index, which was taken.
 fn tell_taken(alloc: Global, machine: &Machine, index: usize, branch: u32, answer: &mut Answer)
-    ensures { TellsStop answer.old Stopped.Stepped answer.new }
+    ensures { TellsStop answer.old Stopped.Stepped branch answer.new }
 {
     tell_outputs(alloc, machine, index, answer);
     tell_live(alloc, machine, index, answer);
@@ -262,7 +263,7 @@ fn no_target(
     number: u64,
     answer: &mut Answer,
 )
-    ensures { TellsStop answer.old Stopped.Stepped answer.new }
+    ensures { TellsStop answer.old Stopped.Stepped branch answer.new }
 {
     let words = if number > 0 {
         Words::of(alloc, "There is no such step any more")
@@ -275,7 +276,7 @@ fn no_target(
 /// Tells the words, and that nothing moves.
 #[tactic(auto, using(crate::proofs::public::Saying::stops_on))]
 fn tell_and_stop(alloc: Global, answer: &mut Answer, why: Stop, branch: u32, words: &Words)
-    ensures { TellsStop answer.old why answer.new }
+    ensures { TellsStop answer.old why branch answer.new }
 {
     tell(alloc, words.as_str(), "console", answer);
     stop(alloc, answer, why, branch, words.as_str());
@@ -293,9 +294,9 @@ pub fn go_in(
 )
     ensures led { Led desk.old desk.new }
     ensures system { desk.new.machine.checked ≡ desk.old.machine.checked }
-    ensures goes { (stop : Stopped) × TellsStop answer.old stop answer.new
-        × RunsBy (going_of program.now (alone branch single)) (Some branch) desk.old memo.old.seen.items stop desk.new
-        memo.new.seen.items }
+    ensures goes { (stop : Stopped) × (there : ℕ) × TellsStop answer.old stop there answer.new
+        × RunsBy (going_of program.now (alone branch single)) (Some branch) desk.old memo.old.seen.items stop there
+        desk.new memo.new.seen.items }
 {
     answer.body(continued(alloc, single));
     let only = alone(branch, single);
@@ -328,8 +329,9 @@ pub fn run(
 )
     ensures led { Led desk.old desk.new }
     ensures system { desk.new.machine.checked ≡ desk.old.machine.checked }
-    ensures goes { (stop : Stopped) × TellsStop answer.old stop answer.new
-        × RunsBy (going_of program.now only) branch desk.old memo.old.seen.items stop desk.new memo.new.seen.items }
+    ensures goes { (stop : Stopped) × (there : ℕ) × TellsStop answer.old stop there answer.new
+        × RunsBy (going_of program.now only) branch desk.old memo.old.seen.items stop there desk.new
+        memo.new.seen.items }
 {
     let before = desk.machine().live_events().len();
     let ended = run_on(alloc, desk, program, memo, branch, only);
@@ -358,7 +360,7 @@ fn run_on(
     ensures led { Led desk.old desk.new }
     ensures system { desk.new.machine.checked ≡ desk.old.machine.checked }
     ensures goes { RunsBy (going_of program.now only) branch desk.old memo.old.seen.items
-        (stop_at program.now.excepts result) desk.new memo.new.seen.items }
+        (stop_at program.now.excepts result) (stands_at branch result) desk.new memo.new.seen.items }
 {
     if !see_first(alloc, desk.machine(), branch, &mut memo.seen) {
         return Ended::Refused(branch.unwrap_or(0), Refusal::Memory);
@@ -470,7 +472,7 @@ fn tell_ended(
     ended: Ended,
 )
     ensures seen { memo.new.seen ≡ memo.old.seen }
-    ensures stops { TellsStop answer.old (stop_at program.now.excepts ended) answer.new }
+    ensures stops { TellsStop answer.old (stop_at program.now.excepts ended) (stands_at branch ended) answer.new }
 {
     match ended {
         Ended::Nothing => {
@@ -488,7 +490,7 @@ fn tell_ended(
 
 /// Tells that as many steps were taken as there may be.
 fn stop_after_most(alloc: Global, program: &Program, answer: &mut Answer, branch: u32)
-    ensures { TellsStop answer.old Stopped.Pause answer.new }
+    ensures { TellsStop answer.old Stopped.Pause branch answer.new }
 {
     let mut words = Words::of(alloc, "Paused after ");
     words.number(program.launch.most);
@@ -502,7 +504,7 @@ fn stop_after_most(alloc: Global, program: &Program, answer: &mut Answer, branch
 
 /// Tells that a step was taken that is watched.
 fn stop_watched(alloc: Global, machine: &Machine, answer: &mut Answer, branch: u32, ticket: u64)
-    ensures { TellsStop answer.old Stopped.Watched answer.new }
+    ensures { TellsStop answer.old Stopped.Watched branch answer.new }
 {
     let words = watched_words(alloc, machine, ticket);
     stop(alloc, answer, Stop::Watched, branch, words.as_str());
@@ -520,251 +522,4 @@ fn watched_words(alloc: Global, machine: &Machine, ticket: u64) -> Words {
         }
     }
     words
-}
-
-/// Takes the newest step of the branch back.
-pub fn back_in(
-    alloc: Global,
-    desk: &mut Desk,
-    program: &Program,
-    memo: &mut Memo,
-    branch: u32,
-    answer: &mut Answer,
-)
-    ensures led { Led desk.old desk.new }
-    ensures system { desk.new.machine.checked ≡ desk.old.machine.checked }
-    ensures goes { (stop : Stopped) × TellsStop answer.old stop answer.new
-        × Backs program.now.excepts desk.old branch stop desk.new }
-    ensures keeps { Remembers desk.old desk.new answer.new memo.old.seen.items memo.new.seen.items }
-{
-    // What one that is refused leaves.
-    step_back_laws();
-    let moved = step_back(desk, branch);
-    tell_moved_back(alloc, desk.machine(), program, memo, branch, &moved, answer);
-}
-
-/// Tells what came of a step back, if there was one to take.
-fn tell_moved_back(
-    alloc: Global,
-    machine: &Machine,
-    program: &Program,
-    memo: &mut Memo,
-    branch: u32,
-    moved: &Back,
-    answer: &mut Answer,
-)
-    ensures seen { SeenBehind moved.now memo.old.seen.items memo.new.seen.items }
-    ensures stops { TellsStop answer.old (stop_back program.now.excepts moved.now) answer.new }
-{
-    match moved {
-        Back::AtBeginning => {
-            let text = "At its beginning: no step of this thread is live";
-            stop(alloc, answer, Stop::Stepped, branch, text);
-        }
-        Back::Asked(ticket, reply) => {
-            tell_back(
-                alloc, machine, program, memo, branch, *ticket, reply, answer,
-            );
-        }
-    }
-}
-
-/// Tells what came of a step back.
-fn tell_back(
-    alloc: Global,
-    machine: &Machine,
-    program: &Program,
-    memo: &mut Memo,
-    branch: u32,
-    ticket: u64,
-    reply: &Reply,
-    answer: &mut Answer,
-)
-    ensures seen { SeenBehind (moved.Back.Asked ticket reply.now) memo.old.seen.items memo.new.seen.items }
-    ensures stops { TellsStop answer.old (stop_of program.now.excepts reply.now) answer.new }
-{
-    match reply {
-        Reply::Refused(why) => tell_kept(
-            alloc, machine, program, memo, branch, ticket, *why, answer,
-        ),
-        Reply::Undone(_, event) => {
-            memo.seen.clear();
-            tell_undone(alloc, machine, branch, ticket, event, answer);
-        }
-        _ => {
-            memo.seen.clear();
-            stop(alloc, answer, Stop::Stepped, branch, "");
-        }
-    }
-}
-
-/// Tells the step that was taken back.
-fn tell_undone(
-    alloc: Global,
-    machine: &Machine,
-    branch: u32,
-    ticket: u64,
-    event: &Event,
-    answer: &mut Answer,
-)
-    ensures { TellsStop answer.old Stopped.Stepped answer.new }
-{
-    tell_step(alloc, machine, "taken back, step ", ticket, event, answer);
-    stop(alloc, answer, Stop::Stepped, branch, "");
-}
-
-/// Tells that a step stays, at the thread of the step that is in the way.
-fn tell_kept(
-    alloc: Global,
-    machine: &Machine,
-    program: &Program,
-    memo: &mut Memo,
-    branch: u32,
-    ticket: u64,
-    why: Refusal,
-    answer: &mut Answer,
-)
-    ensures seen { memo.new.seen ≡ memo.old.seen }
-    ensures stops { TellsStop answer.old (Stopped.Refused (refusal_number why) program.now.excepts) answer.new }
-{
-    let (words, thread) = kept_words(alloc, machine, branch, ticket, why);
-    tell_refused(alloc, program, memo, answer, thread, why, words.as_str());
-}
-
-/// Why a step stays, and the branch of the step that is in the way.
-fn kept_words(
-    alloc: Global,
-    machine: &Machine,
-    branch: u32,
-    ticket: u64,
-    why: Refusal,
-) -> (Words, u32) {
-    let Refusal::NeededBy(first) = why else {
-        return (Words::of(alloc, words_of(why)), branch);
-    };
-    let mut words = Words::of(alloc, "Step ");
-    add_live(alloc, machine, ticket, &mut words);
-    words.add(" stays: step ");
-    let thread = add_live(alloc, machine, first, &mut words).unwrap_or(branch);
-    words.add(" depends on it. Take that back first, or `roll ");
-    words.number(ticket);
-    words.add("` takes back all that do.");
-    (words, thread)
-}
-
-/// Adds the live step of this ticket in words, and tells in which branch it acts.
-fn add_live(alloc: Global, machine: &Machine, ticket: u64, words: &mut Words) -> Option<u32> {
-    words.number(ticket);
-    let live = machine.live_events();
-    let (_, event) = live.pair_at(live.index_of(ticket)? as u64)?;
-    words.add(" (");
-    words.add(event_words(alloc, machine, event).as_str());
-    words.add(")");
-    branch_at(machine.checked().system(), event.acting_place())
-}
-
-/// Answers `reverseContinue`.
-pub fn reverse(
-    alloc: Global,
-    desk: &mut Desk,
-    program: &Program,
-    memo: &mut Memo,
-    request: &Request,
-    answer: &mut Answer,
-)
-    ensures led { Led desk.old desk.new }
-    ensures system { desk.new.machine.checked ≡ desk.old.machine.checked }
-    ensures goes { Runs answer.old answer.new desk.old desk.new
-        (λ stop. ReversesFor program.now desk.old request.now stop desk.new memo.new.seen.items) }
-    ensures denied { IsDone answer.old.outcome → IsRefusal answer.new.outcome → NamesNoThread desk.old request.now }
-    ensures keeps { Remembers desk.old desk.new answer.new memo.old.seen.items memo.new.seen.items }
-{
-    match thread_in(request, desk.machine(), answer) {
-        Some(branch) => {
-            let single = request.flag("singleThread", false);
-            reverse_in(alloc, desk, program, memo, branch, single, answer);
-        }
-        None => {}
-    }
-}
-
-/// Takes steps back until something stops it: those of the branch with all that depend on them, or all.
-pub fn reverse_in(
-    alloc: Global,
-    desk: &mut Desk,
-    program: &Program,
-    memo: &mut Memo,
-    branch: u32,
-    single: bool,
-    answer: &mut Answer,
-)
-    ensures led { Led desk.old desk.new }
-    ensures system { desk.new.machine.checked ≡ desk.old.machine.checked }
-    ensures goes { (stop : Stopped) × TellsStop answer.old stop answer.new
-        × Reverses program.now (alone branch single) desk.old stop desk.new memo.new.seen.items }
-    ensures keeps { Remembers desk.old desk.new answer.new memo.old.seen.items memo.new.seen.items }
-{
-    let ended = rewind_in(alloc, desk, program, memo, branch, single);
-    tell_rewound(alloc, program, branch, single, ended, answer);
-}
-
-/// Takes steps back until something stops it; why it ended.
-fn rewind_in(
-    alloc: Global,
-    desk: &mut Desk,
-    program: &Program,
-    memo: &mut Memo,
-    branch: u32,
-    single: bool,
-) -> Rewound
-    ensures led { Led desk.old desk.new }
-    ensures system { desk.new.machine.checked ≡ desk.old.machine.checked }
-    ensures back { GoesBack (alone branch single) program.now.stops.items program.now.watched.items desk.old desk.new
-        result memo.new.seen.items }
-{
-    let marks = Marks {
-        lines: program.stops.as_slice(),
-        watched: program.watched.as_slice(),
-    };
-    if single {
-        rewind_branch(alloc, desk, branch, &marks, &mut memo.seen)
-    } else {
-        rewind(alloc, desk, &marks, &mut memo.seen)
-    }
-}
-
-/// Tells why a run back ended.
-fn tell_rewound(
-    alloc: Global,
-    program: &Program,
-    branch: u32,
-    single: bool,
-    ended: Rewound,
-    answer: &mut Answer,
-)
-    ensures { TellsStop answer.old (stop_behind ended) answer.new }
-{
-    match ended {
-        Rewound::AtBeginning => stop(alloc, answer, Stop::Entry, branch, beginning_text(single)),
-        Rewound::AtLine(action, line) => stop_at_line(alloc, program, answer, action, line),
-        Rewound::Watched(branch, ticket) => stop_before(alloc, branch, ticket, answer),
-    }
-}
-
-/// Where nothing is left to take back: of this thread alone, or of all.
-fn beginning_text(single: bool) -> &'static str {
-    if single {
-        "At its beginning: no step of this thread is live"
-    } else {
-        "At the beginning"
-    }
-}
-
-/// Tells that a step was taken back that is watched.
-fn stop_before(alloc: Global, branch: u32, ticket: u64, answer: &mut Answer)
-    ensures { TellsStop answer.old Stopped.Watched answer.new }
-{
-    let mut words = Words::of(alloc, "before step ");
-    words.number(ticket);
-    stop(alloc, answer, Stop::Watched, branch, words.as_str());
 }

@@ -1,8 +1,8 @@
 // What is told behind a response: texts, and that nothing moves.
-ghost use Rattle.std.specs.Prelude.{◌≡◌};
+ghost use Rattle.std.specs.Prelude.{◌≡◌, ℕ};
 ghost use Rattle.runs.specs.Refusals.{refusal_number};
 ghost use Rattle.dap_messages.specs.declared.told.Stop.{Stop as Stopped};
-ghost use Rattle.dap_requests.specs.Said.{GivesReason, TellsOutputs, TellsStop};
+ghost use Rattle.dap_requests.specs.Said.{GivesStop, TellsOutputs, TellsStop};
 
 use dap_messages::{Answer, Members, Stop, Told};
 use dap_moves::Machine;
@@ -14,31 +14,29 @@ use std::alloc::{AllocError, Global};
 /// The most values of output ports that are told at once.
 const MOST_OUTPUTS: usize = 1_000;
 
-/// Tells that nothing moves, and why, with the thread and what else there is to say.
+/// Tells that nothing moves, and why, with the thread of the branch and what else there is to say.
 #[tactic(auto, using(crate::proofs::public::Saying::stops_now))]
 pub fn stop(alloc: Global, answer: &mut Answer, why: Stop, branch: u32, text: &str)
-    ensures { TellsStop answer.old why answer.new }
+    ensures { TellsStop answer.old why branch answer.new }
 {
     answer.note(Told::Stopped(why), stopped(alloc, why, branch, text));
 }
 
 /// What a `stopped` says.
-#[tactic(auto, using(crate::proofs::public::Saying::reason_put, crate::proofs::public::Saying::reason_stays, crate::proofs::public::Saying::reason_lacking))]
 fn stopped(alloc: Global, why: Stop, branch: u32, text: &str) -> Members
-    ensures { GivesReason why result }
+    ensures { GivesStop why branch result }
 {
     let mut body = Members::new(alloc);
     body.text("reason", why.reason());
-    body.number("threadId", u64::from(branch).saturating_add(1));
+    body.number("threadId", u64::from(branch) + 1);
     body.flag("allThreadsStopped", true);
     add_words(&mut body, text);
     body
 }
 
 /// Adds the words, if there are some.
-#[tactic(auto, using(crate::proofs::public::Saying::reason_put, crate::proofs::public::Saying::reason_stays, crate::proofs::public::Saying::reason_lacking))]
 fn add_words(body: &mut Members, text: &str)
-    ensures { (why : Stopped) → GivesReason why body.old → GivesReason why body.new }
+    ensures { (why : Stopped) (branch : ℕ) → GivesStop why branch body.old → GivesStop why branch body.new }
 {
     if !text.is_empty() {
         body.text("description", text);
@@ -55,7 +53,7 @@ pub(crate) fn stop_at_line(
     branch: u32,
     line: u64,
 )
-    ensures { TellsStop answer.old Stopped.AtLine answer.new }
+    ensures { TellsStop answer.old Stopped.AtLine branch answer.new }
 {
     let mut words = Words::of(alloc, "line ");
     words.number(line);
@@ -65,9 +63,8 @@ pub(crate) fn stop_at_line(
 }
 
 /// Adds the breakpoints that stand on the line.
-#[tactic(auto, using(crate::proofs::public::Saying::reason_put, crate::proofs::public::Saying::reason_stays, crate::proofs::public::Saying::reason_lacking))]
 fn add_hits(alloc: Global, program: &Program, line: u64, body: &mut Members)
-    ensures { (why : Stopped) → GivesReason why body.old → GivesReason why body.new }
+    ensures { (why : Stopped) (branch : ℕ) → GivesStop why branch body.old → GivesStop why branch body.new }
 {
     match hits_of(alloc, program, line) {
         Ok(hits) => body.value("hitBreakpointIds", Value::Array(hits)),
@@ -156,7 +153,7 @@ fn add_output(alloc: Global, machine: &Machine, event: &Event, words: &mut Words
 }
 
 /// Tells that a step was refused, as an exception where the client wants these.
-#[tactic(auto, using(crate::proofs::public::Saying::stops_now, crate::proofs::public::Saying::stops_on, crate::proofs::public::Saying::reason_stays))]
+#[tactic(auto, using(crate::proofs::public::Saying::stops_now, crate::proofs::public::Saying::stops_on))]
 pub(crate) fn tell_refused(
     alloc: Global,
     program: &Program,
@@ -167,7 +164,7 @@ pub(crate) fn tell_refused(
     words: &str,
 )
     ensures seen { memo.new.seen ≡ memo.old.seen }
-    ensures stops { TellsStop answer.old (Stopped.Refused (refusal_number why) program.now.excepts) answer.new }
+    ensures stops { TellsStop answer.old (Stopped.Refused (refusal_number why) program.now.excepts) branch answer.new }
 {
     let line = refusal_line(alloc, why);
     keep_refusal(alloc, memo, answer, line.as_str(), words);

@@ -5,8 +5,8 @@ ghost use Rattle.serde_json.specs.Data.{boolean};
 ghost use Rattle.serde_json.specs.View.{items_view, view};
 ghost use Rattle.dap_messages.specs.Written.{Has};
 ghost use Rattle.dap_views.specs.declared.index.Thing as meant;
-ghost use Rattle.dap_requests.specs.Lists.{Lists, Tells, list_in, verified_told};
-ghost use Rattle.dap_requests.specs.Sets.{SetsWatched, WatchesOnly, all_verified, all_watched, id_in, watched_as, watched_before, watched_by};
+ghost use Rattle.dap_requests.specs.Lists.{Lists, Tells, each, list_in, verified_told};
+ghost use Rattle.dap_requests.specs.Sets.{SetsWatched, TellsNoData, WatchesOnly, all_verified, all_watched, id_in, items_named, watched_as, watched_before, watched_by};
 
 use crate::breakpoints::items_in;
 use crate::lists::{give, give_made};
@@ -255,19 +255,43 @@ fn is_word(text: &str, word: &[u8]) -> bool
     text.as_bytes() == word
 }
 
-/// Answers `setDataBreakpoints` while nothing is launched.
-pub fn set_data_before(alloc: Global, request: &Request, answer: &mut Answer) {
-    let Some(items) = items_in(request, "breakpoints", answer) else {
-        return;
-    };
+/// Answers `setDataBreakpoints` while nothing is launched: none is verified.
+pub fn set_data_before(alloc: Global, request: &Request, answer: &mut Answer)
+    ensures { TellsNoData (items_named (codes "breakpoints") (view request.now.arguments)) answer.new }
+{
+    match items_in(request, "breakpoints", answer) {
+        Some(items) => give_unwatched(alloc, items, answer),
+        None => {}
+    }
+}
+
+/// Tells of each of these items that it is not watched.
+fn give_unwatched(alloc: Global, items: &[Value], answer: &mut Answer)
+    ensures { TellsNoData (Some (items_view items.now)) answer.new }
+{
+    let list = unwatched(alloc, items);
+    give_made(alloc, list, answer);
+}
+
+/// The items, of which none is watched.
+fn unwatched(alloc: Global, items: &[Value]) -> Listed
+    ensures { Tells verified_told (each (λ d. Some false) (items_view items.now)) result }
+{
     let mut list = Listed::new(alloc);
     for value in items {
-        let mut one = Members::new(alloc);
-        one.flag("verified", false);
-        if field(value, "dataId").is_some() {
-            one.text("message", "nothing is launched yet");
-        }
-        list.push(one);
+        list.push(unset(alloc, value));
     }
-    give_made(alloc, list, answer);
+    list
+}
+
+/// A data breakpoint that is not watched.
+fn unset(alloc: Global, value: &Value) -> Members
+    ensures { Has result (codes "verified") (boolean false) }
+{
+    let mut one = Members::new(alloc);
+    one.flag("verified", false);
+    if field(value, "dataId").is_some() {
+        one.text("message", "nothing is launched yet");
+    }
+    one
 }

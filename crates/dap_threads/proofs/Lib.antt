@@ -1,3 +1,5 @@
+pub mod public
 mod Around
 mod Listing
 mod Numbers
+mod Unfolding

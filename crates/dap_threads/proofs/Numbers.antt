@@ -6,12 +6,13 @@ use Rattle.std.proofs.Math.Pow.{split}
 use Rattle.std.proofs.lemmas.Bool.Decides.{nat_tests}
 use Rattle.dap_messages.specs.declared.answer.Answer.{Answer}
 use Rattle.dap_moves.specs.Handles.{frame_id}
+use Rattle.dap_views.specs.Seen.{first_branch}
 use Rattle.dap_views.specs.declared.index.Index.{Index}
 use Rattle.dap_views.specs.declared.sight.Sight.{Sight}
 use Rattle.machine.specs.AtMachine.{AtMachine}
 use Rattle.runs.proofs.public.Options.{some-injective}
 use Rattle.system_places.specs.SystemBranches.{branch_count}
-use Rattle.dap_threads.specs.Frames.{FindsFrame, FindsNamed, HasNoFrame, IsFrame, Misses, SeesCall, count_of, frame_count, frames_of}
+use Rattle.dap_threads.specs.Frames.{FindsFrame, FindsNamed, HasNoFrame, IsFrame, Misses, count_of, frame_count, frames_of, seen_call}
 use Rattle.dap_threads.specs.declared.frames.Frame.{Frame}
 use Rattle.dap_threads.specs.Threads.{branch_of}
 
@@ -99,10 +100,10 @@ none-behind m index sight id count found r tells ec e behind branch k f =
     absurd (omega (arith, before, behind))
 
 -- what is told of the frame of this index among those of a branch
-abbrev pub IsAmong : ℕ → List Frame → ℕ → Option (ℕ × ℕ) → Type 0
-IsAmong branch frames k found =
+abbrev pub IsAmong : Index → ℕ → List Frame → ℕ → Option (ℕ × ℕ) → Type 0
+IsAmong index branch frames k found =
     MatchOption found (count_of frames ≤ k)
-    (λ one. (one.0 ≡ branch) × (k < count_of frames) × SeesCall (slice_get frames k) one.1)
+    (λ one. (one.0 ≡ branch) × (k < count_of frames) × (one.1 ≡ seen_call index branch (slice_get frames k)))
 
 -- that is what is found
 found-among :
@@ -110,7 +111,7 @@ found-among :
     → TellsParts id r
     → count ≡ branch_count m.checked
     → branch_of count r.0 ≡ Some branch
-    → IsAmong branch (frames_of m index sight branch) r.1 found
+    → IsAmong index branch (frames_of m index sight branch) r.1 found
     → FindsFrame m index sight id found
 found-among m index sight id count branch r None tells ec e h = none-behind m index sight id count branch r tells ec e h
 found-among m index sight id count branch r (Some one) tells ec e h =
@@ -120,7 +121,7 @@ found-among m index sight id count branch r (Some one) tells ec e h =
     let numbered : frame_id (branch + 1) r.1 ≡ id = subst T (sym is.0) (parts-of id r tells) in
     let within : branch < branch_count m.checked = subst Q ec is.1 in
     let F : ℕ → Type 0 = λ b. IsFrame m index sight id b r.1 in
-    let S : ℕ → Type 0 = λ b. SeesCall (slice_get (frames_of m index sight b) r.1) one.1 in
+    let S : ℕ → Type 0 = λ b. one.1 ≡ seen_call index b (slice_get (frames_of m index sight b) r.1) in
     (r.1, subst F (sym h.0) (numbered, within, h.1), subst S (sym h.0) h.2)
 
 pub among_frames :
@@ -129,10 +130,10 @@ pub among_frames :
     → count ≡ branch_count m.checked
     → branch_of count r.0 ≡ Some branch
     → frames ≡ frames_of m index sight branch
-    → IsAmong branch frames r.1 found
+    → IsAmong index branch frames r.1 found
     → FindsFrame m index sight id found
 among_frames m index sight id count branch r frames found tells ec e ef h =
-    let P : List Frame → Type 0 = λ fs. IsAmong branch fs r.1 found in
+    let P : List Frame → Type 0 = λ fs. IsAmong index branch fs r.1 found in
     found-among m index sight id count branch r found tells ec e (subst P ef h)
 
 -- what is found by a number that is named
@@ -149,10 +150,10 @@ misses_named m index seen sight named id b shown is h =
     subst (λ (s : Option Sight). Misses m index s named b) (sym shown)
     (subst (λ (o : Option ℕ). Misses m index (Some sight) o b) (sym is) h)
 
--- any frame, where none is named
-pub finds_any : (m : AtMachine) (index : Index) (seen : Option Sight) (sight : Sight) (named : Option ℕ) (one : ℕ × ℕ) → seen ≡ Some sight →
-    named ≡ None → FindsNamed m index seen named (Some one)
-finds_any m index seen sight named one shown none =
-    let to : FindsNamed m index (Some sight) None (Some one) = tt in
-    subst (λ (s : Option Sight). FindsNamed m index s named (Some one)) (sym shown)
-    (subst (λ (o : Option ℕ). FindsNamed m index (Some sight) o (Some one)) (sym none) to)
+-- where none is named, the branch of the first step
+pub finds_first : (m : AtMachine) (index : Index) (seen : Option Sight) (sight : Sight) (named : Option ℕ) (branch : ℕ) → seen ≡ Some sight →
+    named ≡ None → branch ≡ first_branch m sight.ready → FindsNamed m index seen named (Some (branch, 0))
+finds_first m index seen sight named branch shown none is =
+    let to : FindsNamed m index (Some sight) None (Some (branch, 0)) = ap (λ (b : ℕ). Some (b, 0)) is in
+    subst (λ (s : Option Sight). FindsNamed m index s named (Some (branch, 0))) (sym shown)
+    (subst (λ (o : Option ℕ). FindsNamed m index (Some sight) o (Some (branch, 0))) (sym none) to)

@@ -4,8 +4,9 @@ use Rattle.std.specs.Prelude.{ℕ, zero, suc, ◌≡◌, ◌⊎◌, ◌+◌, ◌
 use Rattle.dap_messages.specs.Notes.{IsRefusal}
 use Rattle.dap_messages.specs.declared.answer.Answer.{Answer}
 use Rattle.dap_moves.specs.Handles.{frame_id}
-use Rattle.dap_views.specs.Around.{call_of_place, calls_around}
+use Rattle.dap_views.specs.Around.{call_of_branch, call_of_place, calls_around}
 use Rattle.dap_views.specs.Ranks.{rank_of}
+use Rattle.dap_views.specs.Seen.{first_branch}
 use Rattle.dap_views.specs.declared.index.Index.{Index}
 use Rattle.dap_views.specs.declared.sight.Rank.{Rank}
 use Rattle.dap_views.specs.declared.sight.Sight.{Sight}
@@ -116,10 +117,10 @@ IsFrame m index sight number branch k =
 abbrev pub HasNoFrame : AtMachine → Index → Sight → ℕ → Type 0
 HasNoFrame m index sight number = (branch k : ℕ) → IsFrame m index sight number branch k → ⊥
 
--- the names of this call are seen in a frame; those of any where the branch is done
-abbrev pub SeesCall : Option Frame → ℕ → Type 0
-SeesCall None call = Unit {0}
-SeesCall (Some frame) call = call ≡ frame.call
+-- the call whose names are seen in a frame of this branch; where that is done, the one in whose body it began
+abbrev pub seen_call : Index → ℕ → Option Frame → ℕ
+seen_call index branch None = call_of_branch index branch
+seen_call index branch (Some frame) = frame.call
 
 -- what was found by a number: nothing where no frame has it; else the branch of the frame, and the call whose names are
 -- seen there
@@ -127,19 +128,20 @@ abbrev pub FindsFrame : AtMachine → Index → Sight → ℕ → Option (ℕ ×
 FindsFrame m index sight number None = HasNoFrame m index sight number
 FindsFrame m index sight number (Some found) =
     (k : ℕ) × IsFrame m index sight number found.0 k
-    × SeesCall (slice_get (frames_of m index sight found.0) k) found.1
+    × (found.1 ≡ seen_call index found.0 (slice_get (frames_of m index sight found.0) k))
 
--- what is found by the number that is named, where the state is seen so; where none is named, any frame
+-- what is found by the number that is named, where the state is seen so; where none is named, the branch of the first
+-- step that is ready, and the root
 abbrev pub FindsNamed : AtMachine → Index → Option Sight → Option ℕ → Option (ℕ × ℕ) → Type 0
 FindsNamed m index (Some sight) (Some number) found = FindsFrame m index sight number found
-FindsNamed m index (Some sight) None (Some found) = Unit {0}
-FindsNamed m index _ _ found = ⊥
+FindsNamed m index (Some sight) None found = found ≡ Some (first_branch m sight.ready, 0)
+FindsNamed m index None named found = ⊥
 
 -- nothing is found by it: that is refused, unless there is no memory
 abbrev pub Misses : AtMachine → Index → Option Sight → Option ℕ → Answer → Type 0
 Misses m index seen named b = (b.lacks ≡ true) ⊎ (IsRefusal b.outcome × FindsNamed m index seen named None)
 
--- branch k has the frame of the number that is named, where the state is seen so; where none is named, any branch may
--- be meant
+-- branch k has the frame of the number that is named, where the state is seen so; where none is named, it is that of
+-- the first step that is ready
 abbrev pub HasFrame : AtMachine → Index → Option Sight → Option ℕ → ℕ → Type 0
 HasFrame m index seen named k = (call : ℕ) × FindsNamed m index seen named (Some (k, call))

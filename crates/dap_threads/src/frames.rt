@@ -8,7 +8,7 @@ ghost use Rattle.dap_messages.specs.Notes.{IsRefusal};
 ghost use Rattle.dap_messages.specs.Written.{Has};
 ghost use Rattle.dap_moves.specs.Handles.{frame_id as model_id};
 ghost use Rattle.dap_views.specs.Around.{calls_around};
-ghost use Rattle.dap_threads.specs.Frames.{FindsFrame, FindsNamed, Misses, SeesCall, at_call, at_place, call_of, count_of, frame_count};
+ghost use Rattle.dap_threads.specs.Frames.{FindsFrame, FindsNamed, Misses, at_call, at_place, call_of, count_of, frame_count, seen_call};
 ghost use Rattle.dap_threads.specs.Frames as model;
 ghost use Rattle.dap_threads.specs.Stack.{IsStack, ListsFrames, ListsIds, asked_ids, first_in, is_asked, levels_by, levels_in};
 ghost use Rattle.dap_threads.specs.Threads.{branch_of, branch_named};
@@ -492,7 +492,8 @@ fn frame_named(
 /// The branch and the instance of the frame of this index, of these frames of the branch.
 fn frame_among(index: &Index, branch: u32, frames: &[Frame], number: u64) -> Option<(u32, usize)>
     ensures { MatchOption result (count_of frames.now ≤ number)
-        (λ found. (found.0 ≡ branch) × (number < count_of frames.now) × SeesCall (slice_get frames.now number) found.1) }
+        (λ found. (found.0 ≡ branch) × (number < count_of frames.now)
+        × (found.1 ≡ seen_call index.now branch (slice_get frames.now number))) }
 {
     if number < count_of(frames) {
         Some((branch, call_at(index, branch, frames, number as usize)))
@@ -503,7 +504,7 @@ fn frame_among(index: &Index, branch: u32, frames: &[Frame], number: u64) -> Opt
 
 /// The instance of the frame of this index; that in which the branch began, where it is done.
 fn call_at(index: &Index, branch: u32, frames: &[Frame], number: usize) -> usize
-    ensures { SeesCall (slice_get frames.now number) result }
+    ensures { result ≡ seen_call index.now branch (slice_get frames.now number) }
 {
     match frames.get(number) {
         Some(frame) => frame.call,

@@ -1,4 +1,13 @@
 // The list of threads.
+ghost use Rattle.std.specs.Prelude.{◌≡◌, ◌+◌, codes, false, map};
+ghost use Rattle.serde_json.specs.Data.{number, unsigned};
+ghost use Rattle.serde_json.specs.View.{view};
+ghost use Rattle.system_places.specs.SystemBranches.{branch_count};
+ghost use Rattle.dap_messages.specs.Written.{Has};
+ghost use Rattle.dap_threads.specs.Given.{AreNumbered, numbers_to};
+ghost use Rattle.dap_threads.specs.Threads.{ListsThreads};
+
+use crate::values::{lacking, listing};
 use address::{Address, compare};
 use dap_messages::{Answer, Listed, Members};
 use dap_moves::Machine;
@@ -17,27 +26,27 @@ struct Standing<'a> {
 }
 
 /// Answers `threads`: all branches, with how each stands.
-pub fn threads(alloc: Global, machine: &Machine, program: &Program, answer: &mut Answer) {
+pub fn threads(alloc: Global, machine: &Machine, program: &Program, answer: &mut Answer)
+    ensures { answer.new.lacks ≡ false → ListsThreads machine.now answer.new }
+{
     match &program.sight {
         Some(sight) => {
-            let body = thread_list(alloc, machine, program, sight);
-            answer.body(body);
+            let list = thread_list(alloc, machine, program, sight);
+            answer.body(listing(alloc, "threads", list));
         }
         None => answer.lacks = true,
     }
 }
 
 /// The list of threads.
-fn thread_list(alloc: Global, machine: &Machine, program: &Program, sight: &Sight) -> Members {
-    let mut body = Members::new(alloc);
+fn thread_list(alloc: Global, machine: &Machine, program: &Program, sight: &Sight) -> Listed
+    ensures { result.lacks ≡ false
+        → AreNumbered (map view result.made.items) (numbers_to (branch_count machine.now.checked)) }
+{
     match standings(alloc, machine.checked().system(), sight) {
-        Ok(standings) => {
-            let list = listed(alloc, machine, program, standings.as_slice());
-            body.list("threads", list);
-        }
-        Err(_) => body.lack(),
+        Ok(standings) => listed(alloc, machine, program, standings.as_slice()),
+        Err(_) => lacking(alloc),
     }
-    body
 }
 
 /// The threads that stand so.
@@ -46,7 +55,10 @@ fn listed(
     machine: &Machine,
     program: &Program,
     standings: &[Option<Standing<'_>>],
-) -> Listed {
+) -> Listed
+    ensures { result.lacks ≡ false
+        → AreNumbered (map view result.made.items) (numbers_to (branch_count machine.now.checked)) }
+{
     let mut list = Listed::new(alloc);
     for branch in 0..branch_count(machine.checked().system()) {
         let standing = standing_at(standings, branch);
@@ -146,11 +158,13 @@ fn thread(
     program: &Program,
     branch: u32,
     standing: Option<Standing<'_>>,
-) -> Members {
+) -> Members
+    ensures { Has result (codes "id") (number (unsigned (branch + 1))) }
+{
     let mut words = thread_name(alloc, machine, program, branch, standing);
     words.add(state_text(standing));
     let mut thread = Members::new(alloc);
-    thread.number("id", u64::from(branch).saturating_add(1));
+    thread.number("id", u64::from(branch) + 1);
     thread.text("name", words.as_str());
     thread
 }

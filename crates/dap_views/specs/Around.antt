@@ -27,6 +27,10 @@ outwards (suc n) index call = onwards (outwards n index) (around index call)
 abbrev pub calls_around : Index → ℕ → List ℕ
 calls_around index call = outwards (length index.calls.list.items) index call
 
+-- the call in whose body this branch begins; the root for a branch of the environment
+abbrev pub call_of_branch : Index → ℕ → ℕ
+call_of_branch index branch = unwrap_or (slice_get index.begins.items branch) 0
+
 -- the call to which a place belongs as the machine stands; the root for a place of the environment
 abbrev pub call_of_place : AtMachine → Index → Place → ℕ
 call_of_place m index place = unwrap_or (call_at index.calls (taken_by (events m.live)) place) 0

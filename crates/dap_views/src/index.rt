@@ -1,6 +1,6 @@
 // The names of variables and channels, by the call to which they belong.
 ghost use Rattle.std.specs.Prelude.{◌≡◌, None, length};
-ghost use Rattle.dap_views.specs.Around.{around, call_of_place};
+ghost use Rattle.dap_views.specs.Around.{around, call_of_branch, call_of_place};
 ghost use Rattle.dap_views.specs.Named.{call_named, differs, has_name, is_named, own_in, prefix_in, same_thing};
 
 use crate::words::Words;
@@ -131,9 +131,13 @@ impl Index {
     }
 
     /// The index of the instance in which this branch of the body begins; the root for another branch.
-    pub fn instance_of_branch(&self, branch: u32) -> usize {
-        let begin = self.begins.as_slice().get(branch as usize);
-        begin.copied().unwrap_or(0)
+    pub fn instance_of_branch(&self, branch: u32) -> usize
+        ensures { result ≡ call_of_branch self.now branch }
+    {
+        match self.begins.as_slice().get(branch as usize) {
+            Some(begin) => *begin,
+            None => 0,
+        }
     }
 
     /// The index of the instance whose names begin so.

@@ -1,6 +1,11 @@
 // The lines of a source: where each begins, and which procedure it is in.
-ghost use Rattle.std.specs.Prelude.{◌≡◌, nat_lt, not};
+ghost use Rattle.std.specs.Prelude.{◌≡◌, ◌++◌, ◌∷◌, List, None, IfOk, OnOk, map, nat_lt, not};
+ghost use Rattle.std.specs.Option.{option_to_list};
+ghost use Rattle.lexer.specs.Tokens.{AreTokens};
+ghost use Rattle.lexer.specs.declared.token.Token.{Token as Cut};
+ghost use Rattle.dap_views.specs.Lined.{AreLinesOf, begins_behind, begun_by, heading_lines, is_procedure};
 ghost use Rattle.dap_views.specs.Lined as model;
+ghost use Rattle.dap_views.specs.declared.lines.Heading.{Heading as Begin};
 
 use lexer::{Kind, Token, lex};
 use std::alloc::{AllocError, Global};
@@ -26,7 +31,9 @@ pub struct Lines {
 
 impl Lines {
     /// The lines of the source. It is an error if there is no memory.
-    pub fn new(alloc: Global, source: &[u8]) -> Result<Lines, AllocError> {
+    pub fn new(alloc: Global, source: &[u8]) -> Result<Lines, AllocError>
+        ensures { IfOk result (λ lines. AreLinesOf source.now lines) }
+    {
         let begins = begins_of(alloc, source)?;
         let behind = (begins.len() as u64).saturating_add(1);
         Ok(Lines {
@@ -114,19 +121,24 @@ impl Lines {
 }
 
 /// The offset at which each line begins.
-fn begins_of(alloc: Global, source: &[u8]) -> Result<Vec<usize>, AllocError> {
+fn begins_of(alloc: Global, source: &[u8]) -> Result<Vec<usize>, AllocError>
+    ensures { IfOk result (λ begins. begins.items ≡ 0 ∷ begins_behind 0 source.now) }
+{
     let mut begins = Vec::new(alloc);
     begins.push(0)?;
     for (offset, byte) in source.iter().enumerate() {
         if *byte == b'\n' {
-            begins.push(offset.saturating_add(1))?;
+            begins.push(offset + 1)?;
         }
     }
     Ok(begins)
 }
 
 /// The procedures of a source that was accepted.
-fn headings_of(alloc: Global, source: &[u8]) -> Result<Vec<Heading>, AllocError> {
+fn headings_of(alloc: Global, source: &[u8]) -> Result<Vec<Heading>, AllocError>
+    ensures { IfOk result (λ headings. (tokens : List Cut) × AreTokens source.now tokens
+        × (map (λ (h : Begin). h.line) headings.items ≡ heading_lines None tokens)) }
+{
     match lex(alloc, source) {
         Ok(tokens) => headings_among(alloc, tokens.as_slice()),
         Err(_) => Err(AllocError),
@@ -134,20 +146,54 @@ fn headings_of(alloc: Global, source: &[u8]) -> Result<Vec<Heading>, AllocError>
 }
 
 /// The procedures among these tokens.
-fn headings_among(alloc: Global, tokens: &[Token]) -> Result<Vec<Heading>, AllocError> {
+fn headings_among(alloc: Global, tokens: &[Token]) -> Result<Vec<Heading>, AllocError>
+    ensures { IfOk result (λ headings.
+        map (λ (h : Begin). h.line) headings.items ≡ heading_lines None tokens.now) }
+{
     let mut headings = Vec::new(alloc);
     let mut begun: Option<u64> = None;
     for token in tokens {
-        if let Some(line) = begun {
+        add_heading(alloc, begun, token, &mut headings)?;
+        begun = begun_by(token);
+    }
+    Ok(headings)
+}
+
+/// The line of a token that begins a procedure.
+fn begun_by(token: &Token) -> Option<u64>
+    ensures { result ≡ begun_by token.now }
+{
+    if is_procedure(token.kind) {
+        Some(token.span.line)
+    } else {
+        None
+    }
+}
+
+/// Whether it is the word `procedure`.
+fn is_procedure(kind: Kind) -> bool
+    ensures { result ≡ is_procedure kind }
+{
+    matches!(kind, Kind::ProcedureWord)
+}
+
+/// Adds the procedure that is called so, if one has begun.
+fn add_heading(
+    alloc: Global,
+    begun: Option<u64>,
+    token: &Token,
+    headings: &mut Vec<Heading>,
+) -> Result<(), AllocError>
+    ensures { OnOk result (map (λ (h : Begin). h.line) headings.new.items
+        ≡ map (λ (h : Begin). h.line) headings.old.items ++ option_to_list begun) }
+{
+    match begun {
+        Some(line) => {
             let name = str::from_utf8(token.text.text()).unwrap_or("");
             let name = String::from_str(alloc, name)?;
             headings.push(Heading { line, name })?;
+            Ok(())
         }
-        begun = if token.kind == Kind::ProcedureWord {
-            Some(token.span.line)
-        } else {
-            None
-        };
+        None => Ok(()),
     }
-    Ok(headings)
 }

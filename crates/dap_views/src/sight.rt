@@ -7,7 +7,8 @@ ghost use Rattle.runs.specs.Tests.{same_place};
 ghost use Rattle.local_actions.specs.Actions.{OffersExactly};
 ghost use Rattle.machine.specs.AtMachine.{object};
 ghost use Rattle.dap_views.specs.Ranks.{is_at, is_there, rank_of};
-ghost use Rattle.dap_views.specs.Seen.{SeesState};
+ghost use Rattle.dap_moves.specs.TakingBack.{acting_branch};
+ghost use Rattle.dap_views.specs.Seen.{SeesState, first_branch};
 
 use crate::lines::Lines;
 use crate::words::Words;
@@ -81,12 +82,21 @@ impl Sight {
     }
 
     /// The branch of the first step that is ready; the first where none is.
-    pub fn able(&self, machine: &Machine) -> u32 {
-        match self.ready.as_slice().first() {
-            Some(event) => branch_at(machine.checked().system(), event.acting_place()).unwrap_or(0),
-            None => 0,
+    pub fn able(&self, machine: &Machine) -> u32
+        ensures { result ≡ first_branch machine.now self.now.ready }
+    {
+        match self.ready.as_slice() {
+            [event, ..] => acting_branch(machine, event),
+            [] => 0,
         }
     }
+}
+
+/// The branch in which the event acts.
+fn acting_branch(machine: &Machine, event: &Event) -> u32
+    ensures { result ≡ acting_branch machine.now event.now }
+{
+    branch_at(machine.checked().system(), event.acting_place()).unwrap_or(0)
 }
 
 /// How far the place is from going on where these steps are ready.

@@ -1,11 +1,10 @@
 -- What is told behind one another.
-use Rattle.std.proofs.Common.{◌≡◌, ◌⊎◌, ℕ, List, [], ◌∷◌, ◌++◌, Bool, false, true, Option, Some, inl, inr, refl, sym, ◌∙◌, ap, subst, append_assoc, bytes_eq, codes}
+use Rattle.std.proofs.Common.{◌≡◌, ◌+◌, ℕ, List, [], ◌∷◌, ◌++◌, false, true, Option, Some, inl, inr, refl, sym, ◌∙◌, ap, subst, append_assoc, bytes_eq, codes}
 use Rattle.std.specs.Prelude.{option_and_then}
-use Rattle.serde_json.specs.Data.{Data, object, string}
-use Rattle.serde_json.specs.Find.{as_str}
+use Rattle.serde_json.specs.Data.{Data, number, object, string, unsigned}
+use Rattle.serde_json.specs.Find.{as_number, as_str, as_u64}
 use Rattle.serde_json.specs.View.{members_view}
 use Rattle.std.proofs.lemmas.List.{append-nil}
-use Rattle.syntax.specs.Lists.{Every}
 use Rattle.runs.specs.declared.event.Choice.{Choice}
 use Rattle.dap_messages.specs.Messages.{reason_of}
 use Rattle.dap_messages.specs.Notes.{Adds, IsDone, IsRefusal, told_by}
@@ -14,15 +13,12 @@ use Rattle.dap_messages.proofs.public.Held.{has_put, has_stays}
 use Rattle.dap_messages.proofs.public.Telling.{told-more}
 use Rattle.dap_messages.specs.declared.members.Members.{Members}
 use Rattle.dap_messages.specs.declared.answer.Answer.{Answer}
-use Rattle.dap_messages.specs.declared.answer.Effect.{Effect}
 use Rattle.dap_messages.specs.declared.answer.Note.{Note}
 use Rattle.dap_messages.specs.declared.answer.Outcome.{Outcome}
 use Rattle.dap_messages.specs.declared.told.Stop.{Stop}
 use Rattle.dap_messages.specs.declared.told.Told.{Told}
 use Rattle.locked_execution.specs.AtDesk.{AtDesk}
-use Rattle.dap_requests.specs.Back.{Remembers}
-use Rattle.dap_requests.specs.Said.{GivesReason, Tells, AreOutputs, TellsEnd, TellsOutputs, TellsStop, Runs}
-use Rattle.dap_requests.specs.Typed.{KeepsSome}
+use Rattle.dap_requests.specs.Said.{GivesStop, Tells, AreOutputs, TellsEnd, TellsOutputs, TellsStop, Runs}
 
 both-outputs : (ts us : List Told) → AreOutputs ts → AreOutputs us → AreOutputs (ts ++ us)
 both-outputs [] us h k = k
@@ -46,10 +42,11 @@ done_same x y same h = subst (λ (o : Outcome). IsDone o) (sym same) h
 -- what is done is not refused
 not-both : (o : Outcome) → IsDone o → IsRefusal o → ⊥
 not-both (Outcome.Done body) done refused = refused
-not-both (Outcome.Refused number words) done refused = done
+not-both (Outcome.Refused why words) done refused = done
 
-pub never_refused : (a m b : Answer) (stop : Stop) (X : Type 0) → m ≡ a → TellsStop m stop b → IsDone a.outcome → IsRefusal b.outcome → X
-never_refused a m b stop X same tells done refused =
+pub never_refused : (a m b : Answer) (stop : Stop) (branch : ℕ) (X : Type 0) → m ≡ a → TellsStop m stop branch b → IsDone a.outcome →
+    IsRefusal b.outcome → X
+never_refused a m b stop branch X same tells done refused =
     absurd (not-both b.outcome (tells.done (subst (λ (x : Answer). IsDone x.outcome) (sym same) done)) refused)
 
 -- some, and then others
@@ -103,21 +100,33 @@ says_on a m b h k = record {
   effect = k.effect ∙ h.effect;
 }
 
--- the reason is put among members, and stays where others are put, or where memory is lacking
-pub reason_put : (a b : Members) (stop : Stop) → Puts a (codes "reason") (string (reason_of stop)) b → GivesReason stop b
-reason_put a b stop h = has_put a b (codes "reason") (string (reason_of stop)) h
+-- the reason and the thread are put among members, and stay where others are put, or where memory is lacking
+pub stop_put : (a m b : Members) (stop : Stop) (branch : ℕ) → Puts a (codes "reason") (string (reason_of stop)) m →
+    Puts m (codes "threadId") (number (unsigned (branch + 1))) b → GivesStop stop branch b
+stop_put a m b stop branch h k = record {
+  reason =
+      has_stays m b (codes "reason") (codes "threadId") (string (reason_of stop)) (number (unsigned (branch + 1))) refl k
+      (has_put a m (codes "reason") (string (reason_of stop)) h);
+  thread = has_put m b (codes "threadId") (number (unsigned (branch + 1))) k;
+}
 
-pub reason_stays : (a b : Members) (stop : Stop) (name : List ℕ) (d : Data) → bytes_eq (codes "reason") name ≡ false → Puts a name d b →
-    GivesReason stop a → GivesReason stop b
-reason_stays a b stop name d apart h k = has_stays a b (codes "reason") name (string (reason_of stop)) d apart h k
+pub stop_stays : (a b : Members) (stop : Stop) (branch : ℕ) (name : List ℕ) (d : Data) → bytes_eq (codes "reason") name ≡ false →
+    bytes_eq (codes "threadId") name ≡ false → Puts a name d b → GivesStop stop branch a → GivesStop stop branch b
+stop_stays a b stop branch name d apart other h k = record {
+  reason = has_stays a b (codes "reason") name (string (reason_of stop)) d apart h k.reason;
+  thread = has_stays a b (codes "threadId") name (number (unsigned (branch + 1))) d other h k.thread;
+}
 
-pub reason_lacking : (b : Members) (stop : Stop) → b.lacks ≡ true → GivesReason stop b
-reason_lacking b stop lacks = λ full. let no : true ≡ false = sym lacks ∙ full in absurd (cc)
+pub stop_lacking : (b : Members) (stop : Stop) (branch : ℕ) → b.lacks ≡ true → GivesStop stop branch b
+stop_lacking b stop branch lacks = record {
+  reason = λ full. let no : true ≡ false = sym lacks ∙ full in absurd (cc);
+  thread = λ full. let no : true ≡ false = sym lacks ∙ full in absurd (cc);
+}
 
 -- one `stopped`
-pub stops_now : (a b : Answer) (stop : Stop) (ms : Members) → GivesReason stop ms →
-    Adds a (Told.Stopped stop) (Some (object (members_view ms.made.entries))) b → (b.lacks ≡ false → ms.lacks ≡ false) → TellsStop a stop b
-stops_now a b stop ms reason h whole = record {
+pub stops_now : (a b : Answer) (stop : Stop) (branch : ℕ) (ms : Members) → GivesStop stop branch ms →
+    Adds a (Told.Stopped stop) (Some (object (members_view ms.made.entries))) b → (b.lacks ≡ false → ms.lacks ≡ false) → TellsStop a stop branch b
+stops_now a b stop branch ms gives h whole = record {
   outputs = [];
   are = tt;
   told = tells_one a b (Told.Stopped stop) (Some (object (members_view ms.made.entries))) h;
@@ -126,7 +135,8 @@ stops_now a b stop ms reason h whole = record {
       a.notes.items,
       object (members_view ms.made.entries),
       added.0,
-      ap (λ (found : Option Data). option_and_then as_str found) (reason (whole full)),
+      ap (λ (found : Option Data). option_and_then as_str found) (gives.reason (whole full)),
+      ap (λ (found : Option Data). option_and_then as_u64 (option_and_then as_number found)) (gives.thread (whole full)),
     )
     | inr none ↦ let no : true ≡ false = sym none.1 ∙ full in absurd (cc)
   ];
@@ -135,8 +145,8 @@ stops_now a b stop ms reason h whole = record {
 }
 
 -- texts, and then others and one `stopped`
-pub stops_on : (a m b : Answer) (stop : Stop) → TellsOutputs a m → TellsStop m stop b → TellsStop a stop b
-stops_on a m b stop h k = record {
+pub stops_on : (a m b : Answer) (stop : Stop) (branch : ℕ) → TellsOutputs a m → TellsStop m stop branch b → TellsStop a stop branch b
+stops_on a m b stop branch h k = record {
   outputs = h.outputs ++ k.outputs;
   are = both-outputs h.outputs k.outputs h.are k.are;
   told = λ full.
@@ -171,36 +181,29 @@ ends_on a m b h k = record {
 }
 
 -- a body, and then one `stopped`
-pub stops_behind : (a m b : Answer) (stop : Stop) → m.notes ≡ a.notes → (m.lacks ≡ false → a.lacks ≡ false) → (IsDone a.outcome → IsDone m.outcome)
-    → m.effect ≡ a.effect → TellsStop m stop b → TellsStop a stop b
-stops_behind a m b stop same lacks done effect h = stops_on a m b stop (says_nothing a m same lacks done effect) h
+pub stops_behind : (a m b : Answer) (stop : Stop) (branch : ℕ) → m.notes ≡ a.notes → (m.lacks ≡ false → a.lacks ≡ false) →
+    (IsDone a.outcome → IsDone m.outcome) → m.effect ≡ a.effect → TellsStop m stop branch b → TellsStop a stop branch b
+stops_behind a m b stop branch same lacks done effect h = stops_on a m b stop branch (says_nothing a m same lacks done effect) h
 
 -- a request to run that is refused
-pub runs_refused : (a b : Answer) (d d' : AtDesk) (goes : Stop → Type 0) → IsRefusal b.outcome → b.notes ≡ a.notes → d' ≡ d → Runs a b d d' goes
-runs_refused a b d d' goes refused same stays = inl (refused, same, stays)
+pub runs_refused : (a b : Answer) (d d' : AtDesk) (before after : List Choice) (goes : Stop → ℕ → Type 0) → IsRefusal b.outcome → b.notes ≡ a.notes →
+    d' ≡ d → after ≡ before → Runs a b d d' before after goes
+runs_refused a b d d' before after goes refused same stays kept = inl (refused, same, stays, kept)
 
 -- one that ends
-pub runs_on : (a m b : Answer) (d d' : AtDesk) (goes : Stop → Type 0) → m ≡ a → (stop : Stop) × TellsStop m stop b × goes stop → Runs a b d d' goes
-runs_on a m b d d' goes same h = inr (h.0, subst (λ (x : Answer). TellsStop x h.0 b) same h.1, h.2)
+pub runs_on : (a m b : Answer) (d d' : AtDesk) (before after : List Choice) (goes : Stop → ℕ → Type 0) → m ≡ a →
+    (stop : Stop) × (branch : ℕ) × TellsStop m stop branch b × goes stop branch → Runs a b d d' before after goes
+runs_on a m b d d' before after goes same h = inr (h.0, h.1, subst (λ (x : Answer). TellsStop x h.0 h.1 b) same h.2, h.3)
 
 -- one that goes on so
-pub runs_after : (a m b : Answer) (d d' : AtDesk) (goes : Stop → Type 0) → m ≡ a → Runs m b d d' goes → Runs a b d d' goes
-runs_after a m b d d' goes same h = subst (λ (x : Answer). Runs x b d d' goes) same h
+pub runs_after : (a m b : Answer) (d d' : AtDesk) (before after : List Choice) (goes : Stop → ℕ → Type 0) → m ≡ a →
+    Runs m b d d' before after goes → Runs a b d d' before after goes
+runs_after a m b d d' before after goes same h = subst (λ (x : Answer). Runs x b d d' before after goes) same h
 
 -- one that does more than is asked for
-pub runs_weaker : (a b : Answer) (d d' : AtDesk) (goes will : Stop → Type 0) → ((stop : Stop) → goes stop → will stop) → Runs a b d d' goes → Runs a b d d' will
-runs_weaker a b d d' goes will more h = elim h [
+pub runs_weaker : (a b : Answer) (d d' : AtDesk) (before after : List Choice) (goes will : Stop → ℕ → Type 0) →
+    ((stop : Stop) (branch : ℕ) → goes stop branch → will stop branch) → Runs a b d d' before after goes → Runs a b d d' before after will
+runs_weaker a b d d' before after goes will more h = elim h [
   | inl refused ↦ inl refused
-  | inr ends ↦ inr (ends.0, ends.1, more ends.0 ends.2)
+  | inr ends ↦ inr (ends.0, ends.1, ends.2, more ends.0 ends.1 ends.3)
 ]
-
--- what a step back keeps in mind
-pub keeps_of : (d d' : AtDesk) (b : Answer) (before after : List Choice) → Remembers d d' b before after → KeepsSome b before after
-keeps_of d d' b before after h = elim h [
-  | inl none ↦ inl none
-  | inr more ↦ elim more [ inl same ↦ inr (inl same.0) | inr one ↦ inr (inr (inl one)) ]
-]
-
--- or a request that moves nothing
-pub keeps_same : (b : Answer) (before : List Choice) → KeepsSome b before before
-keeps_same b before = inr (inl refl)

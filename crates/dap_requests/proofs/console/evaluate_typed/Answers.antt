@@ -13,10 +13,11 @@ returns-in-Some-clause-refused c = elim c.typed.ensures.refused [
 pub returns-in-Some-clause-does : goal.returns-in-Some-clause-does
 returns-in-Some-clause-does c =
     evaluates_line c.args.program.now c.args.request.now c.args.desk.now c.typed.new.desk c.machine.result.now c.in-Some.branch
-    c.in-Some.instance c.line_in-line.result.now c.args.answer.now c.frame_in.new.answer c.typed.new.answer c.machine.ensures
+    c.in-Some.instance c.line_in-line.result.now c.args.answer.now c.frame_in.new.answer c.typed.new.answer c.args.memo.now.seen.items
+    c.typed.new.memo.seen.items c.machine.ensures
     c.in-Some.ensures.found c.line_in-line.ensures c.in-Some.ensures.same c.typed.ensures.does
 
 pub returns-in-None-clause-does : goal.returns-in-None-clause-does
 returns-in-None-clause-does c =
     evaluates_none c.args.program.now c.args.request.now c.args.desk.now c.args.desk.now c.machine.result.now c.args.answer.now
-    c.frame_in.new.answer c.machine.ensures refl c.in-None.ensures.same c.in-None.ensures.found
+    c.frame_in.new.answer c.args.memo.now.seen.items c.machine.ensures refl c.in-None.ensures.same c.in-None.ensures.found

@@ -5,8 +5,8 @@ use Rattle.dap_requests.proofs.Listing.{listed_in}
 use Rattle.dap_requests.proofs.Setting.{has_put}
 use Rattle.dap_requests.proofs.lists.give_made.Goals as goal
 
-pub returns : goal.returns
-returns c = λ full.
+pub returns-clause-list : goal.returns-clause-list
+returns-clause-list c = λ full.
     let done = c.body.ensures.body full in
     let items = array (items_view c.args.list.made.items) in (
       c.list.ensures.whole done.0,

@@ -14,6 +14,6 @@ returns-clause-goes c =
     c.args.answer.now c.body.new.self c.run.new.answer
     (says_nothing c.args.answer.now c.body.new.self c.body.ensures.same c.body.ensures.lacks c.body.ensures.done c.body.ensures.effect)
     (subst
-    (λ (only : Option ℕ). (stop : Stop) × TellsStop c.body.new.self stop c.run.new.answer
-    × RunsBy (going_of c.args.program.now only) (Some c.args.branch) c.args.desk.now before stop c.run.new.desk after)
+    (λ (only : Option ℕ). (stop : Stop) × (there : ℕ) × TellsStop c.body.new.self stop there c.run.new.answer
+    × RunsBy (going_of c.args.program.now only) (Some c.args.branch) c.args.desk.now before stop there c.run.new.desk after)
     c.alone-only.ensures c.run.ensures.goes)

@@ -9,7 +9,7 @@ pub returns-then-not-see_first-clause-goes : goal.returns-then-not-see_first-cla
 returns-then-not-see_first-clause-goes c =
     let before = c.args.memo.now.seen.items in
     let seen = c.see_first.new.seen.items in
-    runs_not (going_of c.args.program.now c.args.only) c.args.branch c.args.desk.now before seen 0
+    runs_not (going_of c.args.program.now c.args.only) c.args.branch c.args.desk.now before seen c.unwrap_or.result c.unwrap_or.ensures
     (MatchBool-at_false ((d : AtDesk) → d.machine ≡ c.machine.result.now → AreSeen d c.args.branch before seen) (seen ≡ before)
     c.if-not-see_first.true c.see_first.ensures)
 

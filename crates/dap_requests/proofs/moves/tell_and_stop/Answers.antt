@@ -1,6 +1,5 @@
-use Rattle.dap_messages.specs.declared.told.Stop.{Stop}
 use Rattle.dap_requests.proofs.public.Saying.{stops_on}
 use Rattle.dap_requests.proofs.moves.tell_and_stop.Goals as goal
 
 pub returns : goal.returns
-returns c = stops_on c.args.answer.now c.tell.new.answer c.stop.new.answer c.args.why c.tell.ensures c.stop.ensures
+returns c = stops_on c.args.answer.now c.tell.new.answer c.stop.new.answer c.args.why c.args.branch c.tell.ensures c.stop.ensures

@@ -1,8 +1,5 @@
-use Rattle.machine.proofs.public.Standing.{live-at}
+use Rattle.dap_threads.proofs.Unfolding.{leaves_more}
 use Rattle.dap_threads.proofs.values.add_step.Goals as goal
 
-pub first_dependent-requires : goal.first_dependent-requires
-first_dependent-requires c = (
-  c.in-Some.event.now,
-  live-at c.live_events-live.result.now.live c.in-Some.ticket c.args.index c.in-Some.event.now c.in-Some.ensures,
-)
+pub returns-in-Some : goal.returns-in-Some
+returns-in-Some c = leaves_more c.args.list.now c.push.new.self c.step.result c.step.ensures c.push.ensures
