@@ -35,6 +35,10 @@ fn in_place_of(word: &str) -> &'static str {
         "vars" => "the editor shows the variables, and `value X` tells one",
         "list" => "`view` shows the source with its marks",
         "waiting" => "the stack of a thread tells on which channel it waits",
+        "value" | "blame" | "rollvalue" =>
+            "with the whole name of a variable, as the lines of steps have it: `1:x` is x of call 1",
+        "step" => "with the place of what can be stepped, as `ready` lists it: `step /0.1`",
+        "branch" => "with the number of a branch, as `branch 0`",
         "session" => "the console is one session, and needs no such line",
         "quit" => "the editor ends the session",
         "help" =>
