@@ -13,6 +13,7 @@ use Rattle.dap_messages.specs.Arguments.{number_named}
 use Rattle.dap_messages.specs.Notes.{IsDone, IsRefusal}
 use Rattle.dap_messages.specs.declared.answer.Answer.{Answer}
 use Rattle.dap_messages.specs.declared.answer.Note.{Note}
+use Rattle.dap_messages.specs.declared.answer.Outcome.{Outcome}
 use Rattle.dap_messages.specs.declared.kind.Kind.{Kind}
 use Rattle.dap_messages.specs.declared.request.Request.{Request}
 use Rattle.dap_messages.specs.declared.told.Stop.{Stop}
@@ -30,10 +31,11 @@ use Rattle.dap_views.specs.declared.program.Memo.{Memo}
 use Rattle.dap_views.specs.declared.program.Program.{Program}
 use Rattle.dap_views.specs.declared.sight.Sight.{Sight}
 use Rattle.dap.specs.Begins.{Begins, begun}
-use Rattle.dap.specs.Goes.{Goes, GoesOn, HasBegun, IsSeen, IsSound, LaunchedGoes, Restarts, TellsBy, seen_as}
+use Rattle.dap.specs.Goes.{AnswersBy, Goes, GoesOn, HasBegun, IsSeen, IsSound, LaunchedGoes, Restarts, TellsBy, seen_as}
 use Rattle.dap.specs.Kinds.{asks, begins, changes, is_active, types}
 use Rattle.dap.specs.Sets.{Sets, SetsBegun, SetsBy}
 use Rattle.dap.specs.Steps.{Forward, IsDenied, Steps, thread_of}
+use Rattle.dap.specs.Stops.{RefusedAs}
 use Rattle.dap.specs.declared.launch.Launched.{Launched}
 use Rattle.dap.proofs.Seeing.{seen_still, sight_set}
 
@@ -160,6 +162,27 @@ tells_none Kind.SetBreakpoints a b one two same = absurd (one refl)
 tells_none Kind.Terminate a b one two same = absurd (two refl)
 tells_none _ a b one two same = same
 
+-- a request of a known kind is answered as that is
+pub answers_as : (kind known : Kind) (x y : Outcome) → kind ≡ known → AnswersBy known x y → AnswersBy kind x y
+answers_as kind known x y is h = subst (λ (k : Kind). AnswersBy k x y) (sym is) h
+
+-- one that is not known, or not any more, is refused
+pub answers_unknown : (kind : Kind) (x y : Outcome) → (kind ≡ Kind.Attach → ⊥) → (kind ≡ Kind.Launch → ⊥) → (kind ≡ Kind.Disconnect → ⊥) →
+    RefusedAs 101 y → AnswersBy kind x y
+answers_unknown Kind.Attach x y one two three h = absurd (one refl)
+answers_unknown Kind.Launch x y one two three h = absurd (two refl)
+answers_unknown Kind.Disconnect x y one two three h = absurd (three refl)
+answers_unknown Kind.Other x y one two three h = h
+answers_unknown _ x y one two three h = tt
+
+-- of one that may change the desk more is said elsewhere
+answers-changing : (kind : Kind) (x y : Outcome) → changes kind ≡ true → AnswersBy kind x y
+answers-changing Kind.Attach x y is = absurd (cc)
+answers-changing Kind.Launch x y is = absurd (cc)
+answers-changing Kind.Disconnect x y is = absurd (cc)
+answers-changing Kind.Other x y is = absurd (cc)
+answers-changing _ x y is = tt
+
 -- what is held back where it is over
 pub held_over : (over held : Bool) → (over && held) ≡ true → over ≡ true
 held_over true held h = refl
@@ -270,6 +293,14 @@ unchanging kind is reads =
     let other : changes kind ≡ true = ap (λ (b : Bool). b || asks kind) is in
     let no : true ≡ false = sym other ∙ reads in absurd (cc)
 
+-- what is not held back may move
+unheld : {X : Type 0} (p : Program) (request : Request) → (p.ended ≡ true → (is_active request ≡ false) × (begins request.kind ≡ false)) →
+    (p.begun ≡ false → is_active request ≡ false) → Rests p → is_active request ≡ true → X
+unheld p request over waits rests active = elim rests [
+  | inl ended ↦ let no : true ≡ false = sym active ∙ (over ended).0 in absurd (cc)
+  | inr waiting ↦ let no : true ≡ false = sym active ∙ waits waiting in absurd (cc)
+]
+
 done-or-same : (a b : Answer) (d d' : AtDesk) (goes : Stop → Type 0) → Runs a b d d' goes → (d' ≡ d) ⊎ (IsDone a.outcome → IsDone b.outcome)
 done-or-same a b d d' goes h = elim h [ inl refused ↦ inl refused.2 | inr ends ↦ inr ends.1.done ]
 
@@ -298,15 +329,18 @@ moves_goes l request a b d' memo is over waits led goes denied keeps =
       evaluates = λ same. absurd (not-both request.kind Kind.Evaluate is refl same);
       sets = sets-moving request l.desk.machine.checked.main (unseen l.program) b is;
       tells = λ reads. absurd (unchanging request.kind is reads);
+      answers = answers-changing request.kind a.outcome b.outcome (ap (λ (m : Bool). m || asks request.kind) is);
       keeps = keeps;
+      recalls = λ reads. absurd (unchanging request.kind is reads);
+      held = λ rests active. unheld l.program request over waits rests active;
       sees = λ seen same. seen_still l.desk d' l.program.sight l.program.sight refl same seen;
     }
 
 -- one that only reads the desk
 pub look_goes : (l : Launched) (request : Request) (a b : Answer) (q : Program) → moves request.kind ≡ false → asks request.kind ≡ false →
-    Sets request l.desk.machine.checked.main l.program b q → TellsBy request.kind a b →
+    Sets request l.desk.machine.checked.main l.program b q → TellsBy request.kind a b → AnswersBy request.kind a.outcome b.outcome →
     LaunchedGoes l request a b (record { program = q; memo = l.memo; desk = l.desk })
-look_goes l request a b q still none sets tells = record {
+look_goes l request a b q still none sets tells answers = record {
   led = led_nowhere l.desk;
   reads = λ reads. refl;
   stays = λ ended. refl;
@@ -319,7 +353,10 @@ look_goes l request a b q still none sets tells = record {
   evaluates = λ same. absurd (not-asked request.kind Kind.Evaluate none refl same);
   sets = sets-unseen request l.desk.machine.checked.main l.program q b sets;
   tells = λ reads. tells;
+  answers = answers;
   keeps = keeps_same b l.memo.seen.items;
+  recalls = λ reads. refl;
+  held = λ rests active. refl;
   sees = λ seen same.
       seen_still l.desk l.desk l.program.sight q.sight (sight_set request l.desk.machine.checked.main l.program q b sets) refl seen;
 }
@@ -337,11 +374,14 @@ held-goes l request a b sets changing why over refused same = record {
   looks = λ same typed. refl;
   moved = λ it. inl (refused, same, refl);
   denied = λ it done no. elim why [ inl over ↦ inl over | inr waits ↦ inr (inl waits) ];
-  begins = λ it. inl (refused, same, refl, inr (over it));
+  begins = λ it. inl (refused, same, refl, inr (over it), refl);
   evaluates = λ it. (l.program.sight, λ seen. seen, inl ((refl, same), inr (inl why)));
   sets = sets;
   tells = λ reads. let no : true ≡ false = sym changing ∙ reads in absurd (cc);
+  answers = answers-changing request.kind a.outcome b.outcome changing;
   keeps = keeps_same b l.memo.seen.items;
+  recalls = λ reads. refl;
+  held = λ rests active. refl;
   sees = λ seen stays. seen;
 }
 
@@ -389,7 +429,10 @@ typed_goes l request a b d' memo asking other over waits led looks does refused 
       evaluates = λ same. (l.program.sight, λ seen. seen, does);
       sets = typed-none request.kind (view request.arguments) l.desk.machine.checked.main (unseen l.program) b asking other;
       tells = λ reads. let no : true ≡ false = sym changing ∙ reads in absurd (cc);
+      answers = answers-changing request.kind a.outcome b.outcome changing;
       keeps = keeps;
+      recalls = λ reads. let no : true ≡ false = sym changing ∙ reads in absurd (cc);
+      held = λ rests active. unheld l.program request over waits rests active;
       sees = λ seen same. seen_still l.desk d' l.program.sight l.program.sight refl same seen;
     }
 
@@ -400,9 +443,17 @@ BeginsOrNot l m a b =
     ⊎ (Begins l m a b × (l.program.begun ≡ false) × (m.program ≡ begun l.program))
 
 begun-refused : (l m : Launched) (a b : Answer) → BeginsOrNot l m a b →
-    (IsRefusal b.outcome × (b.notes ≡ a.notes) × (m.desk ≡ l.desk) × HasBegun l.program) ⊎ Begins l m a b
+    (IsRefusal b.outcome × (b.notes ≡ a.notes) × (m.desk ≡ l.desk) × HasBegun l.program
+    × (m.memo.seen.items ≡ l.memo.seen.items))
+    ⊎ Begins l m a b
 begun-refused l m a b h = elim h [
-  | inl refused ↦ inl (refused.0, refused.1, ap (λ (x : Launched). x.desk) refused.2, inl refused.3)
+  | inl refused ↦ inl (
+    refused.0,
+    refused.1,
+    ap (λ (x : Launched). x.desk) refused.2,
+    inl refused.3,
+    ap (λ (x : Launched). x.memo.seen.items) refused.2,
+  )
   | inr begins ↦ inr begins.0
 ]
 
@@ -445,7 +496,11 @@ begins_goes l m request a b is over led h keeps =
           sets-unseen request l.desk.machine.checked.main l.program m.program b
           (sets_as request Kind.ConfigurationDone l.desk.machine.checked.main l.program m.program b is (begun-sets l m a b running h));
       tells = λ reads. let no : true ≡ false = sym changing ∙ reads in absurd (cc);
+      answers = answers-changing request.kind a.outcome b.outcome changing;
       keeps = keeps;
+      recalls = λ reads. let no : true ≡ false = sym changing ∙ reads in absurd (cc);
+      held = λ rests active.
+          let no : true ≡ false = sym active ∙ ap (λ (k : Kind). moves k || types k (is_typed request)) is in absurd (cc);
       sees = λ seen same. seen_still l.desk m.desk l.program.sight m.program.sight (begun-sight l m a b h) same seen;
     }
 
@@ -475,7 +530,10 @@ goes_unseen l m request a b s t memo same kept all goes =
       evaluates = λ is. let it = h.evaluates is in (it.0, λ seen. it.1 (kept seen), it.2);
       sets = h.sets;
       tells = h.tells;
+      answers = h.answers;
       keeps = h.keeps;
+      recalls = h.recalls;
+      held = h.held;
       sees = λ seen same. all seen;
     }
 
@@ -507,22 +565,18 @@ runs_in_thread a m b d d' machine request found k goes same is some answer h =
     (in_thread (λ (o : Option ℕ). Runs m b d d' (goes o)) d machine request found k same is some h)
 
 -- what comes of a request that is no move where nothing changes
-same : (x : Option Launched) (request : Request) (a b : Answer) → moves request.kind ≡ false → asks request.kind ≡ false → TellsBy request.kind a b →
+same : (x : Option Launched) (request : Request) (a b : Answer) → (request.kind ≡ Kind.Restart → ⊥) → moves request.kind ≡ false →
+    asks request.kind ≡ false → TellsBy request.kind a b → AnswersBy request.kind a.outcome b.outcome →
     ((l : Launched) → x ≡ Some l → Sets request l.desk.machine.checked.main l.program b l.program) → GoesOn x request a b x
-same None request a b still none tells sets = tt
-same (Some l) request a b still none tells sets = (look_goes l request a b l.program still none (sets l refl) tells, λ seen. seen)
-
--- what is launched goes on
-pub goes_on : (x y : Option Launched) (l m : Launched) (request : Request) (a b : Answer) → x ≡ Some l → y ≡ Some m → LaunchedGoes l request a b m →
-    (IsSeen l → IsSeen m) → GoesOn x request a b y
-goes_on x y l m request a b is there h sees =
-    let to : GoesOn (Some l) request a b (Some m) = (h, sees) in
-    subst (λ (z : Option Launched). GoesOn z request a b y) (sym is) (subst (λ (z : Option Launched). GoesOn (Some l) request a b z) (sym there) to)
+same None request a b other still none tells answers sets = tt
+same (Some l) request a b other still none tells answers sets =
+    (other, look_goes l request a b l.program still none (sets l refl) tells answers, λ seen. seen)
 
 -- it goes on, or is begun anew
 pub goes_anew : (reads : List ℕ → Option (List ℕ) → Type 0) (x y : Option Launched) (l m : Launched) (request : Request) (a b : Answer) →
     x ≡ Some l → y ≡ Some m →
-    ((request.kind ≡ Kind.Restart) × Restarts reads l request b m) ⊎ (LaunchedGoes l request a b m × (IsSeen l → IsSeen m)) →
+    ((request.kind ≡ Kind.Restart) × Restarts reads l request b m)
+    ⊎ ((request.kind ≡ Kind.Restart → ⊥) × LaunchedGoes l request a b m × (IsSeen l → IsSeen m)) →
     Goes reads x request a b y
 goes_anew reads x y l m request a b is there h =
     let to : Goes reads (Some l) request a b (Some m) = elim h [ inl anew ↦ inr anew | inr on ↦ inl on ] in
@@ -530,11 +584,13 @@ goes_anew reads x y l m request a b is there h =
     (subst (λ (z : Option Launched). Goes reads (Some l) request a b z) (sym there) to)
 
 -- nothing changes by a request of this kind
-pub goes_nowhere : (x y : Option Launched) (request : Request) (a b : Answer) (known : Kind) → request.kind ≡ known → moves known ≡ false →
-    asks known ≡ false → TellsBy known a b → ((d : Data) (c : Command) (p : Program) → SetsBy known d c p b p) → y ≡ x → GoesOn x request a b y
-goes_nowhere x y request a b known is still none tells sets there =
+pub goes_nowhere : (x y : Option Launched) (request : Request) (a b : Answer) (known : Kind) → request.kind ≡ known → (known ≡ Kind.Restart → ⊥) →
+    moves known ≡ false → asks known ≡ false → TellsBy known a b → AnswersBy known a.outcome b.outcome →
+    ((d : Data) (c : Command) (p : Program) → SetsBy known d c p b p) → y ≡ x → GoesOn x request a b y
+goes_nowhere x y request a b known is other still none tells answers sets there =
     subst (λ (z : Option Launched). GoesOn x request a b z) (sym there)
-    (same x request a b (ap (λ (k : Kind). moves k) is ∙ still) (ap (λ (k : Kind). asks k) is ∙ none) (tells_as request.kind known a b is tells)
+    (same x request a b (λ restart. other (sym is ∙ restart)) (ap (λ (k : Kind). moves k) is ∙ still) (ap (λ (k : Kind). asks k) is ∙ none)
+    (tells_as request.kind known a b is tells) (answers_as request.kind known a.outcome b.outcome is answers)
     (λ l at. sets_as request known l.desk.machine.checked.main l.program l.program b is
     (sets (view request.arguments) l.desk.machine.checked.main l.program)))
 

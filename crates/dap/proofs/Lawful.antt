@@ -20,7 +20,7 @@ led-on : (reads : List ℕ → Option (List ℕ) → Type 0) (x y : Option Launc
 led-on reads None None request a b led goes = tt
 led-on reads None (Some m) request a b led goes = absurd goes
 led-on reads (Some l) None request a b led goes = absurd goes
-led-on reads (Some l) (Some m) request a b led goes = (led.0, led.1, led.2, led.3, led_on led.2.desk l.desk m.desk led.4 goes.0.led)
+led-on reads (Some l) (Some m) request a b led goes = (led.0, led.1, led.2, led.3, led_on led.2.desk l.desk m.desk led.4 goes.1.led)
 
 -- one that begins anew
 led-new : (reads : List ℕ → Option (List ℕ) → Type 0) (x y : Option Launched) (request : Request) (b : Answer) → IsLed reads x →
@@ -57,7 +57,7 @@ sees-on : (x y : Option Launched) (request : Request) (a b : Answer) → IsTrueO
 sees-on None None request a b seen goes = tt
 sees-on None (Some m) request a b seen goes = absurd goes
 sees-on (Some l) None request a b seen goes = absurd goes
-sees-on (Some l) (Some m) request a b seen goes = goes.1 seen
+sees-on (Some l) (Some m) request a b seen goes = goes.2 seen
 
 sees-new : (reads : List ℕ → Option (List ℕ) → Type 0) (x y : Option Launched) (request : Request) (b : Answer) → IsTrueOf x →
     GoesNew reads x request b y → IsTrueOf y

@@ -85,7 +85,7 @@ moves-on None y request a b empty done is goes early =
 moves-on (Some l) None request a b empty done is goes early = absurd goes
 moves-on (Some l) (Some m) request a b empty done is goes early =
     stops_once a b l.desk m.desk
-    (λ (stop : Stop). Steps l.program l.memo.seen.items m.memo.seen.items l.desk request.kind request stop m.desk) empty done (goes.0.moved is)
+    (λ (stop : Stop). Steps l.program l.memo.seen.items m.memo.seen.items l.desk request.kind request stop m.desk) empty done (goes.1.moved is)
 
 pub moves_stop : (reads : List ℕ → Option (List ℕ) → Type 0) (x y : Option Launched) (request : Request) (a b : Answer) → a.notes.items ≡ [] →
     IsDone a.outcome → moves request.kind ≡ true → Goes reads x request a b y →

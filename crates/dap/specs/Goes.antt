@@ -5,12 +5,13 @@ use Rattle.machine.specs.Headline.{Headline}
 use Rattle.locked_execution.specs.AtDesk.{execution}
 use Rattle.dap_messages.specs.Notes.{IsDone, IsRefusal}
 use Rattle.dap_messages.specs.declared.answer.Answer.{Answer}
+use Rattle.dap_messages.specs.declared.answer.Outcome.{Outcome}
 use Rattle.dap_messages.specs.declared.kind.Kind.{Kind}
 use Rattle.dap_messages.specs.declared.request.Request.{Request}
 use Rattle.dap_messages.specs.declared.told.Told.{Told}
 use Rattle.dap_moves.specs.Led.{Led}
 use Rattle.dap_requests.specs.Said.{Runs, Tells}
-use Rattle.dap_requests.specs.Typed.{Evaluates, KeepsSome, is_typed}
+use Rattle.dap_requests.specs.Typed.{Evaluates, KeepsSome, Rests, is_typed}
 use Rattle.dap_server.specs.Kinds.{moves}
 use Rattle.dap_views.specs.Kept.{unseen}
 use Rattle.dap_views.specs.Seen.{Sees}
@@ -22,12 +23,13 @@ use Rattle.dap.specs.Asking.{Asks, IsAsked, asked_by}
 use Rattle.dap.specs.Begins.{Begins}
 use Rattle.dap.specs.Early.{EarlyBy}
 use Rattle.dap.specs.Files.{Reads}
-use Rattle.dap.specs.Kinds.{changes, ends, opens}
+use Rattle.dap.specs.Kinds.{changes, ends, is_active, opens}
 use Rattle.dap.specs.Launching.{IsBegun}
 use Rattle.dap.specs.Meeting.{ClientBy, excepts_behind}
 use Rattle.dap.specs.Sets.{Sets}
 use Rattle.dap.specs.Steps.{MayRefuse, Steps}
-use Rattle.dap.specs.Stops.{NotDone, StopsOnce}
+use Rattle.dap.specs.Stops.{NotDone, RefusedAs, StopsOnce}
+use Rattle.dap.specs.Unlaunched.{CannotRestart}
 use Rattle.dap.specs.declared.face.Face.{Face}
 use Rattle.dap.specs.declared.launch.Launched.{Launched}
 
@@ -39,12 +41,21 @@ IsSeen l = Sees l.desk.machine l.program.sight
 abbrev pub seen_as : Launched → Option Sight → Launched
 seen_as l sight = record l { program = record l.program { sight = sight } }
 
--- which events a request of this kind tells that changes nothing on the desk: `terminate` that it is over; where
--- breakpoints are set on lines that is not said here; all others tell none
+-- which events a request of this kind tells that changes nothing on the desk: `terminate` that it is over, and it is
+-- done; where breakpoints are set on lines that is not said here; all others tell none
 abbrev pub TellsBy : Kind → Answer → Answer → Type 0
-TellsBy Kind.Terminate a b = Tells a (Told.Terminated ∷ []) b
+TellsBy Kind.Terminate a b = Tells a (Told.Terminated ∷ []) b × (IsDone a.outcome → IsDone b.outcome)
 TellsBy Kind.SetBreakpoints a b = Unit {0}
 TellsBy _ a b = b.notes ≡ a.notes
+
+-- how a request of this kind is answered that needs nothing of what is launched: `attach`, another `launch` and what is
+-- not known are refused, each by its number, and `disconnect` is done
+abbrev pub AnswersBy : Kind → Outcome → Outcome → Type 0
+AnswersBy Kind.Attach x y = RefusedAs 113 y
+AnswersBy Kind.Launch x y = RefusedAs 107 y
+AnswersBy Kind.Other x y = RefusedAs 101 y
+AnswersBy Kind.Disconnect x y = IsDone x → IsDone y
+AnswersBy _ x y = Unit {0}
 
 -- its run has begun, or it is over
 abbrev pub HasBegun : Program → Type 0
@@ -54,7 +65,8 @@ HasBegun program = (program.begun ≡ true) ⊎ (program.ended ≡ true)
 -- leave, and the same where the request only reads, where it is refused, where words are only looked at, where the run
 -- has not begun, or where the client was told that it is over; a request to run moves it as it should, or is refused
 -- for one of three reasons; a line that is typed does what it asks for, where its frame is one of the state; each sets
--- what it asks for alone; and what is shown of the state is so where the desk stays
+-- what it asks for alone; the steps before which a run has stood stay in mind where it only reads, or comes too early
+-- or too late; and what is shown of the state is so where the desk stays
 pub record LaunchedGoes (l : Launched) (request : Request) (a b : Answer) (m : Launched) : Type 0 where
   pub led : Led l.desk m.desk
   pub reads : changes request.kind ≡ false → m.desk ≡ l.desk
@@ -67,27 +79,35 @@ pub record LaunchedGoes (l : Launched) (request : Request) (a b : Answer) (m : L
       (λ stop. Steps l.program l.memo.seen.items m.memo.seen.items l.desk request.kind request stop m.desk)
   pub denied : moves request.kind ≡ true → IsDone a.outcome → IsRefusal b.outcome → MayRefuse l.program l.desk request
   pub begins : request.kind ≡ Kind.ConfigurationDone →
-      (IsRefusal b.outcome × (b.notes ≡ a.notes) × (m.desk ≡ l.desk) × HasBegun l.program) ⊎ Begins l m a b
+      (IsRefusal b.outcome × (b.notes ≡ a.notes) × (m.desk ≡ l.desk) × HasBegun l.program
+      × (m.memo.seen.items ≡ l.memo.seen.items))
+      ⊎ Begins l m a b
   pub evaluates : request.kind ≡ Kind.Evaluate →
       (sight : Option Sight) × (IsSeen l → IsSeen (seen_as l sight))
       × Evaluates (seen_as l sight).program request l.desk a b m.desk
   pub sets : Sets request l.desk.machine.checked.main (unseen l.program) b (unseen m.program)
   pub tells : changes request.kind ≡ false → TellsBy request.kind a b
+  pub answers : AnswersBy request.kind a.outcome b.outcome
   pub keeps : KeepsSome b l.memo.seen.items m.memo.seen.items
+  pub recalls : changes request.kind ≡ false → m.memo.seen.items ≡ l.memo.seen.items
+  pub held : Rests l.program → is_active request ≡ true → m.memo.seen.items ≡ l.memo.seen.items
   pub sees : IsSeen l → m.desk ≡ l.desk → IsSeen m
 
 -- a restart launches what its arguments name, where they name a program, and else the same again, from the files as
--- they are now; what the client had set is kept, and it begins; or all is as it was
+-- they are now; what the client had set is kept, and it begins; or all is as it was, since there was no memory, or that
+-- cannot be launched
 abbrev pub Restarts : Reads → Launched → Request → Answer → Launched → Type 0
 Restarts reads l request b m =
     ((asked : Asks) × (anew : Launched) × IsMeant (brought request) (asked_by l.program.launch) asked
     × IsBegun reads l.program.counting asked anew × GoesAnew l anew b m)
-    ⊎ ((m ≡ l) × NotDone b)
+    ⊎ ((m ≡ l) × NotDone (CannotRestart reads (brought request) (asked_by l.program.launch)) b)
 
--- what is launched goes on as a request says, and nothing else is launched; requests look at the state as it is
+-- what is launched goes on as a request says that is no restart, and nothing else is launched; requests look at the
+-- state as it is
 abbrev pub GoesOn : Option Launched → Request → Answer → Answer → Option Launched → Type 0
 GoesOn None request a b None = Unit {0}
-GoesOn (Some l) request a b (Some m) = LaunchedGoes l request a b m × (IsSeen l → IsSeen m)
+GoesOn (Some l) request a b (Some m) =
+    (request.kind ≡ Kind.Restart → ⊥) × LaunchedGoes l request a b m × (IsSeen l → IsSeen m)
 GoesOn _ request a b _ = ⊥
 
 -- nothing was launched, and a launch begins what its arguments ask for; or a restart begins anew, or was refused

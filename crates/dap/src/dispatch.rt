@@ -8,7 +8,7 @@ ghost use Rattle.dap_requests.specs.Sets.{SetsExcepts, SetsWatched};
 ghost use Rattle.dap_server.specs.Kinds.{moves};
 ghost use Rattle.dap_views.specs.Kept.{unseen};
 ghost use Rattle.dap_views.specs.Seen.{Sees};
-ghost use Rattle.dap.specs.Goes.{IsSeen, LaunchedGoes, TellsBy};
+ghost use Rattle.dap.specs.Goes.{AnswersBy, IsSeen, LaunchedGoes, TellsBy};
 ghost use Rattle.dap.specs.Kinds.{asks, begins, is_active, may_move, types};
 ghost use Rattle.dap.specs.Sets.{Sets};
 
@@ -246,6 +246,7 @@ fn look(
     requires { asks request.now.kind ≡ false }
     ensures sets { Sets request.now machine.now.checked.main program.old answer.new program.new }
     ensures tells { TellsBy request.now.kind answer.old answer.new }
+    ensures answers { AnswersBy request.now.kind answer.old.outcome answer.new.outcome }
 {
     match request.kind {
         Kind::SetBreakpoints => set_lines(alloc, machine, program, request, answer),
@@ -302,7 +303,8 @@ fn show(
     request: &Request,
     answer: &mut Answer,
 )
-    ensures { answer.new.notes ≡ answer.old.notes }
+    ensures quiet { answer.new.notes ≡ answer.old.notes }
+    ensures answers { AnswersBy request.now.kind answer.old.outcome answer.new.outcome }
 {
     let notes = mem::replace(&mut answer.notes, Vec::new(alloc));
     tell(alloc, machine, program, memo, request, answer);
@@ -317,7 +319,9 @@ fn tell(
     memo: &Memo,
     request: &Request,
     answer: &mut Answer,
-) {
+)
+    ensures { AnswersBy request.now.kind answer.old.outcome answer.new.outcome }
+{
     match request.kind {
         Kind::Threads => threads(alloc, machine, program, answer),
         Kind::StackTrace => stack_trace(alloc, machine, program, request, answer),
@@ -339,13 +343,9 @@ fn terminate(program: &mut Program, answer: &mut Answer)
 }
 
 /// Answers a request that has nothing to do with the machine.
-fn tell_other(
-    alloc: Global,
-    program: &Program,
-    memo: &Memo,
-    request: &Request,
-    answer: &mut Answer,
-) {
+fn tell_other(alloc: Global, program: &Program, memo: &Memo, request: &Request, answer: &mut Answer)
+    ensures { AnswersBy request.now.kind answer.old.outcome answer.new.outcome }
+{
     match request.kind {
         Kind::ExceptionInfo => exception_info(alloc, memo, answer),
         Kind::Completions => completions(alloc, program, request, answer),

@@ -1,18 +1,20 @@
 // Another launch in place of one.
-ghost use Rattle.std.specs.Prelude.{◌≡◌, ◌⊎◌, IfOk, IfSome, string_bytes, true};
+ghost use Rattle.std.specs.Prelude.{◌≡◌, ◌⊎◌, IfOk, MatchOption, Some, [], false, string_bytes, true};
 ghost use Rattle.std.specs.Option.{option_map};
 ghost use Rattle.serde_json.specs.View.{view};
+ghost use Rattle.dap_requests.specs.Sets.{ArePlaced, file_of, is_again};
 ghost use Rattle.dap.specs.Anew.{GoesAnew, IsMeant, KeepsSet, brought};
 ghost use Rattle.dap.specs.Anew as model;
 ghost use Rattle.dap.specs.Asking.{Asks, asked_by};
 ghost use Rattle.dap.specs.Goes.{Restarts};
 ghost use Rattle.dap.specs.Launching.{IsBegun};
 ghost use Rattle.dap.specs.Stops.{NotDone};
+ghost use Rattle.dap.specs.Unlaunched.{CannotBegin, CannotRestart};
 
 use crate::begin::begin;
 use crate::launch::{Launched, start, start_as};
 use crate::sources::Sources;
-use dap_messages::{Answer, Outcome, Request, field};
+use dap_messages::{Answer, Request, field};
 use dap_requests::{Placing, place_again, tell, tell_changed};
 use dap_views::{Launch, Program, is_same_file};
 use serde_json::Value;
@@ -32,17 +34,7 @@ pub(crate) fn restart<F: Sources>(
 {
     match started_again(alloc, files, &launched.program, request, answer) {
         Some(anew) => replace(alloc, launched, anew, answer),
-        None => note_none(answer),
-    }
-}
-
-/// Keeps in mind that nothing is launched: where that was not refused, there was no memory.
-pub(crate) fn note_none(answer: &mut Answer)
-    ensures { NotDone answer.new }
-{
-    match answer.outcome {
-        Outcome::Done(_) => answer.lacks = true,
-        Outcome::Refused(_, _) => {}
+        None => {}
     }
 }
 
@@ -65,6 +57,8 @@ fn begin_again(
     placing: Placing,
     answer: &mut Answer,
 )
+    requires { ArePlaced (is_again launched.old.program anew.program) anew.desk.machine.checked.main
+        anew.program.lines [] launched.old.program.asked.items placing.asked.items placing.stops.items }
     ensures { GoesAnew launched.old anew answer.new launched.new }
 {
     let is_lost = take_over(alloc, launched, anew);
@@ -101,8 +95,9 @@ fn started_again<F: Sources>(
     request: &Request,
     answer: &mut Answer,
 ) -> Option<Launched>
-    ensures { IfSome result (λ launched. (asked : Asks)
-        × IsMeant (brought request.now) (asked_by program.now.launch) asked
+    ensures { MatchOption result
+        (NotDone (CannotRestart (F.reads files.now) (brought request.now) (asked_by program.now.launch)) answer.new)
+        (λ launched. (asked : Asks) × IsMeant (brought request.now) (asked_by program.now.launch) asked
         × IsBegun (F.reads files.now) program.now.counting asked launched) }
 {
     match brought_by(request) {
@@ -149,7 +144,9 @@ fn start_same<F: Sources>(
     program: &Program,
     answer: &mut Answer,
 ) -> Option<Launched>
-    ensures { IfSome result (IsBegun (F.reads files.now) program.now.counting (asked_by program.now.launch)) }
+    ensures { MatchOption result
+        (NotDone (CannotBegin (F.reads files.now) (asked_by program.now.launch)) answer.new)
+        (IsBegun (F.reads files.now) program.now.counting (asked_by program.now.launch)) }
 {
     match same_launch(alloc, &program.launch) {
         Ok(asked) => start_as(alloc, files, program.counting, asked, answer),
@@ -204,6 +201,9 @@ fn keep_settings(alloc: Global, old: &mut Program, program: &mut Program)
 /// Keeps the file for which breakpoints were asked, where it is another one.
 fn keep_file(alloc: Global, old: &mut Program, program: &mut Program)
     ensures program { program.new ≡ record program.old { elsewhere = program.new.elsewhere } }
+    ensures again { is_again old.old program.old ≡ true → program.new.elsewhere ≡ program.old.elsewhere }
+    ensures elsewhere { is_again old.old program.old ≡ false
+        → option_map (λ file. string_bytes file) program.new.elsewhere ≡ Some (file_of old.old) }
     ensures source { old.new.source ≡ old.old.source }
     ensures watched { old.new.watched ≡ old.old.watched }
 {
@@ -215,6 +215,7 @@ fn keep_file(alloc: Global, old: &mut Program, program: &mut Program)
 
 /// The file for which breakpoints were asked: it is taken out.
 fn file_of(alloc: Global, old: &mut Program) -> String
+    ensures file { string_bytes result ≡ file_of old.old }
     ensures source { old.new.source ≡ old.old.source }
     ensures watched { old.new.watched ≡ old.old.watched }
 {

@@ -16,4 +16,4 @@ returns-else-is_asked c =
     (sym c.is_move.ensures ∙ c.if-is_move.false) (sym c.is_asked.ensures ∙ c.if-is_asked.false)
     (subst
     (λ (m : AtMachine). Sets c.args.request.now m.checked.main c.args.launched.now.program c.look.new.answer c.look.new.program)
-    c.machine.ensures c.look.ensures.sets) c.look.ensures.tells
+    c.machine.ensures c.look.ensures.sets) c.look.ensures.tells c.look.ensures.answers

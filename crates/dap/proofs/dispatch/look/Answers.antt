@@ -1,8 +1,10 @@
-use Rattle.std.proofs.Common.{None, refl}
+use Rattle.std.proofs.Common.{None, refl, subst, sym}
+use Rattle.dap_messages.specs.Notes.{IsDone}
+use Rattle.dap_messages.specs.declared.answer.Outcome.{Outcome}
 use Rattle.dap_messages.specs.declared.kind.Kind.{Kind}
 use Rattle.dap_messages.specs.declared.told.Told.{Told}
 use Rattle.dap_requests.proofs.public.Saying.{tells_one}
-use Rattle.dap.proofs.Going.{sets_as, sets_none, tells_as, tells_none}
+use Rattle.dap.proofs.Going.{answers_as, sets_as, sets_none, tells_as, tells_none}
 use Rattle.dap.proofs.Stopping.{tells_last}
 use Rattle.dap.proofs.dispatch.look.Goals as goal
 
@@ -43,8 +45,10 @@ returns-in-Terminate-clause-sets c =
 
 pub returns-in-Terminate-clause-tells : goal.returns-in-Terminate-clause-tells
 returns-in-Terminate-clause-tells c =
-    tells_as c.args.request.now.kind Kind.Terminate c.args.answer.now c.terminate.new.answer c.in-Terminate.is
-    (tells_one c.args.answer.now c.terminate.new.answer Told.Terminated None c.terminate.ensures.tells)
+    tells_as c.args.request.now.kind Kind.Terminate c.args.answer.now c.terminate.new.answer c.in-Terminate.is (
+      tells_one c.args.answer.now c.terminate.new.answer Told.Terminated None c.terminate.ensures.tells,
+      λ done. subst (λ (o : Outcome). IsDone o) (sym c.terminate.ensures.tells.outcome) done,
+    )
 
 pub returns-in-BreakpointLocations-clause-sets : goal.returns-in-BreakpointLocations-clause-sets
 returns-in-BreakpointLocations-clause-sets c =
@@ -65,4 +69,27 @@ returns-in_default-clause-sets c =
 pub returns-in_default-clause-tells : goal.returns-in_default-clause-tells
 returns-in_default-clause-tells c =
     tells_none c.args.request.now.kind c.args.answer.now c.show.new.answer c.in_default.not-SetBreakpoints c.in_default.not-Terminate
-    c.show.ensures
+    c.show.ensures.quiet
+
+pub returns-in-SetBreakpoints-clause-answers : goal.returns-in-SetBreakpoints-clause-answers
+returns-in-SetBreakpoints-clause-answers c =
+    answers_as c.args.request.now.kind Kind.SetBreakpoints c.args.answer.now.outcome c.set_lines.new.answer.outcome c.in-SetBreakpoints.is tt
+
+pub returns-in-SetDataBreakpoints-clause-answers : goal.returns-in-SetDataBreakpoints-clause-answers
+returns-in-SetDataBreakpoints-clause-answers c =
+    answers_as c.args.request.now.kind Kind.SetDataBreakpoints c.args.answer.now.outcome c.watch.new.answer.outcome c.in-SetDataBreakpoints.is tt
+
+pub returns-in-SetExceptionBreakpoints-clause-answers : goal.returns-in-SetExceptionBreakpoints-clause-answers
+returns-in-SetExceptionBreakpoints-clause-answers c =
+    answers_as c.args.request.now.kind Kind.SetExceptionBreakpoints c.args.answer.now.outcome c.filter.new.answer.outcome c.in-SetExceptionBreakpoints.is tt
+
+pub returns-in-Terminate-clause-answers : goal.returns-in-Terminate-clause-answers
+returns-in-Terminate-clause-answers c =
+    answers_as c.args.request.now.kind Kind.Terminate c.args.answer.now.outcome c.terminate.new.answer.outcome c.in-Terminate.is tt
+
+pub returns-in-BreakpointLocations-clause-answers : goal.returns-in-BreakpointLocations-clause-answers
+returns-in-BreakpointLocations-clause-answers c =
+    answers_as c.args.request.now.kind Kind.BreakpointLocations c.args.answer.now.outcome c.locate.new.answer.outcome c.in-BreakpointLocations.is tt
+
+pub returns-in_default-clause-answers : goal.returns-in_default-clause-answers
+returns-in_default-clause-answers c = c.show.ensures.answers

@@ -4,8 +4,8 @@ use Rattle.dap.proofs.restart.restart.Goals as goal
 pub returns-in-Some : goal.returns-in-Some
 returns-in-Some g c = elim c.replace.ensures [
   | inl anew ↦ inl (c.in-Some.ensures.0, c.in-Some.anew, c.in-Some.ensures.1, c.in-Some.ensures.2, anew)
-  | inr same ↦ inr (same.0, inr same.1)
+  | inr same ↦ inr (same.0, inl same.1)
 ]
 
 pub returns-in-None : goal.returns-in-None
-returns-in-None g c = inr (refl, c.note_none.ensures)
+returns-in-None g c = inr (refl, c.in-None.ensures)
