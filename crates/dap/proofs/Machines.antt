@@ -1,5 +1,5 @@
 -- The machine with which a program is launched.
-use Rattle.std.proofs.Common.{◌≡◌, ◌⊎◌, ℕ, List, [], true, Option, Some, None, Vec, Global, inl, inr, refl, sym, ◌∙◌, ap, subst}
+use Rattle.std.proofs.Common.{◌≡◌, ℕ, List, [], true, Option, Some, None, Vec, Global, inl, inr, refl, sym, ◌∙◌, ap, subst}
 use Rattle.std.specs.Prelude.{Result, Ok, Err, MatchOption, MatchResult, unwrap_or}
 use Rattle.system.specs.declared.system.System.{System}
 use Rattle.front_end.specs.Accepting.{AcceptedAs}
@@ -68,47 +68,47 @@ begun_by (Some l) reads d counting asked a m b h k =
 -- the same again
 pub begun_same : (r : Option Launched) (reads : List ℕ → Option (List ℕ) → Type 0) (counting : Counting) (asked before : Asks) (a b : Answer) →
     asked ≡ before → MatchOption r (NotDone (CannotBegin reads asked) b) (λ (l : Launched). TellsBegun reads counting asked a b l) →
-    MatchOption r (NotDone (CannotBegin reads before) b) (λ (l : Launched). IsBegun reads counting before l)
+    MatchOption r (NotDone (CannotBegin reads before) b) (λ (l : Launched). TellsBegun reads counting before a b l)
 begun_same None reads counting asked before a b same h = subst (λ (x : Asks). NotDone (CannotBegin reads x) b) same h
-begun_same (Some l) reads counting asked before a b same h = subst (λ (x : Asks). IsBegun reads counting x l) same h.0
+begun_same (Some l) reads counting asked before a b same h = subst (λ (x : Asks). TellsBegun reads counting x a b l) same h
 
 -- what a restart launches
 again-by : (r : Option Launched) (reads : List ℕ → Option (List ℕ) → Type 0) (counting : Counting) (before : Asks) (d : Data) (a b : Answer) →
     MatchOption r (NotDone (CannotLaunch reads d) b)
     (λ (l : Launched). (asked : Asks) × IsAsked d asked × TellsBegun reads counting asked a b l) →
     MatchOption r (NotDone (CannotRestart reads (Some d) before) b)
-    (λ (l : Launched). (asked : Asks) × IsMeant (Some d) before asked × IsBegun reads counting asked l)
+    (λ (l : Launched). (asked : Asks) × IsMeant (Some d) before asked × TellsBegun reads counting asked a b l)
 again-by None reads counting before d a b h = h
-again-by (Some l) reads counting before d a b h = (h.0, h.1, h.2.0)
+again-by (Some l) reads counting before d a b h = h
 
-again-same : (r : Option Launched) (reads : List ℕ → Option (List ℕ) → Type 0) (counting : Counting) (before : Asks) (b : Answer) →
-    MatchOption r (NotDone (CannotBegin reads before) b) (λ (l : Launched). IsBegun reads counting before l) →
+again-same : (r : Option Launched) (reads : List ℕ → Option (List ℕ) → Type 0) (counting : Counting) (before : Asks) (a b : Answer) →
+    MatchOption r (NotDone (CannotBegin reads before) b) (λ (l : Launched). TellsBegun reads counting before a b l) →
     MatchOption r (NotDone (CannotRestart reads None before) b)
-    (λ (l : Launched). (asked : Asks) × IsMeant None before asked × IsBegun reads counting asked l)
-again-same None reads counting before b h = h
-again-same (Some l) reads counting before b h = (before, refl, h)
+    (λ (l : Launched). (asked : Asks) × IsMeant None before asked × TellsBegun reads counting asked a b l)
+again-same None reads counting before a b h = h
+again-same (Some l) reads counting before a b h = (before, refl, h)
 
 pub again_by : (r : Option Launched) (reads : List ℕ → Option (List ℕ) → Type 0) (counting : Counting) (before : Asks) (brought : Option Data) (d : Data)
     (a b : Answer) → brought ≡ Some d →
     MatchOption r (NotDone (CannotLaunch reads d) b)
     (λ (l : Launched). (asked : Asks) × IsAsked d asked × TellsBegun reads counting asked a b l) →
     MatchOption r (NotDone (CannotRestart reads brought before) b)
-    (λ (l : Launched). (asked : Asks) × IsMeant brought before asked × IsBegun reads counting asked l)
+    (λ (l : Launched). (asked : Asks) × IsMeant brought before asked × TellsBegun reads counting asked a b l)
 again_by r reads counting before brought d a b is h =
     subst
     (λ (o : Option Data). MatchOption r (NotDone (CannotRestart reads o before) b)
-    (λ (l : Launched). (asked : Asks) × IsMeant o before asked × IsBegun reads counting asked l))
+    (λ (l : Launched). (asked : Asks) × IsMeant o before asked × TellsBegun reads counting asked a b l))
     (sym is) (again-by r reads counting before d a b h)
 
-pub again_same : (r : Option Launched) (reads : List ℕ → Option (List ℕ) → Type 0) (counting : Counting) (before : Asks) (brought : Option Data) (b : Answer) →
-    brought ≡ None → MatchOption r (NotDone (CannotBegin reads before) b) (λ (l : Launched). IsBegun reads counting before l) →
+pub again_same : (r : Option Launched) (reads : List ℕ → Option (List ℕ) → Type 0) (counting : Counting) (before : Asks) (brought : Option Data) (a b : Answer) →
+    brought ≡ None → MatchOption r (NotDone (CannotBegin reads before) b) (λ (l : Launched). TellsBegun reads counting before a b l) →
     MatchOption r (NotDone (CannotRestart reads brought before) b)
-    (λ (l : Launched). (asked : Asks) × IsMeant brought before asked × IsBegun reads counting asked l)
-again_same r reads counting before brought b is h =
+    (λ (l : Launched). (asked : Asks) × IsMeant brought before asked × TellsBegun reads counting asked a b l)
+again_same r reads counting before brought a b is h =
     subst
     (λ (o : Option Data). MatchOption r (NotDone (CannotRestart reads o before) b)
-    (λ (l : Launched). (asked : Asks) × IsMeant o before asked × IsBegun reads counting asked l))
-    (sym is) (again-same r reads counting before b h)
+    (λ (l : Launched). (asked : Asks) × IsMeant o before asked × TellsBegun reads counting asked a b l))
+    (sym is) (again-same r reads counting before a b h)
 
 -- it is that of the texts
 begins-so : (source stimulus : List ℕ) (system : System) (trace : Option (List ℕ)) (r : Result AtMachine Failed) (a m b : Answer) →

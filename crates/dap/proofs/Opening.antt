@@ -113,6 +113,7 @@ begun-excepting reads counting asked excepts l h = record {
       launch = h.fresh.unset.launch;
       counts = h.fresh.unset.counts;
       text = h.fresh.unset.text;
+      cut = h.fresh.unset.cut;
       lines = h.fresh.unset.lines;
       elsewhere = h.fresh.unset.elsewhere;
       stops = h.fresh.unset.stops;

@@ -1,5 +1,5 @@
 -- The texts that are read for a launch.
-use Rattle.std.proofs.Common.{ℕ, ◌≡◌, ◌⊎◌, ◌∙◌, List, [], Option, None, Some, Vec, Global, inl, inr, refl, sym, ap, subst}
+use Rattle.std.proofs.Common.{ℕ, ◌≡◌, ◌∙◌, List, [], Option, None, Some, Vec, Global, inl, inr, refl, sym, ap, subst}
 use Rattle.std.specs.Prelude.{Result, Ok, Err, MatchResult, unwrap_or}
 use Rattle.dap_messages.specs.declared.answer.Answer.{Answer}
 use Rattle.dap.specs.Asking.{Asks, beside}

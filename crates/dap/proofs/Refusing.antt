@@ -1,5 +1,5 @@
 -- How something is refused.
-use Rattle.std.proofs.Common.{ℕ, ◌≡◌, ◌⊎◌, ◌∙◌, List, Bool, true, false, Option, Some, inl, inr, refl, sym, subst, string_bytes}
+use Rattle.std.proofs.Common.{ℕ, ◌≡◌, ◌∙◌, List, Bool, true, false, inl, inr, refl, sym, subst}
 use Rattle.dap_messages.specs.Notes.{Refuses}
 use Rattle.dap_messages.specs.declared.answer.Answer.{Answer}
 use Rattle.dap_messages.specs.declared.answer.Outcome.{Outcome}

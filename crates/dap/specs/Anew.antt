@@ -1,13 +1,15 @@
 -- Another launch in place of one.
-use Rattle.std.specs.Prelude.{◌≡◌, ◌≢◌, Bool, false, true, [], Option, None, Some, codes, if◌then◌else◌, is_some, option_and_then, string_bytes}
+use Rattle.std.specs.Prelude.{◌≡◌, ◌≢◌, List, ◌++◌, Bool, false, true, [], Option, None, Some, codes, if◌then◌else◌, is_some, option_and_then, string_bytes}
 use Rattle.std.specs.Option.{option_map}
 use Rattle.serde_json.specs.Data.{Data}
 use Rattle.serde_json.specs.View.{view}
 use Rattle.dap_messages.specs.Arguments.{part_named}
 use Rattle.dap_messages.specs.declared.answer.Answer.{Answer}
 use Rattle.dap_messages.specs.declared.request.Request.{Request}
+use Rattle.dap_messages.specs.declared.told.Told.{Told}
 use Rattle.dap_moves.specs.Led.{Led}
-use Rattle.dap_requests.specs.Sets.{ArePlaced, file_of, is_again}
+use Rattle.dap_requests.specs.Said.{AreOutputs, Tells}
+use Rattle.dap_requests.specs.Sets.{ArePlaced, changes_of, file_of, is_again}
 use Rattle.dap_views.specs.declared.program.Program.{Program}
 use Rattle.dap.specs.Asking.{Asks, IsAsked}
 use Rattle.dap.specs.Begins.{Begins, begun}
@@ -58,12 +60,17 @@ KeepsLines l anew k =
     ArePlaced (is_again l.program anew.program) anew.desk.machine.checked.main anew.program.lines []
     l.program.asked.items k.asked.items k.stops.items
 
--- with that kept it begins, and the answer tells how
-pub record GoesAnew (l anew : Launched) (b : Answer) (m : Launched) : Type 0 where
+-- texts are told, and behind them of each breakpoint that it has changed
+abbrev pub TellsAnew : Program → Answer → Answer → Type 0
+TellsAnew k a b = (texts : List Told) × AreOutputs texts × Tells a (texts ++ changes_of k.asked.items) b
+
+-- with that kept it begins, behind what is told of that, and the answer tells how
+pub record GoesAnew (l anew : Launched) (a b : Answer) (m : Launched) : Type 0 where
   pub kept : Program
   pub keeps : KeepsSet l.program anew.program kept
   pub places : KeepsLines l anew kept
   pub start : Answer
+  pub tells : TellsAnew kept a start
   pub begins : Begins (record anew { program = kept }) m start b
   pub sets : m.program ≡ begun kept
   pub once : BeginsOnce b

@@ -7,6 +7,7 @@ use Rattle.trace_file.specs.Loading.{IsLoaded}
 use Rattle.locked_execution.specs.AtDesk.{AtDesk, new_desk}
 use Rattle.dap_messages.specs.declared.answer.Answer.{Answer}
 use Rattle.dap_moves.specs.Led.{Led}
+use Rattle.dap_views.specs.Lined.{AreLinesOf}
 use Rattle.dap_views.specs.declared.program.Counting.{Counting}
 use Rattle.dap_views.specs.declared.program.Program.{Program}
 use Rattle.dap.specs.Asking.{Asks, asked_by}
@@ -28,6 +29,7 @@ pub record IsUnset (asked : Asks) (counting : Counting) (source : List ℕ) (p :
   pub launch : asked_by p.launch ≡ asked
   pub counts : p.counting ≡ counting
   pub text : p.source.items ≡ source
+  pub cut : AreLinesOf source p.lines
   pub lines : p.asked.items ≡ []
   pub elsewhere : p.elsewhere ≡ None
   pub stops : p.stops.items ≡ []

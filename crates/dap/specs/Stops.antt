@@ -13,12 +13,13 @@ abbrev pub EndsInStop : Stop → List Told → Type 0
 EndsInStop stop told = (outputs : List Told) × AreOutputs outputs × (told ≡ outputs ++ Told.Stopped stop ∷ [])
 
 -- it is a refusal and tells nothing, or it is done, and a `stopped` comes whatever memory there is; where there is
--- memory for the whole answer, that is the last that it tells, with the reason, and no other is told
+-- memory for the whole answer, that is the last that it tells, with the reason and the thread of a branch, and no other
+-- is told
 abbrev pub StopsOnce : Answer → Type 0
 StopsOnce a =
     (IsRefusal a.outcome × (told_by a.notes.items ≡ []))
-    ⊎ (IsDone a.outcome × ((stop : Stop) × (a.effect ≡ Effect.Due (Told.Stopped stop))
-    × (a.lacks ≡ false → EndsInStop stop (told_by a.notes.items) × SaysStop stop a)))
+    ⊎ (IsDone a.outcome × ((stop : Stop) × (branch : ℕ) × (a.effect ≡ Effect.Due (Told.Stopped stop))
+    × (a.lacks ≡ false → EndsInStop stop (told_by a.notes.items) × SaysStop stop branch a)))
 
 -- this event comes whatever memory there is; where there is memory for the whole answer, it is the last that it tells
 pub record EndsWith (a : Answer) (told : Told) : Type 0 where

@@ -4,11 +4,11 @@ ghost use Rattle.serde_json.specs.View.{view};
 ghost use Rattle.dap_messages.specs.Notes.{Adds, IsRefusal};
 ghost use Rattle.dap_messages.specs.declared.told.Told.{Told as Tells};
 ghost use Rattle.dap_requests.specs.Locations.{Locates};
-ghost use Rattle.dap_requests.specs.Sets.{SetsExcepts, SetsWatched};
+ghost use Rattle.dap_requests.specs.Sets.{AnswersFilters, SetsExcepts, SetsWatched, filters_refused};
 ghost use Rattle.dap_server.specs.Kinds.{moves};
 ghost use Rattle.dap_views.specs.Kept.{unseen};
 ghost use Rattle.dap_views.specs.Seen.{Sees};
-ghost use Rattle.dap.specs.Goes.{AnswersBy, IsSeen, LaunchedGoes, TellsBy};
+ghost use Rattle.dap.specs.Goes.{AnswersBy, IsSeen, LaunchedGoes, ShowsBy, TellsBy};
 ghost use Rattle.dap.specs.Kinds.{asks, begins, is_active, may_move, types};
 ghost use Rattle.dap.specs.Sets.{Sets};
 
@@ -245,7 +245,10 @@ fn look(
 )
     requires { asks request.now.kind ≡ false }
     ensures sets { Sets request.now machine.now.checked.main program.old answer.new program.new }
-    ensures tells { TellsBy request.now.kind answer.old answer.new }
+    ensures tells { TellsBy request.now.kind (view request.now.arguments) program.old answer.old program.new
+        answer.new }
+    ensures shows { ShowsBy request.now.kind machine.now program.old.index program.old.sight
+        (view request.now.arguments) answer.new }
     ensures answers { AnswersBy request.now.kind answer.old.outcome answer.new.outcome }
 {
     match request.kind {
@@ -272,6 +275,7 @@ fn watch(alloc: Global, program: &mut Program, request: &Request, answer: &mut A
 fn filter(alloc: Global, program: &mut Program, request: &Request, answer: &mut Answer)
     ensures sets { SetsExcepts (view request.now.arguments) program.old program.new }
     ensures quiet { answer.new.notes ≡ answer.old.notes }
+    ensures answers { AnswersFilters (filters_refused (view request.now.arguments)) answer.old answer.new }
 {
     let notes = mem::replace(&mut answer.notes, Vec::new(alloc));
     set_exceptions(program, request, answer);
@@ -305,6 +309,8 @@ fn show(
 )
     ensures quiet { answer.new.notes ≡ answer.old.notes }
     ensures answers { AnswersBy request.now.kind answer.old.outcome answer.new.outcome }
+    ensures shows { ShowsBy request.now.kind machine.now program.now.index program.now.sight
+        (view request.now.arguments) answer.new }
 {
     let notes = mem::replace(&mut answer.notes, Vec::new(alloc));
     tell(alloc, machine, program, memo, request, answer);
@@ -320,7 +326,9 @@ fn tell(
     request: &Request,
     answer: &mut Answer,
 )
-    ensures { AnswersBy request.now.kind answer.old.outcome answer.new.outcome }
+    ensures answers { AnswersBy request.now.kind answer.old.outcome answer.new.outcome }
+    ensures shows { ShowsBy request.now.kind machine.now program.now.index program.now.sight
+        (view request.now.arguments) answer.new }
 {
     match request.kind {
         Kind::Threads => threads(alloc, machine, program, answer),

@@ -289,7 +289,7 @@ fn ask_of<F: Sources>(
     answer: &mut Answer,
 )
     ensures { ((request.now.kind ≡ Asks.Restart)
-        × Restarts (F.reads files.now) launched.old request.now answer.new launched.new)
+        × Restarts (F.reads files.now) launched.old request.now answer.old answer.new launched.new)
         ⊎ ((request.now.kind ≡ Asks.Restart → ⊥)
         × LaunchedGoes launched.old request.now answer.old answer.new launched.new
         × (IsSeen launched.old → IsSeen launched.new)) }

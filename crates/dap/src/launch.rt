@@ -5,6 +5,7 @@ ghost use Rattle.front_end.specs.FaultNumbers.{fault_number};
 ghost use Rattle.trace_file.specs.Loading.{IsLoaded};
 ghost use Rattle.serde_json.specs.View.{view};
 ghost use Rattle.machine.specs.AtMachine.{AtMachine};
+ghost use Rattle.dap_views.specs.Lined.{AreLinesOf};
 ghost use Rattle.dap.specs.Asking.{Asks, IsAsked, asked_by};
 ghost use Rattle.dap.specs.Files.{text_of};
 ghost use Rattle.dap.specs.Launching.{BeginsAt, BeginsOn, IsNew, IsUnset, TellsBegun};
@@ -192,7 +193,9 @@ fn program_of(
 }
 
 /// What the source declares, and its lines.
-fn seen_in(alloc: Global, source: &[u8]) -> Result<(Index, Lines), AllocError> {
+fn seen_in(alloc: Global, source: &[u8]) -> Result<(Index, Lines), AllocError>
+    ensures { IfOk result (λ found. AreLinesOf source.now found.1) }
+{
     let index = Index::new(alloc, source)?;
     let lines = Lines::new(alloc, source)?;
     Ok((index, lines))
@@ -207,6 +210,7 @@ fn unset(
     lines: Lines,
     counting: Counting,
 ) -> Program
+    requires { AreLinesOf source.items lines }
     ensures { IsUnset (asked_by launch) counting source.items result }
 {
     Program {

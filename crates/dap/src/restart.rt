@@ -2,12 +2,13 @@
 ghost use Rattle.std.specs.Prelude.{◌≡◌, ◌⊎◌, IfOk, MatchOption, Some, [], false, string_bytes, true};
 ghost use Rattle.std.specs.Option.{option_map};
 ghost use Rattle.serde_json.specs.View.{view};
-ghost use Rattle.dap_requests.specs.Sets.{ArePlaced, file_of, is_again};
+ghost use Rattle.dap_requests.specs.Said.{TellsOutputs};
+ghost use Rattle.dap_requests.specs.Sets.{ArePlaced, changes_of, file_of, is_again};
 ghost use Rattle.dap.specs.Anew.{GoesAnew, IsMeant, KeepsSet, brought};
 ghost use Rattle.dap.specs.Anew as model;
 ghost use Rattle.dap.specs.Asking.{Asks, asked_by};
 ghost use Rattle.dap.specs.Goes.{Restarts};
-ghost use Rattle.dap.specs.Launching.{IsBegun};
+ghost use Rattle.dap.specs.Launching.{TellsBegun};
 ghost use Rattle.dap.specs.Stops.{NotDone};
 ghost use Rattle.dap.specs.Unlaunched.{CannotBegin, CannotRestart};
 
@@ -30,7 +31,7 @@ pub(crate) fn restart<F: Sources>(
     request: &Request,
     answer: &mut Answer,
 )
-    ensures { Restarts (F.reads files.now) launched.old request.now answer.new launched.new }
+    ensures { Restarts (F.reads files.now) launched.old request.now answer.old answer.new launched.new }
 {
     match started_again(alloc, files, &launched.program, request, answer) {
         Some(anew) => replace(alloc, launched, anew, answer),
@@ -40,7 +41,7 @@ pub(crate) fn restart<F: Sources>(
 
 /// Takes what was launched anew in place of what was, if there is memory for its breakpoints.
 fn replace(alloc: Global, launched: &mut Launched, anew: Launched, answer: &mut Answer)
-    ensures { GoesAnew launched.old anew answer.new launched.new
+    ensures { GoesAnew launched.old anew answer.old answer.new launched.new
         ⊎ ((launched.new ≡ launched.old) × (answer.new.lacks ≡ true)) }
 {
     match place_again(alloc, anew.desk.machine(), &launched.program, &anew.program) {
@@ -57,9 +58,10 @@ fn begin_again(
     placing: Placing,
     answer: &mut Answer,
 )
-    requires { ArePlaced (is_again launched.old.program anew.program) anew.desk.machine.checked.main
+    requires placed { ArePlaced (is_again launched.old.program anew.program) anew.desk.machine.checked.main
         anew.program.lines [] launched.old.program.asked.items placing.asked.items placing.stops.items }
-    ensures { GoesAnew launched.old anew answer.new launched.new }
+    requires shown { changes_of placing.shown.items ≡ changes_of placing.asked.items }
+    ensures { GoesAnew launched.old anew answer.old answer.new launched.new }
 {
     let is_lost = take_over(alloc, launched, anew);
     tell_unwatched(alloc, is_lost, answer);
@@ -68,7 +70,9 @@ fn begin_again(
 }
 
 /// Tells that nothing is watched any more, where something was.
-fn tell_unwatched(alloc: Global, is_lost: bool, answer: &mut Answer) {
+fn tell_unwatched(alloc: Global, is_lost: bool, answer: &mut Answer)
+    ensures { TellsOutputs answer.old answer.new }
+{
     if is_lost {
         let words = "The source is another one: its data breakpoints have to be set again.";
         tell(alloc, words, "console", answer);
@@ -98,7 +102,7 @@ fn started_again<F: Sources>(
     ensures { MatchOption result
         (NotDone (CannotRestart (F.reads files.now) (brought request.now) (asked_by program.now.launch)) answer.new)
         (λ launched. (asked : Asks) × IsMeant (brought request.now) (asked_by program.now.launch) asked
-        × IsBegun (F.reads files.now) program.now.counting asked launched) }
+        × TellsBegun (F.reads files.now) program.now.counting asked answer.old answer.new launched) }
 {
     match brought_by(request) {
         Some(arguments) => start(alloc, files, program.counting, arguments, answer),
@@ -146,7 +150,7 @@ fn start_same<F: Sources>(
 ) -> Option<Launched>
     ensures { MatchOption result
         (NotDone (CannotBegin (F.reads files.now) (asked_by program.now.launch)) answer.new)
-        (IsBegun (F.reads files.now) program.now.counting (asked_by program.now.launch)) }
+        (TellsBegun (F.reads files.now) program.now.counting (asked_by program.now.launch) answer.old answer.new) }
 {
     match same_launch(alloc, &program.launch) {
         Ok(asked) => start_as(alloc, files, program.counting, asked, answer),

@@ -1,4 +1,4 @@
-use Rattle.std.proofs.Common.{ℕ, ◌≡◌, ◌∙◌, inr}
+use Rattle.std.proofs.Common.{ℕ, ◌≡◌, ◌∙◌}
 use Rattle.front_end.specs.FaultNumbers.{fault_number}
 use Rattle.dap.proofs.Refusing.{not_done_weaker}
 use Rattle.dap.proofs.launch.refuse_texts.Goals as goal

@@ -1,4 +1,4 @@
-use Rattle.std.proofs.Common.{ℕ, ◌≡◌, inr, refl}
+use Rattle.std.proofs.Common.{ℕ, ◌≡◌, inr}
 use Rattle.trace_file.specs.FaultNumbers.{fault_number}
 use Rattle.dap.specs.Unlaunched.{IsOfTrace}
 use Rattle.dap.proofs.Refusing.{not_done_on}

@@ -1,4 +1,4 @@
-use Rattle.std.proofs.Common.{Option, ap, sym, ◌∙◌}
+use Rattle.std.proofs.Common.{ap, sym, ◌∙◌}
 use Rattle.std.specs.Option.{option_map}
 use Rattle.serde_json.specs.View.{view}
 use Rattle.dap.specs.Anew.{brought}
@@ -15,5 +15,5 @@ returns-in-Some g c =
 pub returns-in-None : goal.returns-in-None
 returns-in-None g c =
     again_same c.start_same.result (g.F.Sources.reads c.args.files.now) c.args.program.now.counting (asked_by c.args.program.now.launch)
-    (brought c.args.request.now) c.start_same.new.answer
+    (brought c.args.request.now) c.args.answer.now c.start_same.new.answer
     (sym c.brought_by.ensures ∙ ap (λ o. option_map (λ v. view v.now) o) c.in-None.is) c.start_same.ensures

@@ -1,9 +1,8 @@
-use Rattle.std.proofs.Common.{Option, ap, subst, sym, refl, None, List, ℕ}
+use Rattle.std.proofs.Common.{Option, ap}
 use Rattle.std.specs.Prelude.{String, string_bytes}
 use Rattle.std.specs.Option.{option_map}
 use Rattle.std.specs.declared.alloc.Global.{Global}
 use Rattle.dap.specs.Asking.{asked_by}
-use Rattle.dap.specs.Files.{IsTrace}
 use Rattle.dap.proofs.Reading.{trace_named}
 use Rattle.dap.proofs.texts.trace.Goals as goal
 
