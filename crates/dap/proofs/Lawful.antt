@@ -1,11 +1,11 @@
 -- What holds after the requests of a session.
-use Rattle.std.proofs.Common.{◌≡◌, ◌⊎◌, ◌+◌, ◌++◌, ◌∷◌, [], ℕ, List, length, Option, None, Some, true, inl, inr, sym, subst, ap, ◌∙◌}
+use Rattle.std.proofs.Common.{◌≡◌, ◌⊎◌, ◌+◌, ◌∷◌, [], ℕ, List, length, Option, None, Some, true, inl, inr, sym, subst, ap, ◌∙◌}
 use Rattle.std.specs.Prelude.{Ok, Err, OnOk, Result}
 use Rattle.std.specs.Io.KnownBytes.{IsAtEnd}
 use Rattle.dap_messages.specs.declared.answer.Answer.{Answer}
 use Rattle.dap_messages.specs.declared.request.Request.{Request}
 use Rattle.dap_moves.proofs.public.Leading.{led_nowhere, led_on}
-use Rattle.dap_server.specs.Session.{Serves, Session}
+use Rattle.dap_server.specs.Session.{Serves}
 use Rattle.dap_views.specs.Seen.{Sees}
 use Rattle.dap_views.specs.declared.program.Program.{Program}
 use Rattle.dap_views.specs.declared.sight.Sight.{Sight}
@@ -20,15 +20,15 @@ led-on : (reads : List ℕ → Option (List ℕ) → Type 0) (x y : Option Launc
 led-on reads None None request a b led goes = tt
 led-on reads None (Some m) request a b led goes = absurd goes
 led-on reads (Some l) None request a b led goes = absurd goes
-led-on reads (Some l) (Some m) request a b led goes = (led.0, led.1, led.2, led.3, led_on led.2.desk l.desk m.desk led.4 goes.0.led)
+led-on reads (Some l) (Some m) request a b led goes = (led.0, led.1, led.2, led.3, led_on led.2.desk l.desk m.desk led.4 goes.1.led)
 
 -- one that begins anew
-led-new : (reads : List ℕ → Option (List ℕ) → Type 0) (x y : Option Launched) (request : Request) (b : Answer) → IsLed reads x →
-    GoesNew reads x request b y → IsLed reads y
-led-new reads None None request b led goes = absurd goes
-led-new reads (Some l) None request b led goes = absurd goes
-led-new reads None (Some m) request b led goes = (goes.1.0, goes.1.1, m, goes.1.3, led_nowhere m.desk)
-led-new reads (Some l) (Some m) request b led goes = elim goes.1 [
+led-new : (reads : List ℕ → Option (List ℕ) → Type 0) (x y : Option Launched) (request : Request) (a b : Answer) → IsLed reads x →
+    GoesNew reads x request a b y → IsLed reads y
+led-new reads None None request a b led goes = absurd goes
+led-new reads (Some l) None request a b led goes = absurd goes
+led-new reads None (Some m) request a b led goes = (goes.1.0, goes.1.1, m, goes.1.3, led_nowhere m.desk)
+led-new reads (Some l) (Some m) request a b led goes = elim goes.1 [
   | inl anew ↦ (l.program.counting, anew.0, anew.1, anew.3, anew.4.led)
   | inr still ↦ subst (λ (n : Launched). IsLed reads (Some n)) (sym still.0) led
 ]
@@ -37,7 +37,7 @@ led-one : (reads : List ℕ → Option (List ℕ) → Type 0) (x y : Option Laun
     Goes reads x request a b y → IsLed reads y
 led-one reads x y request a b led goes = elim goes [
   | inl on ↦ led-on reads x y request a b led on
-  | inr anew ↦ led-new reads x y request b led anew
+  | inr anew ↦ led-new reads x y request a b led anew
 ]
 
 -- all of them
@@ -57,14 +57,14 @@ sees-on : (x y : Option Launched) (request : Request) (a b : Answer) → IsTrueO
 sees-on None None request a b seen goes = tt
 sees-on None (Some m) request a b seen goes = absurd goes
 sees-on (Some l) None request a b seen goes = absurd goes
-sees-on (Some l) (Some m) request a b seen goes = goes.1 seen
+sees-on (Some l) (Some m) request a b seen goes = goes.2 seen
 
-sees-new : (reads : List ℕ → Option (List ℕ) → Type 0) (x y : Option Launched) (request : Request) (b : Answer) → IsTrueOf x →
-    GoesNew reads x request b y → IsTrueOf y
-sees-new reads None None request b seen goes = absurd goes
-sees-new reads (Some l) None request b seen goes = absurd goes
-sees-new reads None (Some m) request b seen goes = new-seen m goes.1.3.fresh.unset.sight
-sees-new reads (Some l) (Some m) request b seen goes = elim goes.1 [
+sees-new : (reads : List ℕ → Option (List ℕ) → Type 0) (x y : Option Launched) (request : Request) (a b : Answer) → IsTrueOf x →
+    GoesNew reads x request a b y → IsTrueOf y
+sees-new reads None None request a b seen goes = absurd goes
+sees-new reads (Some l) None request a b seen goes = absurd goes
+sees-new reads None (Some m) request a b seen goes = new-seen m goes.1.3.fresh.unset.sight
+sees-new reads (Some l) (Some m) request a b seen goes = elim goes.1 [
   | inl anew ↦
       new-seen m
       (ap (λ (p : Program). p.sight) anew.4.sets ∙ ap (λ (p : Program). p.sight) anew.4.keeps.same
@@ -76,7 +76,7 @@ sees-one : (reads : List ℕ → Option (List ℕ) → Type 0) (x y : Option Lau
     Goes reads x request a b y → IsTrueOf y
 sees-one reads x y request a b seen goes = elim goes [
   | inl on ↦ sees-on x y request a b seen on
-  | inr anew ↦ sees-new reads x y request b seen anew
+  | inr anew ↦ sees-new reads x y request a b seen anew
 ]
 
 -- behind all of them

@@ -4,5 +4,7 @@ mod Keeping
 mod Lawful
 mod Machines
 mod Opening
+mod Reading
+mod Refusing
 mod Seeing
 mod Stopping

@@ -1,5 +1,5 @@
 -- What comes before a launch.
-use Rattle.std.proofs.Common.{ℕ, ◌≡◌, ◌∙◌, List, Bool, true, false, Option, None, Some, inl, inr, refl, sym, ap, subst}
+use Rattle.std.proofs.Common.{ℕ, ◌≡◌, ◌∙◌, List, [], ◌∷◌, Bool, true, false, Option, None, Some, inl, inr, refl, sym, ap, subst}
 use Rattle.serde_json.specs.Data.{Data}
 use Rattle.serde_json.specs.View.{view}
 use Rattle.dap_messages.specs.Notes.{IsDone, IsRefusal}
@@ -7,16 +7,20 @@ use Rattle.dap_messages.specs.declared.answer.Answer.{Answer}
 use Rattle.dap_messages.specs.declared.kind.Kind.{Kind}
 use Rattle.dap_messages.specs.declared.request.Request.{Request}
 use Rattle.dap_messages.specs.declared.told.Told.{Told}
+use Rattle.dap_requests.specs.Said.{Tells}
+use Rattle.dap_requests.proofs.public.Saying.{tells_on}
 use Rattle.dap_server.specs.Kinds.{moves}
 use Rattle.dap_views.specs.declared.program.Counting.{Counting}
 use Rattle.dap.specs.Anew.{excepting}
 use Rattle.dap.specs.Asking.{Asks, IsAsked}
 use Rattle.dap.specs.Early.{EarlyBy, Launches, LaunchesFor}
+use Rattle.dap.specs.Files.{TellsFound, TellsLaunched}
 use Rattle.dap.specs.Goes.{Goes}
 use Rattle.dap.specs.Kinds.{ends, opens}
-use Rattle.dap.specs.Launching.{IsBegun}
+use Rattle.dap.specs.Launching.{IsBegun, TellsBegun}
 use Rattle.dap.specs.Meeting.{ClientBy, Meets, MeetsBy, excepts_behind, excepts_by, excepts_early, names_paths}
-use Rattle.dap.specs.Stops.{EndsWith}
+use Rattle.dap.specs.Stops.{EndsWith, NotDone}
+use Rattle.dap.specs.Unlaunched.{CannotLaunch}
 use Rattle.dap.specs.declared.launch.Launched.{Launched}
 
 -- what is heard before a launch is not refused for that
@@ -61,7 +65,7 @@ early_known kind reads client counting excepts d a b y is h =
 -- and of one that is not
 unknown : (kind : Kind) (reads : List ℕ → Option (List ℕ) → Type 0) (excepts : Bool) (d : Data) (a b : Answer) (y : Option Launched) →
     ((kind ≡ Kind.Disconnect → ⊥) → IsRefusal b.outcome) → y ≡ None → b.notes ≡ a.notes → EarlyBy kind reads None excepts d a b y
-unknown Kind.Launch reads excepts d a b y refused none same = (refused (λ is. absurd (cc)), none)
+unknown Kind.Launch reads excepts d a b y refused none same = (refused (λ is. absurd (cc)), same, none)
 unknown _ reads excepts d a b y refused none same = (none, same)
 
 pub early_unknown : (kind : Kind) (reads : List ℕ → Option (List ℕ) → Type 0) (client : Option Counting) (excepts : Bool) (d : Data) (a b : Answer)
@@ -77,8 +81,8 @@ none-goes reads y request a b none =
     let to : Goes reads None request a b None = inl tt in subst (λ (z : Option Launched). Goes reads None request a b z) (sym none) to
 
 launch-goes : (reads : List ℕ → Option (List ℕ) → Type 0) (client : Option Counting) (excepts : Bool) (y : Option Launched) (request : Request)
-    (a b : Answer) → request.kind ≡ Kind.Launch → LaunchesFor reads client excepts (view request.arguments) b y → Goes reads None request a b y
-launch-goes reads None excepts y request a b is h = none-goes reads y request a b h.1
+    (a b : Answer) → request.kind ≡ Kind.Launch → LaunchesFor reads client excepts (view request.arguments) a b y → Goes reads None request a b y
+launch-goes reads None excepts y request a b is h = none-goes reads y request a b h.2
 launch-goes reads (Some counting) excepts None request a b is h = inl tt
 launch-goes reads (Some counting) excepts (Some m) request a b is h = inr (is, (counting, h.0, h.1, h.2))
 
@@ -99,7 +103,7 @@ begun-excepting : (reads : List ℕ → Option (List ℕ) → Type 0) (counting 
     IsBegun reads counting asked l → IsBegun reads counting asked (excepting excepts l)
 begun-excepting reads counting asked excepts l h = record {
   source = h.source;
-  stimulus = h.stimulus;
+  found = h.found;
   trace = h.trace;
   read = h.read;
   machine = h.machine;
@@ -109,7 +113,9 @@ begun-excepting reads counting asked excepts l h = record {
       launch = h.fresh.unset.launch;
       counts = h.fresh.unset.counts;
       text = h.fresh.unset.text;
+      cut = h.fresh.unset.cut;
       lines = h.fresh.unset.lines;
+      elsewhere = h.fresh.unset.elsewhere;
       stops = h.fresh.unset.stops;
       watched = h.fresh.unset.watched;
       waits = h.fresh.unset.waits;
@@ -121,14 +127,32 @@ begun-excepting reads counting asked excepts l h = record {
   };
 }
 
+-- what is told behind what was found of the stimulus
+tells-launched : (found : Option (List ℕ)) (a m b : Answer) → TellsFound found a m → Tells m (Told.Initialized ∷ []) b → TellsLaunched found a b
+tells-launched None a m b h k = (h.outputs, h.are, tells_on a m b h.outputs (Told.Initialized ∷ []) h.told k)
+tells-launched (Some text) a m b h k = ([], refl, subst (λ (x : Answer). Tells x (Told.Initialized ∷ []) b) h k)
+
 -- something is launched
-pub launches_so : (reads : List ℕ → Option (List ℕ) → Type 0) (counting : Counting) (excepts : Bool) (d e : Data) (b : Answer) (l m : Launched) → e ≡ d →
-    (asked : Asks) × IsAsked e asked × IsBegun reads counting asked l → m ≡ excepting excepts l → IsDone b.outcome →
-    EndsWith b Told.Initialized → Launches reads counting excepts d b (Some m)
-launches_so reads counting excepts d e b l m same h there done tells =
-    let to : Launches reads counting excepts d b (Some (excepting excepts l)) =
-    (h.0, subst (λ (x : Data). IsAsked x h.0) same h.1, begun-excepting reads counting h.0 excepts l h.2, refl, done, tells) in
-    subst (λ (x : Launched). Launches reads counting excepts d b (Some x)) (sym there) to
+pub launches_so : (reads : List ℕ → Option (List ℕ) → Type 0) (counting : Counting) (excepts : Bool) (d e : Data) (a m b : Answer) (l k : Launched) → e ≡ d →
+    (asked : Asks) × IsAsked e asked × TellsBegun reads counting asked a m l → k ≡ excepting excepts l → IsDone b.outcome →
+    EndsWith b Told.Initialized → Tells m (Told.Initialized ∷ []) b → Launches reads counting excepts d a b (Some k)
+unfolding begun-excepting
+launches_so reads counting excepts d e a m b l k same h there done last tells =
+    let to : Launches reads counting excepts d a b (Some (excepting excepts l)) = (
+      h.0,
+      subst (λ (x : Data). IsAsked x h.0) same h.1,
+      begun-excepting reads counting h.0 excepts l h.2.0,
+      refl,
+      done,
+      last,
+      tells-launched h.2.0.found a m b h.2.1 tells,
+    ) in
+    subst (λ (x : Launched). Launches reads counting excepts d a b (Some x)) (sym there) to
+
+-- nothing is
+pub launches_none : (reads : List ℕ → Option (List ℕ) → Type 0) (counting : Counting) (excepts : Bool) (d e : Data) (a b : Answer) → e ≡ d →
+    NotDone (CannotLaunch reads e) b → Launches reads counting excepts d a b None
+launches_none reads counting excepts d e a b same h = subst (λ (x : Data). NotDone (CannotLaunch reads x) b) same h
 
 -- who the client is
 pub meets_again : (x : Option Counting) (c : Counting) (d : Data) (b : Answer) → x ≡ Some c → Meets x d b x

@@ -68,7 +68,7 @@ still-by P _ typed still line none looks reads = reads (ap (λ (b : Bool). b || 
 desk-still : (l m : Launched) (request : Request) (a b : Answer) → LaunchedGoes l request a b m → may_move request ≡ false → m.desk ≡ l.desk
 desk-still l m request a b h none =
     let each = none-of (moves request.kind) (types request.kind (is_typed request)) (begins request.kind) none in
-    still-by (m.desk ≡ l.desk) request.kind (is_typed request) each.0 each.1 each.2 h.looks h.reads
+    still-by (m.desk ≡ l.desk) request.kind (is_typed request) each.0 each.1 each.2 (λ same none. (h.looks same none).0) h.reads
 
 -- what was looked at is so of this machine
 pub looked_at : (n m : AtMachine) (s t : Option Sight) → n ≡ m → (Sees n s → Sees n t) → Sees m s → Sees m t

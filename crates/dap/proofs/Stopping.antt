@@ -1,5 +1,6 @@
 -- How a run ends that begins with an empty answer.
 use Rattle.std.proofs.Common.{ℕ, ◌≡◌, ◌⊎◌, ◌||◌, Bool, List, [], ◌∷◌, ◌++◌, inl, inr, ◌∙◌, ap, sym, refl, append_assoc, Option, None, Some, true, false}
+use Rattle.runs.specs.declared.event.Choice.{Choice}
 use Rattle.locked_execution.specs.AtDesk.{AtDesk}
 use Rattle.serde_json.specs.Data.{Data}
 use Rattle.dap_messages.specs.Notes.{Adds, IsDone, IsRefusal, effect_with, told_by}
@@ -20,36 +21,39 @@ use Rattle.dap.specs.Stops.{BeginsOnce, EndsWith, StopsOnce}
 use Rattle.dap.specs.declared.face.Face.{Face}
 use Rattle.dap.specs.declared.launch.Launched.{Launched}
 
-pub stops_once : (a b : Answer) (d d' : AtDesk) (goes : Stop → Type 0) → a.notes.items ≡ [] → IsDone a.outcome → Runs a b d d' goes → StopsOnce b
-stops_once a b d d' goes empty done h = elim h [
+pub stops_once : (a b : Answer) (d d' : AtDesk) (before after : List Choice) (goes : Stop → ℕ → Type 0) → a.notes.items ≡ [] → IsDone a.outcome →
+    Runs a b d d' before after goes → StopsOnce b
+stops_once a b d d' before after goes empty done h = elim h [
   | inl refused ↦ inl (refused.0, ap (λ (ns : List Note). told_by ns) (ap (λ n. n.items) refused.1 ∙ empty))
   | inr stop ↦ inr (
-    stop.1.done done,
+    stop.2.done done,
     (
       stop.0,
-      stop.1.effect,
+      stop.1,
+      stop.2.effect,
       λ full. (
         (
-          stop.1.outputs,
-          stop.1.are,
-          (stop.1.told full).1 ∙ ap (λ (ns : List Note). told_by ns ++ (stop.1.outputs ++ Told.Stopped stop.0 ∷ [])) empty,
+          stop.2.outputs,
+          stop.2.are,
+          (stop.2.told full).1 ∙ ap (λ (ns : List Note). told_by ns ++ (stop.2.outputs ++ Told.Stopped stop.0 ∷ [])) empty,
         ),
-        stop.1.says full,
+        stop.2.says full,
       ),
     ),
   )
 ]
 
 -- a program has begun
-pub begins_once : (F G : Type 0) (Q : Stop → Type 0) (a b : Answer) → ((stop : Stop) × TellsStop a stop b × Q stop) ⊎ (F × TellsEnd a b × G) → BeginsOnce b
-begins_once F G Q a b h = elim h [
+pub begins_once : (F G H : Type 0) (Q : Stop → ℕ → Type 0) (a b : Answer) →
+    ((stop : Stop) × (branch : ℕ) × TellsStop a stop branch b × Q stop branch) ⊎ (F × TellsEnd a b × G × H) → BeginsOnce b
+begins_once F G H Q a b h = elim h [
   | inl stops ↦ inl (
     stops.0,
     record {
-      effect = stops.1.effect;
+      effect = stops.2.effect;
       last = λ full. (
-        told_by a.notes.items ++ stops.1.outputs,
-        (stops.1.told full).1 ∙ sym (append_assoc (told_by a.notes.items) stops.1.outputs (Told.Stopped stops.0 ∷ [])),
+        told_by a.notes.items ++ stops.2.outputs,
+        (stops.2.told full).1 ∙ sym (append_assoc (told_by a.notes.items) stops.2.outputs (Told.Stopped stops.0 ∷ [])),
       );
     },
   )
@@ -70,12 +74,12 @@ no-move kind known is none same =
     let no : true ≡ false = sym is ∙ ap (λ (k : Kind). moves k) same ∙ none in absurd (cc)
 
 -- a request to move launches nothing
-no-new : (reads : List ℕ → Option (List ℕ) → Type 0) (x y : Option Launched) (request : Request) (b : Answer) → moves request.kind ≡ true →
-    GoesNew reads x request b y → ⊥
-no-new reads None None request b is goes = goes
-no-new reads (Some l) None request b is goes = goes
-no-new reads None (Some m) request b is goes = no-move request.kind Kind.Launch is refl goes.0
-no-new reads (Some l) (Some m) request b is goes = no-move request.kind Kind.Restart is refl goes.0
+no-new : (reads : List ℕ → Option (List ℕ) → Type 0) (x y : Option Launched) (request : Request) (a b : Answer) → moves request.kind ≡ true →
+    GoesNew reads x request a b y → ⊥
+no-new reads None None request a b is goes = goes
+no-new reads (Some l) None request a b is goes = goes
+no-new reads None (Some m) request a b is goes = no-move request.kind Kind.Launch is refl goes.0
+no-new reads (Some l) (Some m) request a b is goes = no-move request.kind Kind.Restart is refl goes.0
 
 -- and stops once
 moves-on : (x y : Option Launched) (request : Request) (a b : Answer) → a.notes.items ≡ [] → IsDone a.outcome → moves request.kind ≡ true →
@@ -84,15 +88,16 @@ moves-on None y request a b empty done is goes early =
     let it = early refl in inl (it.0, ap (λ (ns : List Note). told_by ns) (ap (λ n. n.items) it.1 ∙ empty))
 moves-on (Some l) None request a b empty done is goes early = absurd goes
 moves-on (Some l) (Some m) request a b empty done is goes early =
-    stops_once a b l.desk m.desk
-    (λ (stop : Stop). Steps l.program l.memo.seen.items m.memo.seen.items l.desk request.kind request stop m.desk) empty done (goes.0.moved is)
+    stops_once a b l.desk m.desk l.memo.seen.items m.memo.seen.items
+    (λ (stop : Stop) (branch : ℕ). Steps l.program l.memo.seen.items m.memo.seen.items l.desk request.kind request stop branch m.desk) empty done
+    (goes.1.moved is)
 
 pub moves_stop : (reads : List ℕ → Option (List ℕ) → Type 0) (x y : Option Launched) (request : Request) (a b : Answer) → a.notes.items ≡ [] →
     IsDone a.outcome → moves request.kind ≡ true → Goes reads x request a b y →
     (x ≡ None → IsRefusal b.outcome × (b.notes ≡ a.notes)) → StopsOnce b
 moves_stop reads x y request a b empty done is goes early = elim goes [
   | inl on ↦ moves-on x y request a b empty done is on early
-  | inr anew ↦ absurd (no-new reads x y request b is anew)
+  | inr anew ↦ absurd (no-new reads x y request a b is anew)
 ]
 
 -- what does not end the session leaves it going on

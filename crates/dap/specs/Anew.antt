@@ -1,11 +1,15 @@
 -- Another launch in place of one.
-use Rattle.std.specs.Prelude.{◌≡◌, ◌≢◌, Bool, Option, None, Some, codes, if◌then◌else◌, is_some, option_and_then}
+use Rattle.std.specs.Prelude.{◌≡◌, ◌≢◌, List, ◌++◌, Bool, false, true, [], Option, None, Some, codes, if◌then◌else◌, is_some, option_and_then, string_bytes}
+use Rattle.std.specs.Option.{option_map}
 use Rattle.serde_json.specs.Data.{Data}
 use Rattle.serde_json.specs.View.{view}
 use Rattle.dap_messages.specs.Arguments.{part_named}
 use Rattle.dap_messages.specs.declared.answer.Answer.{Answer}
 use Rattle.dap_messages.specs.declared.request.Request.{Request}
+use Rattle.dap_messages.specs.declared.told.Told.{Told}
 use Rattle.dap_moves.specs.Led.{Led}
+use Rattle.dap_requests.specs.Said.{AreOutputs, Tells}
+use Rattle.dap_requests.specs.Sets.{ArePlaced, changes_of, file_of, is_again}
 use Rattle.dap_views.specs.declared.program.Program.{Program}
 use Rattle.dap.specs.Asking.{Asks, IsAsked}
 use Rattle.dap.specs.Begins.{Begins, begun}
@@ -34,7 +38,7 @@ IsMeant (Some d) before asked = IsAsked d asked
 IsMeant None before asked = asked ≡ before
 
 -- what the client had set on p is kept on q, the program that was launched anew, to k: what is watched only where the
--- source is the same, and breakpoints are placed anew
+-- source is the same, and the file for which breakpoints were set where that is not the one launched anew
 pub record KeepsSet (p q k : Program) : Type 0 where
   pub same : k ≡ record q {
     asked = k.asked;
@@ -46,12 +50,27 @@ pub record KeepsSet (p q k : Program) : Type 0 where
   }
   pub watched : q.source.items ≡ p.source.items → k.watched ≡ p.watched
   pub unwatched : q.source.items ≢ p.source.items → k.watched ≡ q.watched
+  pub again : is_again p q ≡ true → k.elsewhere ≡ q.elsewhere
+  pub elsewhere : is_again p q ≡ false → option_map (λ file. string_bytes file) k.elsewhere ≡ Some (file_of p)
 
--- with that kept it begins, and the answer tells how
-pub record GoesAnew (l anew : Launched) (b : Answer) (m : Launched) : Type 0 where
+-- each breakpoint of l is kept on k, and stands where it should in what was launched anew: on no line where it is of
+-- another file
+abbrev pub KeepsLines : Launched → Launched → Program → Type 0
+KeepsLines l anew k =
+    ArePlaced (is_again l.program anew.program) anew.desk.machine.checked.main anew.program.lines []
+    l.program.asked.items k.asked.items k.stops.items
+
+-- texts are told, and behind them of each breakpoint that it has changed
+abbrev pub TellsAnew : Program → Answer → Answer → Type 0
+TellsAnew k a b = (texts : List Told) × AreOutputs texts × Tells a (texts ++ changes_of k.asked.items) b
+
+-- with that kept it begins, behind what is told of that, and the answer tells how
+pub record GoesAnew (l anew : Launched) (a b : Answer) (m : Launched) : Type 0 where
   pub kept : Program
   pub keeps : KeepsSet l.program anew.program kept
+  pub places : KeepsLines l anew kept
   pub start : Answer
+  pub tells : TellsAnew kept a start
   pub begins : Begins (record anew { program = kept }) m start b
   pub sets : m.program ≡ begun kept
   pub once : BeginsOnce b

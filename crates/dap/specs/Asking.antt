@@ -1,11 +1,13 @@
 -- What a launch asks for.
-use Rattle.std.specs.Prelude.{ℕ, ◌≡◌, ◌-◌, ◌==◌, Bool, false, true, List, [], ◌∷◌, ◌++◌, Option, None, Some, codes, if◌then◌else◌, length, nat_eq, string_bytes, take, unwrap_or}
+use Rattle.std.specs.Prelude.{ℕ, ◌≡◌, ◌-◌, ◌==◌, ◌||◌, Bool, false, true, not, List, [], ◌∷◌, ◌++◌, Option, None, Some, codes, if◌then◌else◌, is_some, length, nat_eq, nat_lt, option_and_then, string_bytes, take, unwrap_or}
 use Rattle.std.specs.List.{ends_with}
-use Rattle.std.specs.Option.{option_map}
+use Rattle.std.specs.Option.{option_map, option_map_or}
 use Rattle.serde_json.specs.Data.{Data}
-use Rattle.dap_messages.specs.Arguments.{flag_named, number_named, text_named}
+use Rattle.serde_json.specs.Find.{as_bool, as_number, as_str, as_u64}
+use Rattle.dap_messages.specs.Arguments.{flag_named, number_named, part_named, text_named}
 use Rattle.dap_views.specs.Paths.{is_rooted, own_name}
 use Rattle.dap_views.specs.declared.program.Launch.{Launch}
+use Rattle.dap.specs.declared.asked.Wanted.{Wanted}
 
 -- a letter before the rest of a folder; a `/` at the end does not stay
 abbrev pub before_rest : ℕ → List ℕ → List ℕ
@@ -67,8 +69,38 @@ asked_by l = record {
   free = l.free;
 }
 
+-- whether it is a number from 1 on
+abbrev pub is_positive : Option ℕ → Bool
+is_positive None = false
+is_positive (Some number) = nat_lt 0 number
+
+-- whether a value is what an argument should be
+abbrev pub is_wanted : Wanted → Data → Bool
+is_wanted Wanted.Text d = is_some (as_str d)
+is_wanted Wanted.Flag d = is_some (as_bool d)
+is_wanted Wanted.Number d = is_positive (option_and_then as_u64 (as_number d))
+
+-- whether the member of this name is there, and is not what it should be
+abbrev pub is_wrong : Wanted → List ℕ → Data → Bool
+is_wrong wanted name d = option_map_or (λ v. not (is_wanted wanted v)) (part_named name d) false
+
+-- whether an argument of a launch is not what it should be
+abbrev pub has_wrong_text : Data → Bool
+has_wrong_text d =
+    is_wrong Wanted.Text (codes "program") d || is_wrong Wanted.Text (codes "cwd") d
+    || is_wrong Wanted.Text (codes "stimulus") d || is_wrong Wanted.Text (codes "trace") d
+
+abbrev pub has_wrong_option : Data → Bool
+has_wrong_option d =
+    is_wrong Wanted.Flag (codes "stopOnEntry") d || is_wrong Wanted.Flag (codes "noDebug") d
+    || is_wrong Wanted.Number (codes "maxSteps") d
+
+abbrev pub has_wrong : Data → Bool
+has_wrong d = has_wrong_text d || has_wrong_option d
+
 -- these arguments ask for it
 pub record IsAsked (d : Data) (l : Asks) : Type 0 where
+  pub right : has_wrong d ≡ false
   pub program : path_named (codes "program") d ≡ Some l.program
   pub stimulus : l.stimulus ≡ path_named (codes "stimulus") d
   pub trace : l.trace ≡ path_named (codes "trace") d

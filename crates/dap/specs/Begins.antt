@@ -1,5 +1,5 @@
 -- How a program begins.
-use Rattle.std.specs.Prelude.{◌≡◌, ◌⊎◌, ◌||◌, List, true, false, None}
+use Rattle.std.specs.Prelude.{ℕ, ◌≡◌, ◌⊎◌, ◌||◌, List, true, false, None}
 use Rattle.runs.specs.declared.event.Choice.{Choice}
 use Rattle.locked_execution.specs.AtDesk.{AtDesk}
 use Rattle.dap_messages.specs.declared.answer.Answer.{Answer}
@@ -9,20 +9,23 @@ use Rattle.dap_requests.specs.Said.{TellsEnd, TellsStop}
 use Rattle.dap_views.specs.declared.program.Program.{Program}
 use Rattle.dap.specs.declared.launch.Launched.{Launched}
 
--- it stands before its first step where the client wants that; else a run of all branches goes on from there, as the
--- program is set. `before` are the steps before which a run has stood, and `after` those that are kept in mind
-abbrev pub Starts : Program → List Choice → List Choice → AtDesk → Stop → AtDesk → Type 0
-Starts program before after d stop d' =
+-- it stands before its first step where the client wants that, and so does the first branch; else a run of all branches
+-- goes on from there, as the program is set. `before` are the steps before which a run has stood, and `after` those
+-- that are kept in mind; it is told that the thread of `branch` stands
+abbrev pub Starts : Program → List Choice → List Choice → AtDesk → Stop → ℕ → AtDesk → Type 0
+Starts program before after d stop branch d' =
     (program.launch.free ≡ false)
-    × (((program.launch.stops ≡ true) × (stop ≡ Stop.Entry) × (d' ≡ d) × (after ≡ before))
-    ⊎ ((program.launch.stops ≡ false) × RunsBy (going_of program None) None d before stop d' after))
+    × (((program.launch.stops ≡ true) × (stop ≡ Stop.Entry) × (branch ≡ 0) × (d' ≡ d) × (after ≡ before))
+    ⊎ ((program.launch.stops ≡ false) × RunsBy (going_of program None) None d before stop branch d' after))
 
 -- one `stopped` is told, behind texts, which tells how it has started; or where nobody debugs it, it runs until it
 -- ends, and that is told
 abbrev pub Begins : Launched → Launched → Answer → Answer → Type 0
 Begins l m a b =
-    ((stop : Stop) × TellsStop a stop b × Starts l.program l.memo.seen.items m.memo.seen.items l.desk stop m.desk)
-    ⊎ ((l.program.launch.free ≡ true) × TellsEnd a b × RunsFree l.program.launch.most l.desk m.desk)
+    ((stop : Stop) × (branch : ℕ) × TellsStop a stop branch b
+    × Starts l.program l.memo.seen.items m.memo.seen.items l.desk stop branch m.desk)
+    ⊎ ((l.program.launch.free ≡ true) × TellsEnd a b × RunsFree l.program.launch.most l.desk m.desk
+    × (m.memo.seen.items ≡ l.memo.seen.items))
 
 -- the same, but that it has begun; where nobody debugs it, it is over too
 abbrev pub begun : Program → Program

@@ -1,15 +1,17 @@
 -- With which program and which desk a session begins.
-use Rattle.std.specs.Prelude.{ℕ, ◌≡◌, List, [], Option, None, Some, false}
+use Rattle.std.specs.Prelude.{ℕ, ◌≡◌, List, [], Option, None, Some, false, unwrap_or}
 use Rattle.system.specs.declared.system.System.{System}
 use Rattle.front_end.specs.Accepting.{AcceptedAs}
 use Rattle.machine.specs.AtMachine.{AtMachine}
 use Rattle.trace_file.specs.Loading.{IsLoaded}
 use Rattle.locked_execution.specs.AtDesk.{AtDesk, new_desk}
+use Rattle.dap_messages.specs.declared.answer.Answer.{Answer}
 use Rattle.dap_moves.specs.Led.{Led}
+use Rattle.dap_views.specs.Lined.{AreLinesOf}
 use Rattle.dap_views.specs.declared.program.Counting.{Counting}
 use Rattle.dap_views.specs.declared.program.Program.{Program}
 use Rattle.dap.specs.Asking.{Asks, asked_by}
-use Rattle.dap.specs.Files.{AreRead, Reads}
+use Rattle.dap.specs.Files.{AreRead, Reads, TellsFound}
 use Rattle.dap.specs.declared.launch.Launched.{Launched}
 
 -- the machine of a system, behind this trace if there is one
@@ -27,7 +29,9 @@ pub record IsUnset (asked : Asks) (counting : Counting) (source : List ℕ) (p :
   pub launch : asked_by p.launch ≡ asked
   pub counts : p.counting ≡ counting
   pub text : p.source.items ≡ source
+  pub cut : AreLinesOf source p.lines
   pub lines : p.asked.items ≡ []
+  pub elsewhere : p.elsewhere ≡ None
   pub stops : p.stops.items ≡ []
   pub watched : p.watched.items ≡ []
   pub waits : p.begun ≡ false
@@ -40,15 +44,20 @@ pub record IsNew (asked : Asks) (counting : Counting) (source : List ℕ) (m : A
   pub seen : l.memo.seen.items ≡ []
   pub desk : l.desk ≡ new_desk m
 
--- it is launched as is asked for, for a client that counts so, new, from the texts that were read of the files
+-- it is launched as is asked for, for a client that counts so, new, from the texts that were read of the files; the
+-- stimulus has no bytes where none was found
 pub record IsBegun (reads : Reads) (counting : Counting) (asked : Asks) (l : Launched) : Type 0 where
   pub source : List ℕ
-  pub stimulus : List ℕ
+  pub found : Option (List ℕ)
   pub trace : Option (List ℕ)
-  pub read : AreRead reads asked source stimulus trace
+  pub read : AreRead reads asked source found trace
   pub machine : AtMachine
-  pub begins : BeginsAt source stimulus trace machine
+  pub begins : BeginsAt source (unwrap_or found []) trace machine
   pub fresh : IsNew asked counting source machine l
+
+-- the same, and what was found of the stimulus is told
+abbrev pub TellsBegun : Reads → Counting → Asks → Answer → Answer → Launched → Type 0
+TellsBegun reads counting asked a b l = (begun : IsBegun reads counting asked l) × TellsFound begun.found a b
 
 -- a desk that some commands of sessions leave of the one with which a program is launched
 abbrev pub Stands : Reads → AtDesk → Type 0

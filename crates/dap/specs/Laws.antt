@@ -1,5 +1,5 @@
 -- What holds after the requests of a session.
-use Rattle.std.specs.Prelude.{ℕ, ◌≡◌, List, Option, None, Some, Result}
+use Rattle.std.specs.Prelude.{ℕ, List, Option, None, Some, Result}
 use Rattle.dap_messages.specs.declared.request.Request.{Request}
 use Rattle.dap_server.specs.Heard.{Passed}
 use Rattle.dap_server.specs.Session.{Session}

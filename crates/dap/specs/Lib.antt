@@ -11,3 +11,4 @@ pub mod Meeting
 pub mod Sets
 pub mod Steps
 pub mod Stops
+pub mod Unlaunched

@@ -23,26 +23,30 @@ thread_of d request =
 abbrev pub only_of : Request → ℕ → Option ℕ
 only_of request k = alone k (is_single request)
 
+-- of what follows: `before` are the steps before which a run has stood, and `after` those that are kept in mind; it is
+-- told that the thread of `branch` stands
+
 -- the newest live step in which the branch took part is asked to be undone
-abbrev pub Backward : Bool → AtDesk → Option ℕ → Stop → AtDesk → Type 0
-Backward excepts d None stop d' = ⊥
-Backward excepts d (Some k) stop d' = Backs excepts d k stop d'
+abbrev pub Backward : Bool → List Choice → List Choice → AtDesk → Option ℕ → Stop → ℕ → AtDesk → Type 0
+Backward excepts before after d None stop branch d' = ⊥
+Backward excepts before after d (Some k) stop branch d' = Backs excepts d k before stop branch d' after
 
 -- a step that the branch can take is asked for: the first, or the one that `stepIn` names
-abbrev pub Forward : Bool → AtDesk → Request → Option ℕ → Stop → AtDesk → Type 0
-Forward excepts d request None stop d' = ⊥
-Forward excepts d request (Some k) stop d' = StepsForth excepts d k (target_in request) stop d'
+abbrev pub Forward : Bool → List Choice → List Choice → AtDesk → Request → Option ℕ → Stop → ℕ → AtDesk → Type 0
+Forward excepts before after d request None stop branch d' = ⊥
+Forward excepts before after d request (Some k) stop branch d' =
+    (branch ≡ k) × StepsForth excepts d k (target_in request) before stop d' after
 
 -- a run goes on from where the branch stands, as the program is set
-abbrev pub GoesOn : Program → List Choice → List Choice → AtDesk → Request → Option ℕ → Stop → AtDesk → Type 0
-GoesOn program before after d request None stop d' = ⊥
-GoesOn program before after d request (Some k) stop d' =
-    RunsBy (going_of program (only_of request k)) (Some k) d before stop d' after
+abbrev pub GoesOn : Program → List Choice → List Choice → AtDesk → Request → Option ℕ → Stop → ℕ → AtDesk → Type 0
+GoesOn program before after d request None stop branch d' = ⊥
+GoesOn program before after d request (Some k) stop branch d' =
+    RunsBy (going_of program (only_of request k)) (Some k) d before stop branch d' after
 
 -- the thread is told to stand, as it does
-abbrev pub Stays : AtDesk → Option ℕ → Stop → AtDesk → Type 0
-Stays d None stop d' = ⊥
-Stays d (Some k) stop d' = (stop ≡ Stop.Pause) × (d' ≡ d)
+abbrev pub Stays : List Choice → List Choice → AtDesk → Option ℕ → Stop → ℕ → AtDesk → Type 0
+Stays before after d None stop branch d' = ⊥
+Stays before after d (Some k) stop branch d' = (stop ≡ Stop.Pause) × (branch ≡ k) × (d' ≡ d) × (after ≡ before)
 
 -- a request to move is denied where it names no thread that there is, or where `stepIn` names no step by its number
 abbrev pub IsDenied : AtDesk → Request → Type 0
@@ -53,20 +57,20 @@ abbrev pub MayRefuse : Program → AtDesk → Request → Type 0
 MayRefuse program d request = (program.ended ≡ true) ⊎ (program.begun ≡ false) ⊎ IsDenied d request
 
 -- what a request does that is not refused, and how that went is told: a step forth or back is one of the branch of its
--- thread, and a run begins there. `before` are the steps before which a run has stood, and `after` those that are kept
--- in mind
-abbrev pub Steps : Program → List Choice → List Choice → AtDesk → Kind → Request → Stop → AtDesk → Type 0
-Steps program before after d Kind.StepBack request stop d' =
-    Backward program.excepts d (thread_of d request) stop d'
-Steps program before after d Kind.Next request stop d' =
-    Forward program.excepts d request (thread_of d request) stop d'
-Steps program before after d Kind.StepIn request stop d' =
-    Forward program.excepts d request (thread_of d request) stop d'
-Steps program before after d Kind.StepOut request stop d' =
-    Forward program.excepts d request (thread_of d request) stop d'
-Steps program before after d Kind.Continue request stop d' =
-    GoesOn program before after d request (thread_of d request) stop d'
-Steps program before after d Kind.ReverseContinue request stop d' =
-    ReversesFor program d request stop d' after
-Steps program before after d Kind.Pause request stop d' = Stays d (thread_of d request) stop d'
-Steps program before after d _ request stop d' = Unit {0}
+-- thread, and a run begins there
+abbrev pub Steps : Program → List Choice → List Choice → AtDesk → Kind → Request → Stop → ℕ → AtDesk → Type 0
+Steps program before after d Kind.StepBack request stop branch d' =
+    Backward program.excepts before after d (thread_of d request) stop branch d'
+Steps program before after d Kind.Next request stop branch d' =
+    Forward program.excepts before after d request (thread_of d request) stop branch d'
+Steps program before after d Kind.StepIn request stop branch d' =
+    Forward program.excepts before after d request (thread_of d request) stop branch d'
+Steps program before after d Kind.StepOut request stop branch d' =
+    Forward program.excepts before after d request (thread_of d request) stop branch d'
+Steps program before after d Kind.Continue request stop branch d' =
+    GoesOn program before after d request (thread_of d request) stop branch d'
+Steps program before after d Kind.ReverseContinue request stop branch d' =
+    ReversesFor program d request stop branch d' after
+Steps program before after d Kind.Pause request stop branch d' =
+    Stays before after d (thread_of d request) stop branch d'
+Steps program before after d _ request stop branch d' = Unit {0}

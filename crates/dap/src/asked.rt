@@ -1,9 +1,15 @@
 // What the arguments of a launch ask for.
-ghost use Rattle.std.specs.Prelude.{◌≡◌, [], IfOk, Some, codes, string_bytes, unwrap_or};
+ghost use Rattle.std.specs.Prelude.{◌≡◌, [], IfOk, MatchResult, None, Some, codes, false, is_some, string_bytes};
+ghost use Rattle.std.specs.Prelude.{unwrap_or};
 ghost use Rattle.std.specs.Option.{option_map};
 ghost use Rattle.serde_json.specs.View.{view};
 ghost use Rattle.dap_messages.specs.Arguments.{flag_named};
-ghost use Rattle.dap.specs.Asking.{IsAsked, asked_by, path_named, text_given};
+ghost use Rattle.dap.specs.Asking.{IsAsked, asked_by, has_wrong, has_wrong_option, has_wrong_text, path_named};
+ghost use Rattle.dap.specs.Asking.{text_given};
+ghost use Rattle.dap.specs.Asking as model;
+ghost use Rattle.dap.specs.Stops.{RefusedAs};
+ghost use Rattle.dap.specs.Unlaunched.{AsksForNothing, Fails};
+ghost use Rattle.dap.specs.declared.launch.Failed.{Failed as Failing};
 
 use crate::launch::Failed;
 use crate::paths::path_in;
@@ -21,7 +27,9 @@ pub(crate) fn launch_of(
     arguments: &Value,
     answer: &mut Answer,
 ) -> Result<Launch, Failed>
-    ensures { IfOk result (λ launch. IsAsked (view arguments.now) (asked_by launch)) }
+    ensures { MatchResult result
+        (λ launch. IsAsked (view arguments.now) (asked_by launch) × (answer.new ≡ answer.old))
+        (λ failed. Fails (AsksForNothing (view arguments.now)) failed answer.new) }
 {
     match wrong_in(arguments) {
         Some(wrong) => {
@@ -34,7 +42,10 @@ pub(crate) fn launch_of(
 
 /// The same where each argument is what it should be.
 fn right_launch(alloc: Global, arguments: &Value, answer: &mut Answer) -> Result<Launch, Failed>
-    ensures { IfOk result (λ launch. IsAsked (view arguments.now) (asked_by launch)) }
+    requires { has_wrong (view arguments.now) ≡ false }
+    ensures { MatchResult result
+        (λ launch. IsAsked (view arguments.now) (asked_by launch) × (answer.new ≡ answer.old))
+        (λ failed. Fails (AsksForNothing (view arguments.now)) failed answer.new) }
 {
     match path_of(alloc, arguments, "program") {
         Ok(Some(program)) => launch_on(alloc, arguments, program),
@@ -48,8 +59,10 @@ fn right_launch(alloc: Global, arguments: &Value, answer: &mut Answer) -> Result
 
 /// The same of the program at this path.
 fn launch_on(alloc: Global, arguments: &Value, program: String) -> Result<Launch, Failed>
-    requires { path_named (codes "program") (view arguments.now) ≡ Some (string_bytes program) }
-    ensures { IfOk result (λ launch. IsAsked (view arguments.now) (asked_by launch)) }
+    requires right { has_wrong (view arguments.now) ≡ false }
+    requires named { path_named (codes "program") (view arguments.now) ≡ Some (string_bytes program) }
+    ensures { MatchResult result (λ launch. IsAsked (view arguments.now) (asked_by launch))
+        (λ failed. failed ≡ Failing.Memory) }
 {
     let stimulus = path_of(alloc, arguments, "stimulus")?;
     let trace = path_of(alloc, arguments, "trace")?;
@@ -106,7 +119,9 @@ fn flag_given(arguments: &Value, name: &str) -> Option<bool>
 }
 
 /// Refuses an argument of another type than it should have.
-fn refuse_type(alloc: Global, wrong: (&str, Wanted), answer: &mut Answer) {
+fn refuse_type(alloc: Global, wrong: (&str, Wanted), answer: &mut Answer)
+    ensures { RefusedAs 104 answer.new.outcome }
+{
     let (name, wanted) = wrong;
     let mut words = Words::of(alloc, "`");
     words.add(name);
@@ -126,31 +141,62 @@ enum Wanted {
     Number,
 }
 
-/// The arguments of a launch.
-static WANTED: [(&str, Wanted); 7] = [
-    ("program", Wanted::Text),
-    ("cwd", Wanted::Text),
-    ("stimulus", Wanted::Text),
-    ("trace", Wanted::Text),
-    ("stopOnEntry", Wanted::Flag),
-    ("noDebug", Wanted::Flag),
-    ("maxSteps", Wanted::Number),
-];
-
-/// The first argument that is not what it should be.
-fn wrong_in(arguments: &Value) -> Option<(&'static str, Wanted)> {
-    for (name, wanted) in &WANTED {
-        if let Some(value) = field(arguments, name) {
-            if !is_wanted(value, *wanted) {
-                return Some((*name, *wanted));
-            }
-        }
+/// The first argument of a launch that is not what it should be.
+fn wrong_in(arguments: &Value) -> Option<(&'static str, Wanted)>
+    ensures { is_some result ≡ has_wrong (view arguments.now) }
+{
+    match wrong_text_in(arguments) {
+        Some(name) => Some((name, Wanted::Text)),
+        None => wrong_option_in(arguments),
     }
-    None
+}
+
+/// The first that should be a text, and is none.
+fn wrong_text_in(arguments: &Value) -> Option<&'static str>
+    ensures { is_some result ≡ has_wrong_text (view arguments.now) }
+{
+    if is_wrong(arguments, "program", Wanted::Text) {
+        Some("program")
+    } else if is_wrong(arguments, "cwd", Wanted::Text) {
+        Some("cwd")
+    } else if is_wrong(arguments, "stimulus", Wanted::Text) {
+        Some("stimulus")
+    } else if is_wrong(arguments, "trace", Wanted::Text) {
+        Some("trace")
+    } else {
+        None
+    }
+}
+
+/// The first of the others that is not what it should be.
+fn wrong_option_in(arguments: &Value) -> Option<(&'static str, Wanted)>
+    ensures { is_some result ≡ has_wrong_option (view arguments.now) }
+{
+    if is_wrong(arguments, "stopOnEntry", Wanted::Flag) {
+        Some(("stopOnEntry", Wanted::Flag))
+    } else if is_wrong(arguments, "noDebug", Wanted::Flag) {
+        Some(("noDebug", Wanted::Flag))
+    } else if is_wrong(arguments, "maxSteps", Wanted::Number) {
+        Some(("maxSteps", Wanted::Number))
+    } else {
+        None
+    }
+}
+
+/// Whether the argument of this name is there, and is not what it should be.
+fn is_wrong(arguments: &Value, name: &str, wanted: Wanted) -> bool
+    ensures { result ≡ model.is_wrong wanted name.now (view arguments.now) }
+{
+    match field(arguments, name) {
+        Some(value) => !is_wanted(value, wanted),
+        None => false,
+    }
 }
 
 /// Whether the value is what it should be.
-fn is_wanted(value: &Value, wanted: Wanted) -> bool {
+fn is_wanted(value: &Value, wanted: Wanted) -> bool
+    ensures { result ≡ model.is_wanted wanted (view value.now) }
+{
     match wanted {
         Wanted::Text => value.as_str().is_some(),
         Wanted::Flag => value.as_bool().is_some(),
@@ -159,7 +205,9 @@ fn is_wanted(value: &Value, wanted: Wanted) -> bool {
 }
 
 /// Whether it is a number from 1 on.
-fn is_positive(number: Option<u64>) -> bool {
+fn is_positive(number: Option<u64>) -> bool
+    ensures { result ≡ model.is_positive number }
+{
     match number {
         Some(number) => number > 0,
         None => false,

@@ -1,11 +1,10 @@
 // The beginning of a program that was launched.
-ghost use Rattle.std.specs.Prelude.{◌≡◌, ◌⊎◌, true, false};
+ghost use Rattle.std.specs.Prelude.{ℕ, ◌≡◌, ◌⊎◌, true, false};
 ghost use Rattle.dap_messages.specs.Notes.{IsRefusal};
 ghost use Rattle.dap_moves.specs.Led.{Led};
 ghost use Rattle.dap_messages.specs.declared.told.Stop.{Stop as Stopped};
 ghost use Rattle.dap_requests.specs.Forth.{RunsFree};
 ghost use Rattle.dap_requests.specs.Said.{TellsEnd, TellsStop};
-ghost use Rattle.dap_requests.specs.Typed.{KeepsSome};
 ghost use Rattle.dap.specs.Begins.{Begins, Starts, begun};
 
 use crate::launch::Launched;
@@ -16,14 +15,13 @@ use dap_views::{Memo, Program};
 use std::alloc::Global;
 
 /// Begins, unless it has begun already.
-#[tactic(auto, using(crate::proofs::Going::led_still, crate::proofs::Going::keeps_same))]
+#[tactic(auto, using(crate::proofs::Going::led_still))]
 pub(crate) fn begin_once(alloc: Global, launched: &mut Launched, answer: &mut Answer)
     ensures led { Led launched.old.desk launched.new.desk }
     ensures begins { (IsRefusal answer.new.outcome × (answer.new.notes ≡ answer.old.notes)
         × (launched.new ≡ launched.old) × (launched.old.program.begun ≡ true))
         ⊎ (Begins launched.old launched.new answer.old answer.new × (launched.old.program.begun ≡ false)
         × (launched.new.program ≡ begun launched.old.program)) }
-    ensures keeps { KeepsSome answer.new launched.old.memo.seen.items launched.new.memo.seen.items }
 {
     if launched.program.begun {
         answer.refuse(107, "the run has begun already");
@@ -33,12 +31,11 @@ pub(crate) fn begin_once(alloc: Global, launched: &mut Launched, answer: &mut An
 }
 
 /// Begins, once the client has set what it wants to set: it stops before the first step, or goes on.
-#[tactic(auto, using(crate::proofs::Going::led_still, crate::proofs::Going::keeps_same))]
+#[tactic(auto, using(crate::proofs::Going::led_still))]
 pub(crate) fn begin(alloc: Global, launched: &mut Launched, answer: &mut Answer)
     ensures led { Led launched.old.desk launched.new.desk }
     ensures begins { Begins launched.old launched.new answer.old answer.new }
     ensures sets { launched.new.program ≡ begun launched.old.program }
-    ensures keeps { KeepsSome answer.new launched.old.memo.seen.items launched.new.memo.seen.items }
 {
     launched.program.begun = true;
     if launched.program.launch.free {
@@ -56,7 +53,7 @@ pub(crate) fn begin(alloc: Global, launched: &mut Launched, answer: &mut Answer)
 }
 
 /// Begins a run that is debugged.
-#[tactic(auto, using(crate::proofs::Going::led_still, crate::proofs::Going::keeps_same))]
+#[tactic(auto, using(crate::proofs::Going::led_still))]
 fn begin_stopping(
     alloc: Global,
     desk: &mut Desk,
@@ -66,9 +63,8 @@ fn begin_stopping(
 )
     requires { program.now.launch.free ≡ false }
     ensures led { Led desk.old desk.new }
-    ensures begins { (stop : Stopped) × TellsStop answer.old stop answer.new
-        × Starts program.now memo.old.seen.items memo.new.seen.items desk.old stop desk.new }
-    ensures keeps { KeepsSome answer.new memo.old.seen.items memo.new.seen.items }
+    ensures begins { (stop : Stopped) × (branch : ℕ) × TellsStop answer.old stop branch answer.new
+        × Starts program.now memo.old.seen.items memo.new.seen.items desk.old stop branch desk.new }
 {
     if program.launch.stops {
         stop(alloc, answer, Stop::Entry, 0, entry_text(desk.machine()));

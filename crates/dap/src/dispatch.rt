@@ -4,11 +4,11 @@ ghost use Rattle.serde_json.specs.View.{view};
 ghost use Rattle.dap_messages.specs.Notes.{Adds, IsRefusal};
 ghost use Rattle.dap_messages.specs.declared.told.Told.{Told as Tells};
 ghost use Rattle.dap_requests.specs.Locations.{Locates};
-ghost use Rattle.dap_requests.specs.Sets.{SetsExcepts, SetsWatched};
+ghost use Rattle.dap_requests.specs.Sets.{AnswersFilters, SetsExcepts, SetsWatched, filters_refused};
 ghost use Rattle.dap_server.specs.Kinds.{moves};
 ghost use Rattle.dap_views.specs.Kept.{unseen};
 ghost use Rattle.dap_views.specs.Seen.{Sees};
-ghost use Rattle.dap.specs.Goes.{IsSeen, LaunchedGoes, TellsBy};
+ghost use Rattle.dap.specs.Goes.{AnswersBy, IsSeen, LaunchedGoes, ShowsBy, TellsBy};
 ghost use Rattle.dap.specs.Kinds.{asks, begins, is_active, may_move, types};
 ghost use Rattle.dap.specs.Sets.{Sets};
 
@@ -245,7 +245,11 @@ fn look(
 )
     requires { asks request.now.kind ≡ false }
     ensures sets { Sets request.now machine.now.checked.main program.old answer.new program.new }
-    ensures tells { TellsBy request.now.kind answer.old answer.new }
+    ensures tells { TellsBy request.now.kind (view request.now.arguments) program.old answer.old program.new
+        answer.new }
+    ensures shows { ShowsBy request.now.kind machine.now program.old.index program.old.sight
+        (view request.now.arguments) answer.new }
+    ensures answers { AnswersBy request.now.kind answer.old.outcome answer.new.outcome }
 {
     match request.kind {
         Kind::SetBreakpoints => set_lines(alloc, machine, program, request, answer),
@@ -271,6 +275,7 @@ fn watch(alloc: Global, program: &mut Program, request: &Request, answer: &mut A
 fn filter(alloc: Global, program: &mut Program, request: &Request, answer: &mut Answer)
     ensures sets { SetsExcepts (view request.now.arguments) program.old program.new }
     ensures quiet { answer.new.notes ≡ answer.old.notes }
+    ensures answers { AnswersFilters (filters_refused (view request.now.arguments)) answer.old answer.new }
 {
     let notes = mem::replace(&mut answer.notes, Vec::new(alloc));
     set_exceptions(program, request, answer);
@@ -302,7 +307,10 @@ fn show(
     request: &Request,
     answer: &mut Answer,
 )
-    ensures { answer.new.notes ≡ answer.old.notes }
+    ensures quiet { answer.new.notes ≡ answer.old.notes }
+    ensures answers { AnswersBy request.now.kind answer.old.outcome answer.new.outcome }
+    ensures shows { ShowsBy request.now.kind machine.now program.now.index program.now.sight
+        (view request.now.arguments) answer.new }
 {
     let notes = mem::replace(&mut answer.notes, Vec::new(alloc));
     tell(alloc, machine, program, memo, request, answer);
@@ -317,7 +325,11 @@ fn tell(
     memo: &Memo,
     request: &Request,
     answer: &mut Answer,
-) {
+)
+    ensures answers { AnswersBy request.now.kind answer.old.outcome answer.new.outcome }
+    ensures shows { ShowsBy request.now.kind machine.now program.now.index program.now.sight
+        (view request.now.arguments) answer.new }
+{
     match request.kind {
         Kind::Threads => threads(alloc, machine, program, answer),
         Kind::StackTrace => stack_trace(alloc, machine, program, request, answer),
@@ -339,13 +351,9 @@ fn terminate(program: &mut Program, answer: &mut Answer)
 }
 
 /// Answers a request that has nothing to do with the machine.
-fn tell_other(
-    alloc: Global,
-    program: &Program,
-    memo: &Memo,
-    request: &Request,
-    answer: &mut Answer,
-) {
+fn tell_other(alloc: Global, program: &Program, memo: &Memo, request: &Request, answer: &mut Answer)
+    ensures { AnswersBy request.now.kind answer.old.outcome answer.new.outcome }
+{
     match request.kind {
         Kind::ExceptionInfo => exception_info(alloc, memo, answer),
         Kind::Completions => completions(alloc, program, request, answer),

@@ -1,10 +1,11 @@
 // A session: who the client is, and what is launched.
-ghost use Rattle.std.specs.Prelude.{◌≡◌, ◌⊎◌, ◌||◌, None, Some, true, false, is_some, unwrap_or};
+ghost use Rattle.std.specs.Prelude.{◌≡◌, ◌⊎◌, ◌||◌, [], ◌∷◌, None, Some, true, false, is_some, unwrap_or};
 ghost use Rattle.std.specs.Option.{option_map};
 ghost use Rattle.serde_json.specs.View.{view};
 ghost use Rattle.dap_messages.specs.Notes.{IsDone, IsRefusal};
 ghost use Rattle.dap_messages.specs.declared.kind.Kind.{Kind as Asks};
 ghost use Rattle.dap_messages.specs.declared.told.Told.{Told as Tells};
+ghost use Rattle.dap_requests.specs.Said.{Tells as TellsAll};
 ghost use Rattle.dap_requests.specs.Sets.{filters_refused};
 ghost use Rattle.dap.specs.Anew.{excepting};
 ghost use Rattle.dap.specs.Early.{EarlyBy, Launches};
@@ -12,11 +13,11 @@ ghost use Rattle.dap.specs.Goes.{Comes, Early, Goes, IsFresh, IsSeen, IsSound, L
 ghost use Rattle.dap.specs.Kinds.{ends, opens};
 ghost use Rattle.dap.specs.Meeting.{ClientBy, Meets, MeetsBy, base, counting_of, is_path, names_paths};
 ghost use Rattle.dap.specs.Meeting.{excepts_behind, excepts_by, excepts_early};
-ghost use Rattle.dap.specs.Stops.{EndsWith};
+ghost use Rattle.dap.specs.Stops.{EndsWith, RefusedAs};
 
 use crate::dispatch::perform;
 use crate::launch::{Launched, start};
-use crate::restart::{note_none, restart};
+use crate::restart::restart;
 use crate::sources::Sources;
 use dap_messages::{Answer, Kind, Listed, Members, Outcome, Request, Told};
 use dap_requests::{asks_for_refusals, set_before, set_data_before};
@@ -247,14 +248,11 @@ fn launch<F: Sources>(
     request: &Request,
     answer: &mut Answer,
 ) -> Option<Launched>
-    ensures { Launches (F.reads files.now) counting excepts (view request.now.arguments) answer.new result }
+    ensures { Launches (F.reads files.now) counting excepts (view request.now.arguments) answer.old answer.new result }
 {
     match start(alloc, files, counting, request.arguments(), answer) {
         Some(found) => Some(keep(found, excepts, answer)),
-        None => {
-            note_none(answer);
-            None
-        }
+        None => None,
     }
 }
 
@@ -263,6 +261,7 @@ fn keep(mut found: Launched, excepts: bool, answer: &mut Answer) -> Launched
     ensures found { result ≡ excepting excepts found }
     ensures done { IsDone answer.new.outcome }
     ensures tells { EndsWith answer.new Tells.Initialized }
+    ensures behind { TellsAll answer.old (Tells.Initialized ∷ []) answer.new }
 {
     found.program.excepts = excepts;
     answer.outcome = Outcome::Done(None);
@@ -290,8 +289,9 @@ fn ask_of<F: Sources>(
     answer: &mut Answer,
 )
     ensures { ((request.now.kind ≡ Asks.Restart)
-        × Restarts (F.reads files.now) launched.old request.now answer.new launched.new)
-        ⊎ (LaunchedGoes launched.old request.now answer.old answer.new launched.new
+        × Restarts (F.reads files.now) launched.old request.now answer.old answer.new launched.new)
+        ⊎ ((request.now.kind ≡ Asks.Restart → ⊥)
+        × LaunchedGoes launched.old request.now answer.old answer.new launched.new
         × (IsSeen launched.old → IsSeen launched.new)) }
 {
     match request.kind {
@@ -331,7 +331,8 @@ fn tell_none(alloc: Global, request: &Request, answer: &mut Answer)
 
 /// Refuses `attach`.
 pub(crate) fn attach(answer: &mut Answer)
-    ensures { IsRefusal answer.new.outcome }
+    ensures refused { IsRefusal answer.new.outcome }
+    ensures number { RefusedAs 113 answer.new.outcome }
 {
     answer.refuse(
         113,
@@ -341,7 +342,8 @@ pub(crate) fn attach(answer: &mut Answer)
 
 /// Refuses a request that is not known.
 pub(crate) fn unknown(answer: &mut Answer)
-    ensures { IsRefusal answer.new.outcome }
+    ensures refused { IsRefusal answer.new.outcome }
+    ensures number { RefusedAs 101 answer.new.outcome }
 {
     answer.refuse(101, "balsadbg does not know this request");
 }

@@ -1,18 +1,24 @@
 // The launch of a description.
-ghost use Rattle.std.specs.Prelude.{◌≡◌, None, IfOk, IfSome};
+ghost use Rattle.std.specs.Prelude.{◌≡◌, None, Some, IfOk, MatchOption, MatchResult, false, true};
 ghost use Rattle.front_end.specs.Accepting.{AcceptedAs};
+ghost use Rattle.front_end.specs.FaultNumbers.{fault_number};
 ghost use Rattle.trace_file.specs.Loading.{IsLoaded};
 ghost use Rattle.serde_json.specs.View.{view};
 ghost use Rattle.machine.specs.AtMachine.{AtMachine};
+ghost use Rattle.dap_views.specs.Lined.{AreLinesOf};
 ghost use Rattle.dap.specs.Asking.{Asks, IsAsked, asked_by};
 ghost use Rattle.dap.specs.Files.{text_of};
-ghost use Rattle.dap.specs.Launching.{BeginsAt, BeginsOn, IsBegun, IsNew, IsUnset};
+ghost use Rattle.dap.specs.Launching.{BeginsAt, BeginsOn, IsNew, IsUnset, TellsBegun};
+ghost use Rattle.dap.specs.Stops.{NotDone, RefusedAs};
+ghost use Rattle.dap.specs.Unlaunched.{AreUnaccepted, BeginsNone, CannotBegin, CannotLaunch, Fails, IsOfTexts};
+ghost use Rattle.dap.specs.Unlaunched.{IsOfTrace, IsUnloaded};
+ghost use Rattle.dap.specs.declared.launch.Failed.{Failed as Failing};
 
 use crate::asked::launch_of;
 use crate::paths::beside;
 use crate::sources::Sources;
 use crate::texts::{Texts, texts_of};
-use dap_messages::{Answer, Members, Told};
+use dap_messages::{Answer, Members, Outcome, Told};
 use dap_moves::{Desk, Machine};
 use dap_requests::tell;
 use dap_views::{Counting, Index, Launch, Lines, Memo, Program, Words, base_of};
@@ -22,6 +28,7 @@ use refusal_pages::page_of;
 use serde_json::Value;
 use sharing_check::Checked;
 use std::alloc::{AllocError, Global};
+use std::mem;
 use trace_file::load_text;
 
 /// A program that was launched, and its desk.
@@ -41,6 +48,8 @@ pub(crate) enum Failed {
 }
 
 impl From<AllocError> for Failed {
+    ghost from_gives = { λ _ failed. failed ≡ Failing.Memory };
+
     fn from(_error: AllocError) -> Failed {
         Failed::Memory
     }
@@ -54,8 +63,9 @@ pub(crate) fn start<F: Sources>(
     arguments: &Value,
     answer: &mut Answer,
 ) -> Option<Launched>
-    ensures { IfSome result (λ launched. (asked : Asks)
-        × IsAsked (view arguments.now) asked × IsBegun (F.reads files.now) counting asked launched) }
+    ensures { MatchOption result (NotDone (CannotLaunch (F.reads files.now) (view arguments.now)) answer.new)
+        (λ launched. (asked : Asks) × IsAsked (view arguments.now) asked
+        × TellsBegun (F.reads files.now) counting asked answer.old answer.new launched) }
 {
     match launch_of(alloc, arguments, answer) {
         Ok(asked) => start_as(alloc, files, counting, asked, answer),
@@ -67,7 +77,10 @@ pub(crate) fn start<F: Sources>(
 }
 
 /// Keeps in mind why nothing is launched, where it was not told.
-fn note(failed: Failed, answer: &mut Answer) {
+fn note(failed: Failed, answer: &mut Answer)
+    ensures memory { failed ≡ Failing.Memory → answer.new.lacks ≡ true }
+    ensures told { failed ≡ Failing.Told → answer.new ≡ answer.old }
+{
     match failed {
         Failed::Memory => answer.lacks = true,
         Failed::Told => {}
@@ -82,7 +95,8 @@ pub(crate) fn start_as<F: Sources>(
     asked: Launch,
     answer: &mut Answer,
 ) -> Option<Launched>
-    ensures { IfSome result (λ launched. IsBegun (F.reads files.now) counting (asked_by asked) launched) }
+    ensures { MatchOption result (NotDone (CannotBegin (F.reads files.now) (asked_by asked)) answer.new)
+        (λ launched. TellsBegun (F.reads files.now) counting (asked_by asked) answer.old answer.new launched) }
 {
     match texts_of(alloc, files, &asked, answer) {
         Ok(texts) => start_on(alloc, counting, asked, texts, answer),
@@ -101,9 +115,10 @@ fn start_on(
     texts: Texts,
     answer: &mut Answer,
 ) -> Option<Launched>
-    ensures { IfSome result (λ launched. (m : AtMachine)
-        × BeginsAt texts.source.items texts.stimulus.items (text_of texts.trace) m
-        × IsNew (asked_by asked) counting texts.source.items m launched) }
+    ensures { MatchOption result
+        (NotDone (BeginsNone texts.source.items texts.stimulus.items (text_of texts.trace)) answer.new)
+        (λ launched. (m : AtMachine) × BeginsAt texts.source.items texts.stimulus.items (text_of texts.trace) m
+        × IsNew (asked_by asked) counting texts.source.items m launched × (answer.new ≡ answer.old)) }
 {
     match machine_of(alloc, &asked, &texts, counting, answer) {
         Ok(machine) => launched_on(alloc, asked, texts, counting, machine, answer),
@@ -123,7 +138,9 @@ fn launched_on(
     machine: Machine,
     answer: &mut Answer,
 ) -> Option<Launched>
-    ensures { IfSome result (IsNew (asked_by asked) counting texts.source.items machine) }
+    ensures { MatchOption result (answer.new.lacks ≡ true)
+        (λ launched. IsNew (asked_by asked) counting texts.source.items machine launched
+        × (answer.new ≡ answer.old)) }
 {
     match program_of(alloc, asked, texts, counting) {
         Ok(program) => Some(Launched {
@@ -146,8 +163,11 @@ fn machine_of(
     counting: Counting,
     answer: &mut Answer,
 ) -> Result<Machine, Failed>
-    ensures { IfOk result (λ machine.
-        BeginsAt texts.now.source.items texts.now.stimulus.items (text_of texts.now.trace) machine) }
+    ensures { MatchResult result
+        (λ machine. BeginsAt texts.now.source.items texts.now.stimulus.items (text_of texts.now.trace) machine
+        × (answer.new ≡ answer.old))
+        (λ failed. Fails (BeginsNone texts.now.source.items texts.now.stimulus.items (text_of texts.now.trace)) failed
+        answer.new) }
 {
     let source = texts.source.as_slice();
     let stimulus = texts.stimulus.as_slice();
@@ -173,7 +193,9 @@ fn program_of(
 }
 
 /// What the source declares, and its lines.
-fn seen_in(alloc: Global, source: &[u8]) -> Result<(Index, Lines), AllocError> {
+fn seen_in(alloc: Global, source: &[u8]) -> Result<(Index, Lines), AllocError>
+    ensures { IfOk result (λ found. AreLinesOf source.now found.1) }
+{
     let index = Index::new(alloc, source)?;
     let lines = Lines::new(alloc, source)?;
     Ok((index, lines))
@@ -188,6 +210,7 @@ fn unset(
     lines: Lines,
     counting: Counting,
 ) -> Program
+    requires { AreLinesOf source.items lines }
     ensures { IsUnset (asked_by launch) counting source.items result }
 {
     Program {
@@ -217,16 +240,34 @@ fn checked(
     counting: Counting,
     answer: &mut Answer,
 ) -> Result<Checked, Failed>
-    ensures { IfOk result (λ checked. AcceptedAs source.now stimulus.now checked) }
+    ensures { MatchResult result (λ checked. AcceptedAs source.now stimulus.now checked × (answer.new ≡ answer.old))
+        (λ failed. Fails (AreUnaccepted source.now stimulus.now) failed answer.new) }
 {
     match accept(alloc, source, stimulus) {
         Ok(checked) => Ok(checked),
-        Err(front_end::Fault::Memory) => Err(Failed::Memory),
-        Err(fault) => {
+        Err(fault) => Err(refused(alloc, asked, source, stimulus, fault, counting, answer)),
+    }
+}
+
+/// Refuses source or stimulus, and tells what is at its place.
+fn refused(
+    alloc: Global,
+    asked: &Launch,
+    source: &[u8],
+    stimulus: &[u8],
+    fault: front_end::Fault,
+    counting: Counting,
+    answer: &mut Answer,
+) -> Failed
+    ensures { Fails (IsOfTexts fault) result answer.new }
+{
+    match fault {
+        front_end::Fault::Memory => Failed::Memory,
+        _ => {
             refuse_texts(alloc, asked, source, fault, counting, answer);
             let place = (fault.number(), fault.field());
             tell_words(alloc, asked, place, source, Some(stimulus), None, answer);
-            Err(Failed::Told)
+            Failed::Told
         }
     }
 }
@@ -239,7 +280,9 @@ fn refuse_texts(
     fault: front_end::Fault,
     counting: Counting,
     answer: &mut Answer,
-) {
+)
+    ensures { NotDone (λ number. number ≡ fault_number fault) answer.new }
+{
     let number = fault.number();
     let field = fault.field().unwrap_or(0);
     if number < 30 {
@@ -277,7 +320,9 @@ fn refuse_beside(
     number: u32,
     counting: Counting,
     answer: &mut Answer,
-) {
+)
+    ensures { NotDone (λ n. n ≡ number) answer.new }
+{
     match beside(alloc, program) {
         Ok(name) => refuse_at(alloc, name.as_str(), line, 1, number, counting, answer),
         Err(AllocError) => answer.lacks = true,
@@ -317,7 +362,9 @@ fn machine_on(
     counting: Counting,
     answer: &mut Answer,
 ) -> Result<Machine, Failed>
-    ensures { IfOk result (λ machine. BeginsOn checked (text_of trace.now) machine) }
+    ensures { MatchResult result
+        (λ machine. BeginsOn checked (text_of trace.now) machine × (answer.new ≡ answer.old))
+        (λ failed. Fails (IsUnloaded checked (text_of trace.now)) failed answer.new) }
 {
     match trace {
         Some(text) => loaded(alloc, checked, asked, text.as_slice(), counting, answer),
@@ -334,7 +381,8 @@ fn loaded(
     counting: Counting,
     answer: &mut Answer,
 ) -> Result<Machine, Failed>
-    ensures { IfOk result (λ machine. IsLoaded checked trace.now machine) }
+    ensures { MatchResult result (λ machine. IsLoaded checked trace.now machine × (answer.new ≡ answer.old))
+        (λ failed. Fails (IsUnloaded checked (Some trace.now)) failed answer.new) }
 {
     match load_text(alloc, checked, trace) {
         Ok(machine) => Ok(machine),
@@ -344,7 +392,7 @@ fn loaded(
 
 /// The machine before the first step.
 fn fresh(alloc: Global, checked: Checked) -> Result<Machine, Failed>
-    ensures { IfOk result (λ machine. BeginsOn checked None machine) }
+    ensures { MatchResult result (λ machine. BeginsOn checked None machine) (λ failed. failed ≡ Failing.Memory) }
 {
     match Machine::new(alloc, checked) {
         Ok(machine) => Ok(machine),
@@ -352,7 +400,7 @@ fn fresh(alloc: Global, checked: Checked) -> Result<Machine, Failed>
     }
 }
 
-/// Refuses the trace.
+/// Refuses the trace, and tells what is at its place.
 fn refuse_trace(
     alloc: Global,
     asked: &Launch,
@@ -360,22 +408,32 @@ fn refuse_trace(
     trace: &[u8],
     counting: Counting,
     answer: &mut Answer,
-) -> Failed {
-    if fault == trace_file::Fault::Memory {
-        return Failed::Memory;
+) -> Failed
+    ensures { Fails (IsOfTrace fault) result answer.new }
+{
+    match fault {
+        trace_file::Fault::Memory => Failed::Memory,
+        _ => {
+            let line = fault.field().unwrap_or(1);
+            let name = trace_name(asked);
+            refuse_at(alloc, name, line, 1, fault.number(), counting, answer);
+            let place = (fault.number(), fault.field());
+            tell_words(alloc, asked, place, &[], None, Some(trace), answer);
+            Failed::Told
+        }
     }
-    let name = match &asked.trace {
-        Some(name) => name.as_str(),
-        None => "",
-    };
-    let line = fault.field().unwrap_or(1);
-    refuse_at(alloc, name, line, 1, fault.number(), counting, answer);
-    let place = (fault.number(), fault.field());
-    tell_words(alloc, asked, place, &[], None, Some(trace), answer);
-    Failed::Told
 }
 
-/// Tells what `--explain` tells of a fault of this number and field in these texts, where there is memory for it.
+/// The name of the trace; nothing where none is asked for.
+fn trace_name(asked: &Launch) -> &str {
+    match &asked.trace {
+        Some(name) => name.as_str(),
+        None => "",
+    }
+}
+
+/// Tells what `--explain` tells of a fault of this number and field in these texts, where there is memory for it. The
+/// response stays.
 fn tell_words<'a>(
     alloc: Global,
     asked: &'a Launch,
@@ -384,7 +442,27 @@ fn tell_words<'a>(
     stimulus: Option<&'a [u8]>,
     trace: Option<&'a [u8]>,
     answer: &mut Answer,
-) {
+)
+    ensures outcome { answer.new.outcome ≡ answer.old.outcome }
+    ensures lacks { answer.new.lacks ≡ false → answer.old.lacks ≡ false }
+{
+    let outcome = mem::replace(&mut answer.outcome, Outcome::Done(None));
+    add_words(alloc, asked, place, source, stimulus, trace, answer);
+    answer.outcome = outcome;
+}
+
+/// Tells these words.
+fn add_words<'a>(
+    alloc: Global,
+    asked: &'a Launch,
+    place: (u32, Option<u64>),
+    source: &'a [u8],
+    stimulus: Option<&'a [u8]>,
+    trace: Option<&'a [u8]>,
+    answer: &mut Answer,
+)
+    ensures { answer.new.lacks ≡ false → answer.old.lacks ≡ false }
+{
     let (number, field) = place;
     let inputs = Inputs {
         source: Input {
@@ -429,7 +507,9 @@ fn refuse_at(
     number: u32,
     counting: Counting,
     answer: &mut Answer,
-) {
+)
+    ensures { RefusedAs number answer.new.outcome }
+{
     let mut words = Words::of(alloc, name);
     words.add(":");
     words.number(line);

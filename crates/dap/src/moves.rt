@@ -1,8 +1,9 @@
 // Requests that ask a thread to move, or to stand.
+ghost use Rattle.std.specs.Prelude.{List};
+ghost use Rattle.runs.specs.declared.event.Choice.{Choice};
 ghost use Rattle.dap_messages.specs.Notes.{IsDone, IsRefusal};
 ghost use Rattle.dap_moves.specs.Led.{Led};
 ghost use Rattle.dap_requests.specs.Said.{Runs};
-ghost use Rattle.dap_requests.specs.Typed.{KeepsSome};
 ghost use Rattle.dap.specs.Steps.{Backward, Forward, GoesOn, IsDenied, Stays, Steps, thread_of};
 
 use dap_messages::{Answer, Kind, Request, Stop};
@@ -22,11 +23,10 @@ pub(crate) fn make_move(
     answer: &mut Answer,
 )
     ensures led { Led desk.old desk.new }
-    ensures goes { Runs answer.old answer.new desk.old desk.new
-        (λ stop. Steps program.now memo.old.seen.items memo.new.seen.items desk.old request.now.kind request.now stop
-        desk.new) }
+    ensures goes { Runs answer.old answer.new desk.old desk.new memo.old.seen.items memo.new.seen.items
+        (λ stop branch. Steps program.now memo.old.seen.items memo.new.seen.items desk.old request.now.kind request.now
+        stop branch desk.new) }
     ensures denied { IsDone answer.old.outcome → IsRefusal answer.new.outcome → IsDenied desk.old request.now }
-    ensures keeps { KeepsSome answer.new memo.old.seen.items memo.new.seen.items }
 {
     match request.kind {
         Kind::StepBack => back(alloc, desk, program, memo, request, answer),
@@ -47,10 +47,10 @@ fn step(
     answer: &mut Answer,
 )
     ensures led { Led desk.old desk.new }
-    ensures goes { Runs answer.old answer.new desk.old desk.new
-        (λ stop. Forward program.now.excepts desk.old request.now (thread_of desk.old request.now) stop desk.new) }
+    ensures goes { Runs answer.old answer.new desk.old desk.new memo.old.seen.items memo.new.seen.items
+        (λ stop branch. Forward program.now.excepts memo.old.seen.items memo.new.seen.items desk.old request.now
+        (thread_of desk.old request.now) stop branch desk.new) }
     ensures denied { IsDone answer.old.outcome → IsRefusal answer.new.outcome → IsDenied desk.old request.now }
-    ensures keeps { KeepsSome answer.new memo.old.seen.items memo.new.seen.items }
 {
     match thread_in(request, desk.machine(), answer) {
         Some(branch) => step_in(alloc, desk, program, memo, branch, request, answer),
@@ -68,11 +68,10 @@ fn go(
     answer: &mut Answer,
 )
     ensures led { Led desk.old desk.new }
-    ensures goes { Runs answer.old answer.new desk.old desk.new
-        (λ stop. GoesOn program.now memo.old.seen.items memo.new.seen.items desk.old request.now
-        (thread_of desk.old request.now) stop desk.new) }
+    ensures goes { Runs answer.old answer.new desk.old desk.new memo.old.seen.items memo.new.seen.items
+        (λ stop branch. GoesOn program.now memo.old.seen.items memo.new.seen.items desk.old request.now
+        (thread_of desk.old request.now) stop branch desk.new) }
     ensures denied { IsDone answer.old.outcome → IsRefusal answer.new.outcome → IsDenied desk.old request.now }
-    ensures keeps { KeepsSome answer.new memo.old.seen.items memo.new.seen.items }
 {
     match thread_in(request, desk.machine(), answer) {
         Some(branch) => {
@@ -93,10 +92,10 @@ fn back(
     answer: &mut Answer,
 )
     ensures led { Led desk.old desk.new }
-    ensures goes { Runs answer.old answer.new desk.old desk.new
-        (λ stop. Backward program.now.excepts desk.old (thread_of desk.old request.now) stop desk.new) }
+    ensures goes { Runs answer.old answer.new desk.old desk.new memo.old.seen.items memo.new.seen.items
+        (λ stop branch. Backward program.now.excepts memo.old.seen.items memo.new.seen.items desk.old
+        (thread_of desk.old request.now) stop branch desk.new) }
     ensures denied { IsDone answer.old.outcome → IsRefusal answer.new.outcome → IsDenied desk.old request.now }
-    ensures keeps { KeepsSome answer.new memo.old.seen.items memo.new.seen.items }
 {
     match thread_in(request, desk.machine(), answer) {
         Some(branch) => back_in(alloc, desk, program, memo, branch, answer),
@@ -106,8 +105,8 @@ fn back(
 
 /// Answers `pause`. It is read only once a run has ended, so nothing moves: it tells that the thread stands.
 fn pause(alloc: Global, desk: &Desk, request: &Request, answer: &mut Answer)
-    ensures goes { Runs answer.old answer.new desk.now desk.now
-        (λ stop. Stays desk.now (thread_of desk.now request.now) stop desk.now) }
+    ensures goes { (seen : List Choice) → Runs answer.old answer.new desk.now desk.now seen seen
+        (λ stop branch. Stays seen seen desk.now (thread_of desk.now request.now) stop branch desk.now) }
     ensures denied { IsDone answer.old.outcome → IsRefusal answer.new.outcome → IsDenied desk.now request.now }
 {
     match thread_in(request, desk.machine(), answer) {

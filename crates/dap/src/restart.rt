@@ -1,18 +1,21 @@
 // Another launch in place of one.
-ghost use Rattle.std.specs.Prelude.{◌≡◌, ◌⊎◌, IfOk, IfSome, string_bytes, true};
+ghost use Rattle.std.specs.Prelude.{◌≡◌, ◌⊎◌, IfOk, MatchOption, Some, [], false, string_bytes, true};
 ghost use Rattle.std.specs.Option.{option_map};
 ghost use Rattle.serde_json.specs.View.{view};
+ghost use Rattle.dap_requests.specs.Said.{TellsOutputs};
+ghost use Rattle.dap_requests.specs.Sets.{ArePlaced, changes_of, file_of, is_again};
 ghost use Rattle.dap.specs.Anew.{GoesAnew, IsMeant, KeepsSet, brought};
 ghost use Rattle.dap.specs.Anew as model;
 ghost use Rattle.dap.specs.Asking.{Asks, asked_by};
 ghost use Rattle.dap.specs.Goes.{Restarts};
-ghost use Rattle.dap.specs.Launching.{IsBegun};
+ghost use Rattle.dap.specs.Launching.{TellsBegun};
 ghost use Rattle.dap.specs.Stops.{NotDone};
+ghost use Rattle.dap.specs.Unlaunched.{CannotBegin, CannotRestart};
 
 use crate::begin::begin;
 use crate::launch::{Launched, start, start_as};
 use crate::sources::Sources;
-use dap_messages::{Answer, Outcome, Request, field};
+use dap_messages::{Answer, Request, field};
 use dap_requests::{Placing, place_again, tell, tell_changed};
 use dap_views::{Launch, Program, is_same_file};
 use serde_json::Value;
@@ -28,27 +31,17 @@ pub(crate) fn restart<F: Sources>(
     request: &Request,
     answer: &mut Answer,
 )
-    ensures { Restarts (F.reads files.now) launched.old request.now answer.new launched.new }
+    ensures { Restarts (F.reads files.now) launched.old request.now answer.old answer.new launched.new }
 {
     match started_again(alloc, files, &launched.program, request, answer) {
         Some(anew) => replace(alloc, launched, anew, answer),
-        None => note_none(answer),
-    }
-}
-
-/// Keeps in mind that nothing is launched: where that was not refused, there was no memory.
-pub(crate) fn note_none(answer: &mut Answer)
-    ensures { NotDone answer.new }
-{
-    match answer.outcome {
-        Outcome::Done(_) => answer.lacks = true,
-        Outcome::Refused(_, _) => {}
+        None => {}
     }
 }
 
 /// Takes what was launched anew in place of what was, if there is memory for its breakpoints.
 fn replace(alloc: Global, launched: &mut Launched, anew: Launched, answer: &mut Answer)
-    ensures { GoesAnew launched.old anew answer.new launched.new
+    ensures { GoesAnew launched.old anew answer.old answer.new launched.new
         ⊎ ((launched.new ≡ launched.old) × (answer.new.lacks ≡ true)) }
 {
     match place_again(alloc, anew.desk.machine(), &launched.program, &anew.program) {
@@ -65,7 +58,10 @@ fn begin_again(
     placing: Placing,
     answer: &mut Answer,
 )
-    ensures { GoesAnew launched.old anew answer.new launched.new }
+    requires placed { ArePlaced (is_again launched.old.program anew.program) anew.desk.machine.checked.main
+        anew.program.lines [] launched.old.program.asked.items placing.asked.items placing.stops.items }
+    requires shown { changes_of placing.shown.items ≡ changes_of placing.asked.items }
+    ensures { GoesAnew launched.old anew answer.old answer.new launched.new }
 {
     let is_lost = take_over(alloc, launched, anew);
     tell_unwatched(alloc, is_lost, answer);
@@ -74,7 +70,9 @@ fn begin_again(
 }
 
 /// Tells that nothing is watched any more, where something was.
-fn tell_unwatched(alloc: Global, is_lost: bool, answer: &mut Answer) {
+fn tell_unwatched(alloc: Global, is_lost: bool, answer: &mut Answer)
+    ensures { TellsOutputs answer.old answer.new }
+{
     if is_lost {
         let words = "The source is another one: its data breakpoints have to be set again.";
         tell(alloc, words, "console", answer);
@@ -101,9 +99,10 @@ fn started_again<F: Sources>(
     request: &Request,
     answer: &mut Answer,
 ) -> Option<Launched>
-    ensures { IfSome result (λ launched. (asked : Asks)
-        × IsMeant (brought request.now) (asked_by program.now.launch) asked
-        × IsBegun (F.reads files.now) program.now.counting asked launched) }
+    ensures { MatchOption result
+        (NotDone (CannotRestart (F.reads files.now) (brought request.now) (asked_by program.now.launch)) answer.new)
+        (λ launched. (asked : Asks) × IsMeant (brought request.now) (asked_by program.now.launch) asked
+        × TellsBegun (F.reads files.now) program.now.counting asked answer.old answer.new launched) }
 {
     match brought_by(request) {
         Some(arguments) => start(alloc, files, program.counting, arguments, answer),
@@ -149,7 +148,9 @@ fn start_same<F: Sources>(
     program: &Program,
     answer: &mut Answer,
 ) -> Option<Launched>
-    ensures { IfSome result (IsBegun (F.reads files.now) program.now.counting (asked_by program.now.launch)) }
+    ensures { MatchOption result
+        (NotDone (CannotBegin (F.reads files.now) (asked_by program.now.launch)) answer.new)
+        (TellsBegun (F.reads files.now) program.now.counting (asked_by program.now.launch) answer.old answer.new) }
 {
     match same_launch(alloc, &program.launch) {
         Ok(asked) => start_as(alloc, files, program.counting, asked, answer),
@@ -204,6 +205,9 @@ fn keep_settings(alloc: Global, old: &mut Program, program: &mut Program)
 /// Keeps the file for which breakpoints were asked, where it is another one.
 fn keep_file(alloc: Global, old: &mut Program, program: &mut Program)
     ensures program { program.new ≡ record program.old { elsewhere = program.new.elsewhere } }
+    ensures again { is_again old.old program.old ≡ true → program.new.elsewhere ≡ program.old.elsewhere }
+    ensures elsewhere { is_again old.old program.old ≡ false
+        → option_map (λ file. string_bytes file) program.new.elsewhere ≡ Some (file_of old.old) }
     ensures source { old.new.source ≡ old.old.source }
     ensures watched { old.new.watched ≡ old.old.watched }
 {
@@ -215,6 +219,7 @@ fn keep_file(alloc: Global, old: &mut Program, program: &mut Program)
 
 /// The file for which breakpoints were asked: it is taken out.
 fn file_of(alloc: Global, old: &mut Program) -> String
+    ensures file { string_bytes result ≡ file_of old.old }
     ensures source { old.new.source ≡ old.old.source }
     ensures watched { old.new.watched ≡ old.old.watched }
 {

@@ -1,9 +1,12 @@
 // The texts of the files that a launch names.
-ghost use Rattle.std.specs.Prelude.{ℕ, ◌≡◌, List, [], Option, Some, IfOk, string_bytes, unwrap_or};
-ghost use Rattle.std.specs.Option.{option_map};
+ghost use Rattle.std.specs.Prelude.{ℕ, ◌≡◌, List, [], Option, Some, MatchResult, unwrap_or};
+ghost use Rattle.dap_requests.specs.Said.{TellsOutputs};
 ghost use Rattle.dap.specs.Asking.{asked_by};
 ghost use Rattle.dap.specs.Asking as model;
-ghost use Rattle.dap.specs.Files.{AreRead, IsStimulus, IsTrace, text_of};
+ghost use Rattle.dap.specs.Files.{AreRead, FindsStimulus, IsMissing, IsTrace, IsUnread, TellsFound, text_of};
+ghost use Rattle.dap.specs.Stops.{RefusedAs};
+ghost use Rattle.dap.specs.Unlaunched.{Fails};
+ghost use Rattle.dap.specs.declared.launch.Failed.{Failed as Failing};
 
 use crate::launch::Failed;
 use crate::paths::beside;
@@ -28,9 +31,11 @@ pub(crate) fn texts_of<F: Sources>(
     asked: &Launch,
     answer: &mut Answer,
 ) -> Result<Texts, Failed>
-    ensures { IfOk result (λ texts.
-        AreRead (F.reads files.now) (asked_by asked.now)
-        texts.source.items texts.stimulus.items (text_of texts.trace)) }
+    ensures { MatchResult result
+        (λ texts. (found : Option (List ℕ))
+        × AreRead (F.reads files.now) (asked_by asked.now) texts.source.items found (text_of texts.trace)
+        × (texts.stimulus.items ≡ unwrap_or found []) × TellsFound found answer.old answer.new)
+        (λ failed. Fails (IsUnread (F.reads files.now) (asked_by asked.now)) failed answer.new) }
 {
     match file(alloc, files, asked.program.as_str(), answer) {
         Ok(source) => texts_beside(alloc, files, asked, source, answer),
@@ -46,9 +51,13 @@ fn texts_beside<F: Sources>(
     source: Vec<u8>,
     answer: &mut Answer,
 ) -> Result<Texts, Failed>
-    ensures { IfOk result (λ texts. (texts.source ≡ source)
-        × IsStimulus (F.reads files.now) (asked_by asked.now).program (asked_by asked.now).stimulus texts.stimulus.items
-        × IsTrace (F.reads files.now) (asked_by asked.now).trace (text_of texts.trace)) }
+    ensures { MatchResult result
+        (λ texts. (texts.source ≡ source)
+        × ((found : Option (List ℕ))
+        × FindsStimulus (F.reads files.now) (asked_by asked.now).program (asked_by asked.now).stimulus found
+        × (texts.stimulus.items ≡ unwrap_or found []) × TellsFound found answer.old answer.new)
+        × IsTrace (F.reads files.now) (asked_by asked.now).trace (text_of texts.trace))
+        (λ failed. Fails (IsUnread (F.reads files.now) (asked_by asked.now)) failed answer.new) }
 {
     match stimulus(alloc, files, asked, answer) {
         Ok(stimulus) => texts_with(alloc, files, asked, source, stimulus, answer),
@@ -65,8 +74,10 @@ fn texts_with<F: Sources>(
     stimulus: Vec<u8>,
     answer: &mut Answer,
 ) -> Result<Texts, Failed>
-    ensures { IfOk result (λ texts. (texts.source ≡ source) × (texts.stimulus ≡ stimulus)
-        × IsTrace (F.reads files.now) (asked_by asked.now).trace (text_of texts.trace)) }
+    ensures { MatchResult result
+        (λ texts. (texts.source ≡ source) × (texts.stimulus ≡ stimulus)
+        × IsTrace (F.reads files.now) (asked_by asked.now).trace (text_of texts.trace) × (answer.new ≡ answer.old))
+        (λ failed. Fails (IsUnread (F.reads files.now) (asked_by asked.now)) failed answer.new) }
 {
     match trace(alloc, files, asked, answer) {
         Ok(trace) => Ok(Texts {
@@ -85,7 +96,9 @@ fn trace<F: Sources>(
     asked: &Launch,
     answer: &mut Answer,
 ) -> Result<Option<Vec<u8>>, Failed>
-    ensures { IfOk result (λ trace. IsTrace (F.reads files.now) (asked_by asked.now).trace (text_of trace)) }
+    ensures { MatchResult result
+        (λ trace. IsTrace (F.reads files.now) (asked_by asked.now).trace (text_of trace) × (answer.new ≡ answer.old))
+        (λ failed. Fails (IsUnread (F.reads files.now) (asked_by asked.now)) failed answer.new) }
 {
     match &asked.trace {
         Some(name) => trace_at(alloc, files, name.as_str(), answer),
@@ -100,7 +113,9 @@ fn trace_at<F: Sources>(
     name: &str,
     answer: &mut Answer,
 ) -> Result<Option<Vec<u8>>, Failed>
-    ensures { IfOk result (λ trace. IsTrace (F.reads files.now) (Some name.now) (text_of trace)) }
+    ensures { MatchResult result
+        (λ trace. IsTrace (F.reads files.now) (Some name.now) (text_of trace) × (answer.new ≡ answer.old))
+        (λ failed. Fails (IsMissing (F.reads files.now) name.now) failed answer.new) }
 {
     match file(alloc, files, name, answer) {
         Ok(bytes) => Ok(Some(bytes)),
@@ -115,8 +130,11 @@ fn stimulus<F: Sources>(
     asked: &Launch,
     answer: &mut Answer,
 ) -> Result<Vec<u8>, Failed>
-    ensures { IfOk result (λ stimulus.
-        IsStimulus (F.reads files.now) (asked_by asked.now).program (asked_by asked.now).stimulus stimulus.items) }
+    ensures { MatchResult result
+        (λ stimulus. (found : Option (List ℕ))
+        × FindsStimulus (F.reads files.now) (asked_by asked.now).program (asked_by asked.now).stimulus found
+        × (stimulus.items ≡ unwrap_or found []) × TellsFound found answer.old answer.new)
+        (λ failed. Fails (IsUnread (F.reads files.now) (asked_by asked.now)) failed answer.new) }
 {
     match &asked.stimulus {
         Some(name) => file(alloc, files, name.as_str(), answer),
@@ -131,8 +149,10 @@ fn stimulus_beside<F: Sources>(
     program: &str,
     answer: &mut Answer,
 ) -> Result<Vec<u8>, Failed>
-    ensures { IfOk result (λ stimulus. (found : Option (List ℕ))
-        × F.reads files.now (model.beside program.now) found × (stimulus.items ≡ unwrap_or found [])) }
+    ensures { MatchResult result
+        (λ stimulus. (found : Option (List ℕ)) × F.reads files.now (model.beside program.now) found
+        × (stimulus.items ≡ unwrap_or found []) × TellsFound found answer.old answer.new)
+        (λ failed. failed ≡ Failing.Memory) }
 {
     match beside(alloc, program) {
         Ok(path) => stimulus_at(alloc, files, path.as_str(), answer),
@@ -147,8 +167,10 @@ fn stimulus_at<F: Sources>(
     name: &str,
     answer: &mut Answer,
 ) -> Result<Vec<u8>, Failed>
-    ensures { IfOk result (λ stimulus. (found : Option (List ℕ))
-        × F.reads files.now name.now found × (stimulus.items ≡ unwrap_or found [])) }
+    ensures { MatchResult result
+        (λ stimulus. (found : Option (List ℕ)) × F.reads files.now name.now found
+        × (stimulus.items ≡ unwrap_or found []) × TellsFound found answer.old answer.new)
+        (λ failed. failed ≡ Failing.Memory) }
 {
     match files.read(alloc, name) {
         Ok(Some(bytes)) => Ok(bytes),
@@ -161,7 +183,9 @@ fn stimulus_at<F: Sources>(
 }
 
 /// Tells that the stimulus of this name is not there.
-fn tell_none(alloc: Global, name: &str, answer: &mut Answer) {
+fn tell_none(alloc: Global, name: &str, answer: &mut Answer)
+    ensures { TellsOutputs answer.old answer.new }
+{
     let mut words = Words::of(alloc, "No `stimulus` is given, and ");
     words.add(base_of(name));
     words.add(" is not there: the inputs get no values.");
@@ -175,7 +199,9 @@ fn file<F: Sources>(
     name: &str,
     answer: &mut Answer,
 ) -> Result<Vec<u8>, Failed>
-    ensures { IfOk result (λ bytes. F.reads files.now name.now (Some bytes.items)) }
+    ensures { MatchResult result
+        (λ bytes. F.reads files.now name.now (Some bytes.items) × (answer.new ≡ answer.old))
+        (λ failed. Fails (IsMissing (F.reads files.now) name.now) failed answer.new) }
 {
     match files.read(alloc, name) {
         Ok(Some(bytes)) => Ok(bytes),
@@ -188,7 +214,9 @@ fn file<F: Sources>(
 }
 
 /// Refuses a file that cannot be read.
-fn refuse_unread(alloc: Global, name: &str, answer: &mut Answer) {
+fn refuse_unread(alloc: Global, name: &str, answer: &mut Answer)
+    ensures { RefusedAs 41 answer.new.outcome }
+{
     let mut words = Words::of(alloc, "refused 41: ");
     words.add(name);
     words.add(" cannot be read");

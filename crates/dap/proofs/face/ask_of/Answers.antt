@@ -5,4 +5,4 @@ pub returns-in-Restart : goal.returns-in-Restart
 returns-in-Restart g c = inl (c.in-Restart.is, c.restart.ensures)
 
 pub returns-in_default : goal.returns-in_default
-returns-in_default g c = inr (c.perform.ensures.goes, c.perform.ensures.sees)
+returns-in_default g c = inr (c.in_default.not-Restart, c.perform.ensures.goes, c.perform.ensures.sees)

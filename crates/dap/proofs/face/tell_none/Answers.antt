@@ -16,10 +16,10 @@ pub returns-in-SetDataBreakpoints : goal.returns-in-SetDataBreakpoints
 returns-in-SetDataBreakpoints c = λ closed. not_opened c.args.request.now.kind Kind.SetDataBreakpoints c.in-SetDataBreakpoints.is refl closed
 
 pub returns-in-Attach : goal.returns-in-Attach
-returns-in-Attach c = λ closed. c.attach.ensures
+returns-in-Attach c = λ closed. c.attach.ensures.refused
 
 pub returns-in-Other : goal.returns-in-Other
-returns-in-Other c = λ closed. c.unknown.ensures
+returns-in-Other c = λ closed. c.unknown.ensures.refused
 
 pub returns-in_default : goal.returns-in_default
 returns-in_default c = λ closed. c.refuse.ensures.refused

@@ -1,7 +1,6 @@
 use Rattle.std.proofs.Common.{inl}
 use Rattle.dap_messages.specs.declared.kind.Kind.{Kind}
-use Rattle.dap_requests.proofs.public.Saying.{keeps_of}
-use Rattle.dap.proofs.Going.{keeps_same, steps_as, steps_forward}
+use Rattle.dap.proofs.Going.{steps_as, steps_forward}
 use Rattle.dap.proofs.moves.make_move.Goals as goal
 
 pub returns-in-StepBack-clause-goes : goal.returns-in-StepBack-clause-goes
@@ -20,18 +19,11 @@ returns-in-ReverseContinue-clause-goes c =
     c.args.desk.now c.reverse.new.desk c.args.request.now.kind Kind.ReverseContinue c.args.request.now c.in-ReverseContinue.is
     c.reverse.ensures.goes
 
-pub returns-in-ReverseContinue-clause-keeps : goal.returns-in-ReverseContinue-clause-keeps
-returns-in-ReverseContinue-clause-keeps c =
-    keeps_of c.args.desk.now c.reverse.new.desk c.reverse.new.answer c.args.memo.now.seen.items c.reverse.new.memo.seen.items
-    c.reverse.ensures.keeps
-
 pub returns-in-Pause-clause-goes : goal.returns-in-Pause-clause-goes
 returns-in-Pause-clause-goes c =
     steps_as c.args.answer.now c.pause.new.answer c.args.program.now c.args.memo.now.seen.items c.args.memo.now.seen.items c.args.desk.now
-    c.args.desk.now c.args.request.now.kind Kind.Pause c.args.request.now c.in-Pause.is c.pause.ensures.goes
-
-pub returns-in-Pause-clause-keeps : goal.returns-in-Pause-clause-keeps
-returns-in-Pause-clause-keeps c = keeps_same c.pause.new.answer c.args.memo.now.seen.items
+    c.args.desk.now c.args.request.now.kind Kind.Pause c.args.request.now c.in-Pause.is
+    (c.pause.ensures.goes c.args.memo.now.seen.items)
 
 pub returns-in-ReverseContinue-clause-denied : goal.returns-in-ReverseContinue-clause-denied
 returns-in-ReverseContinue-clause-denied c = λ done refused. inl (c.reverse.ensures.denied done refused)

@@ -3,22 +3,22 @@ use Rattle.dap_messages.specs.Notes.{IsDone}
 use Rattle.dap_messages.specs.declared.answer.Answer.{Answer}
 use Rattle.dap_messages.specs.declared.told.Stop.{Stop}
 use Rattle.dap.specs.Steps.{Forward, thread_of}
-use Rattle.dap_requests.proofs.public.Saying.{keeps_of, runs_refused}
-use Rattle.dap.proofs.Going.{keeps_same, runs_in_thread, thread_found}
+use Rattle.dap_requests.proofs.public.Saying.{runs_refused}
+use Rattle.dap.proofs.Going.{runs_in_thread, thread_found}
 use Rattle.dap.proofs.moves.step.Goals as goal
 
 pub returns-in-Some-clause-goes : goal.returns-in-Some-clause-goes
 returns-in-Some-clause-goes c =
-    runs_in_thread c.args.answer.now c.thread_in.new.answer c.step_in.new.answer c.args.desk.now c.step_in.new.desk c.machine.result.now
-    c.args.request.now c.thread_in.result c.in-Some.branch
-    (λ (k : Option ℕ) (stop : Stop). Forward c.args.program.now.excepts c.args.desk.now c.args.request.now k stop c.step_in.new.desk) c.machine.ensures c.thread_in.ensures.thread c.in-Some.is
-    c.in-Some.ensures.outcome c.step_in.ensures.goes
+    runs_in_thread c.args.answer.now c.thread_in.new.answer c.step_in.new.answer c.args.desk.now c.step_in.new.desk c.args.memo.now.seen.items
+    c.step_in.new.memo.seen.items c.machine.result.now c.args.request.now c.thread_in.result c.in-Some.branch
+    (λ (k : Option ℕ) (stop : Stop) (branch : ℕ). Forward c.args.program.now.excepts c.args.memo.now.seen.items c.step_in.new.memo.seen.items c.args.desk.now c.args.request.now k stop branch c.step_in.new.desk)
+    c.machine.ensures c.thread_in.ensures.thread c.in-Some.is c.in-Some.ensures.outcome c.step_in.ensures.goes
 
 pub returns-in-None-clause-goes : goal.returns-in-None-clause-goes
 returns-in-None-clause-goes c =
-    runs_refused c.args.answer.now c.thread_in.new.answer c.args.desk.now c.args.desk.now
-    (λ (stop : Stop). Forward c.args.program.now.excepts c.args.desk.now c.args.request.now (thread_of c.args.desk.now c.args.request.now) stop c.args.desk.now) c.in-None.ensures.outcome.0
-    c.in-None.ensures.outcome.1 refl
+    runs_refused c.args.answer.now c.thread_in.new.answer c.args.desk.now c.args.desk.now c.args.memo.now.seen.items c.args.memo.now.seen.items
+    (λ (stop : Stop) (branch : ℕ). Forward c.args.program.now.excepts c.args.memo.now.seen.items c.args.memo.now.seen.items c.args.desk.now c.args.request.now (thread_of c.args.desk.now c.args.request.now) stop branch c.args.desk.now)
+    c.in-None.ensures.outcome.0 c.in-None.ensures.outcome.1 refl refl
 
 pub returns-in-Some-clause-denied : goal.returns-in-Some-clause-denied
 returns-in-Some-clause-denied c = λ done refused.
@@ -29,11 +29,3 @@ returns-in-None-clause-denied c = λ done refused.
     inl
     (thread_found c.args.desk.now c.machine.result.now c.args.request.now c.thread_in.result c.machine.ensures c.thread_in.ensures.thread
     ∙ c.in-None.is)
-
-pub returns-in-Some-clause-keeps : goal.returns-in-Some-clause-keeps
-returns-in-Some-clause-keeps c =
-    keeps_of c.args.desk.now c.step_in.new.desk c.step_in.new.answer c.args.memo.now.seen.items c.step_in.new.memo.seen.items
-    c.step_in.ensures.keeps
-
-pub returns-in-None-clause-keeps : goal.returns-in-None-clause-keeps
-returns-in-None-clause-keeps c = keeps_same c.thread_in.new.answer c.args.memo.now.seen.items

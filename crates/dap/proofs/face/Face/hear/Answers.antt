@@ -9,7 +9,9 @@ pub returns-in-Initialize-clause-goes : goal.returns-in-Initialize-clause-goes
 returns-in-Initialize-clause-goes g c =
     inl
     (goes_nowhere c.args.self.now.launched c.initialize.new.self.launched c.args.request.now c.args.answer.now c.initialize.new.answer
-    Kind.Initialize c.in-Initialize.is refl refl c.initialize.ensures.quiet (λ arguments c p. refl) c.initialize.ensures.launched)
+    Kind.Initialize c.in-Initialize.is (λ other. absurd (cc)) refl refl (λ d p. c.initialize.ensures.quiet) tt
+    (λ m index sight d. tt) (λ arguments c p. refl)
+    c.initialize.ensures.launched)
 
 pub returns-in-Initialize-clause-early : goal.returns-in-Initialize-clause-early
 returns-in-Initialize-clause-early g c = λ none closed.
