@@ -88,16 +88,21 @@ fn begin_free(alloc: Global, desk: &mut Desk, program: &Program, answer: &mut An
     ensures runs { RunsFree program.now.launch.most desk.old desk.new }
     ensures ends { TellsEnd answer.old answer.new }
 {
-    run_free(alloc, desk, program, answer);
-    tell_end(alloc, answer);
+    let is_well = run_free(alloc, desk, program, answer);
+    tell_end(alloc, exit_code(is_well), answer);
 }
 
-/// Tells that it is over.
-fn tell_end(alloc: Global, answer: &mut Answer)
+/// The code with which a run ends that nobody debugs.
+fn exit_code(is_well: bool) -> u64 {
+    if is_well { 0 } else { 1 }
+}
+
+/// Tells that it is over, with this code.
+fn tell_end(alloc: Global, code: u64, answer: &mut Answer)
     ensures { TellsEnd answer.old answer.new }
 {
     let mut body = Members::new(alloc);
-    body.number("exitCode", 0);
+    body.number("exitCode", code);
     answer.note(Told::Exited, body);
     answer.tell(Told::Terminated);
 }

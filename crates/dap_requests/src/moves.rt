@@ -375,8 +375,8 @@ fn run_on(
     go_on(alloc, desk, &plan, &mut memo.seen)
 }
 
-/// Runs to the end without stops, and tells what came out.
-pub fn run_free(alloc: Global, desk: &mut Desk, program: &Program, answer: &mut Answer)
+/// Runs to the end without stops, and tells what came out. Returns whether no step was refused.
+pub fn run_free(alloc: Global, desk: &mut Desk, program: &Program, answer: &mut Answer) -> bool
     ensures led { Led desk.old desk.new }
     ensures system { desk.new.machine.checked ≡ desk.old.machine.checked }
     ensures runs { RunsFree program.now.launch.most desk.old desk.new }
@@ -394,6 +394,7 @@ pub fn run_free(alloc: Global, desk: &mut Desk, program: &Program, answer: &mut 
     let ended = go_on(alloc, desk, &plan, &mut seen);
     tell_outputs(alloc, desk.machine(), before, answer);
     tell_free_end(alloc, desk.machine(), ended, answer);
+    !matches!(ended, Ended::Refused(_, _))
 }
 
 /// Tells why a run ended that nobody debugs.
