@@ -197,17 +197,19 @@ pub shows_as : (kind known : Kind) (m : AtMachine) (index : Index) (sight : Opti
     ShowsBy known m index sight d b → ShowsBy kind m index sight d b
 shows_as kind known m index sight d b is h = subst (λ (k : Kind). ShowsBy k m index sight d b) (sym is) h
 
-pub shows_none : (kind : Kind) (m : AtMachine) (index : Index) (sight : Option Sight) (d : Data) (b : Answer) → (kind ≡ Kind.StackTrace → ⊥) →
-    (kind ≡ Kind.Scopes → ⊥) → (kind ≡ Kind.Variables → ⊥) → (kind ≡ Kind.StepInTargets → ⊥) → ShowsBy kind m index sight d b
-shows_none Kind.StackTrace m index sight d b one two three four = absurd (one refl)
-shows_none Kind.Scopes m index sight d b one two three four = absurd (two refl)
-shows_none Kind.Variables m index sight d b one two three four = absurd (three refl)
-shows_none Kind.StepInTargets m index sight d b one two three four = absurd (four refl)
-shows_none _ m index sight d b one two three four = tt
+pub shows_none : (kind : Kind) (m : AtMachine) (index : Index) (sight : Option Sight) (d : Data) (b : Answer) → (kind ≡ Kind.Threads → ⊥) →
+    (kind ≡ Kind.StackTrace → ⊥) → (kind ≡ Kind.Scopes → ⊥) → (kind ≡ Kind.Variables → ⊥) → (kind ≡ Kind.StepInTargets → ⊥) → ShowsBy kind m index sight d b
+shows_none Kind.Threads m index sight d b none one two three four = absurd (none refl)
+shows_none Kind.StackTrace m index sight d b none one two three four = absurd (one refl)
+shows_none Kind.Scopes m index sight d b none one two three four = absurd (two refl)
+shows_none Kind.Variables m index sight d b none one two three four = absurd (three refl)
+shows_none Kind.StepInTargets m index sight d b none one two three four = absurd (four refl)
+shows_none _ m index sight d b none one two three four = tt
 
 -- of one that may change the desk more is said elsewhere
 shows-changing : (kind : Kind) (m : AtMachine) (index : Index) (sight : Option Sight) (d : Data) (b : Answer) → changes kind ≡ true →
     ShowsBy kind m index sight d b
+shows-changing Kind.Threads m index sight d b is = absurd (cc)
 shows-changing Kind.StackTrace m index sight d b is = absurd (cc)
 shows-changing Kind.Scopes m index sight d b is = absurd (cc)
 shows-changing Kind.Variables m index sight d b is = absurd (cc)
@@ -233,6 +235,7 @@ targets-beside m index seen (Some id) b notes h = h
 
 pub shows_beside : (kind : Kind) (m : AtMachine) (index : Index) (sight : Option Sight) (d : Data) (b : Answer) (notes : Vec Note Global) →
     ShowsBy kind m index sight d b → ShowsBy kind m index sight d (record b { notes = notes })
+shows_beside Kind.Threads m index sight d b notes h = h
 shows_beside Kind.StackTrace m index sight d b notes h = λ full.
     frames-beside m index sight d (branch_named (branch_count m.checked) (number_named (codes "threadId") d)) b notes (h full)
 shows_beside Kind.Scopes m index sight d b notes h = λ full.
@@ -373,6 +376,11 @@ unchanging kind is reads =
     let other : changes kind ≡ true = ap (λ (b : Bool). b || asks kind) is in
     let no : true ≡ false = sym other ∙ reads in absurd (cc)
 
+-- what is shown or set is no move and no line
+inactive : {X : Type 0} (kind : Kind) (typed : Bool) → moves kind ≡ false → asks kind ≡ false → (moves kind || types kind typed) ≡ true → X
+inactive Kind.Evaluate typed still none active = absurd (cc)
+inactive _ typed still none active = absurd (cc)
+
 -- what is not held back may move
 unheld : {X : Type 0} (p : Program) (request : Request) → (p.ended ≡ true → (is_active request ≡ false) × (begins request.kind ≡ false)) →
     (p.begun ≡ false → is_active request ≡ false) → Rests p → is_active request ≡ true → X
@@ -444,7 +452,7 @@ look_goes l request a b q still none sets tells answers shows = record {
   answers = answers;
   shows = (l.program.sight, λ seen. seen, shows);
   recalls = λ reads. refl;
-  held = λ rests active. refl;
+  held = λ rests active. inactive request.kind (is_typed request) still none active;
   sees = λ seen same.
       seen_still l.desk l.desk l.program.sight q.sight (sight_set request l.desk.machine.checked.main l.program q b sets) refl seen;
 }
@@ -473,7 +481,7 @@ held-goes l request a b sets changing why over refused same = record {
     shows-changing request.kind l.desk.machine l.program.index l.program.sight (view request.arguments) b changing,
   );
   recalls = λ reads. refl;
-  held = λ rests active. refl;
+  held = λ rests active. (refused, same, refl);
   sees = λ seen stays. seen;
 }
 

@@ -1,6 +1,8 @@
 -- What a restart keeps.
 use Rattle.std.proofs.Common.{ℕ, ◌≡◌, ◌∙◌, List, [], ◌∷◌, ◌++◌, Option, None, Some, Vec, Global, refl, sym, subst, ap, append_assoc}
+use Rattle.dap_messages.specs.Notes.{IsDone}
 use Rattle.dap_messages.specs.declared.answer.Answer.{Answer}
+use Rattle.dap_messages.specs.declared.answer.Outcome.{Outcome}
 use Rattle.dap_moves.specs.Led.{Led}
 use Rattle.dap_views.specs.declared.program.Asked.{Asked}
 use Rattle.dap_views.specs.declared.program.Program.{Program}
@@ -42,13 +44,14 @@ same_changes less (v ∷ vs) (a ∷ asked) same =
 
 -- what is told of breakpoints, behind texts
 pub tells_anew : {A B : Type 0} (k : Program) (moved : List A) (shown : List B) (a m b : Answer) → changes_of shown ≡ changes_of k.asked.items →
-    TellsOutputs a m → Tells m (texts_of moved ++ changes_of shown) b → TellsAnew k a b
-tells_anew k moved shown a m b same h tells = (
+    TellsOutputs a m → Tells m (texts_of moved ++ changes_of shown) b → b.outcome ≡ m.outcome → TellsAnew k a b
+tells_anew k moved shown a m b same h tells outcome = (
   h.outputs ++ texts_of moved,
   both-outputs h.outputs (texts_of moved) h.are (texts-outputs moved),
   subst (λ (ts : List Told). Tells a ts b)
       (sym (append_assoc h.outputs (texts_of moved) (changes_of shown)) ∙ ap (λ (ts : List Told). (h.outputs ++ texts_of moved) ++ ts) same)
       (tells_on a m b h.outputs (texts_of moved ++ changes_of shown) h.told tells),
+  λ done. subst (λ (o : Outcome). IsDone o) (sym outcome) (h.done done),
 )
 
 -- and behind what was found of the stimulus
@@ -58,6 +61,7 @@ tells-behind None k a m b h tells = (
   both-outputs h.outputs tells.0 h.are tells.1,
   subst (λ (ts : List Told). Tells a ts b) (sym (append_assoc h.outputs tells.0 (changes_of k.asked.items)))
       (tells_on a m b h.outputs (tells.0 ++ changes_of k.asked.items) h.told tells.2),
+  λ done. tells.3 (h.done done),
 )
 tells-behind (Some text) k a m b h tells = subst (λ (x : Answer). TellsAnew k x b) h tells
 

@@ -118,6 +118,7 @@ begun-excepting reads counting asked excepts l h = record {
       elsewhere = h.fresh.unset.elsewhere;
       stops = h.fresh.unset.stops;
       watched = h.fresh.unset.watched;
+      numbers = h.fresh.unset.numbers;
       waits = h.fresh.unset.waits;
       lasts = h.fresh.unset.lasts;
       sight = h.fresh.unset.sight;

@@ -4,6 +4,7 @@ use Rattle.std.specs.Option.{option_map}
 use Rattle.serde_json.specs.Data.{Data}
 use Rattle.serde_json.specs.View.{view}
 use Rattle.dap_messages.specs.Arguments.{part_named}
+use Rattle.dap_messages.specs.Notes.{IsDone}
 use Rattle.dap_messages.specs.declared.answer.Answer.{Answer}
 use Rattle.dap_messages.specs.declared.request.Request.{Request}
 use Rattle.dap_messages.specs.declared.told.Told.{Told}
@@ -60,9 +61,11 @@ KeepsLines l anew k =
     ArePlaced (is_again l.program anew.program) anew.desk.machine.checked.main anew.program.lines []
     l.program.asked.items k.asked.items k.stops.items
 
--- texts are told, and behind them of each breakpoint that it has changed
+-- texts are told, and behind them of each breakpoint that it has changed; and nothing is refused
 abbrev pub TellsAnew : Program → Answer → Answer → Type 0
-TellsAnew k a b = (texts : List Told) × AreOutputs texts × Tells a (texts ++ changes_of k.asked.items) b
+TellsAnew k a b =
+    (texts : List Told) × AreOutputs texts × Tells a (texts ++ changes_of k.asked.items) b
+    × (IsDone a.outcome → IsDone b.outcome)
 
 -- with that kept it begins, behind what is told of that, and the answer tells how
 pub record GoesAnew (l anew : Launched) (a b : Answer) (m : Launched) : Type 0 where

@@ -19,6 +19,7 @@ use Rattle.dap_requests.specs.Typed.{Evaluates, Rests, is_typed}
 use Rattle.dap_server.specs.Kinds.{moves}
 use Rattle.dap_threads.specs.Scopes.{ListsScopes}
 use Rattle.dap_threads.specs.Stack.{ListsFrames}
+use Rattle.dap_threads.specs.Threads.{ListsThreads}
 use Rattle.dap_threads.specs.Variables.{ListsVariables}
 use Rattle.dap_views.specs.Kept.{unseen}
 use Rattle.dap_views.specs.Seen.{Sees}
@@ -58,9 +59,10 @@ TellsBy Kind.SetBreakpoints d p a q b = TellsLines d p a q b
 TellsBy Kind.SetExceptionBreakpoints d p a q b = (b.notes ≡ a.notes) × AnswersFilters (filters_refused d) a b
 TellsBy _ d p a q b = b.notes ≡ a.notes
 
--- what the response to a request of this kind with these arguments lists, where there was memory for it: the frames of
--- a thread, the scopes of a frame, what is unfolded, or the steps that `stepIn` may name; or it is refused
+-- what the response to a request of this kind with these arguments lists, where there was memory for it: the
+-- threads, the frames of one, the scopes of a frame, what is unfolded, or the steps that `stepIn` may name; or it is refused
 abbrev pub ShowsBy : Kind → AtMachine → Index → Option Sight → Data → Answer → Type 0
+ShowsBy Kind.Threads m index sight d b = b.lacks ≡ false → ListsThreads m b
 ShowsBy Kind.StackTrace m index sight d b = b.lacks ≡ false → ListsFrames m index sight d b
 ShowsBy Kind.Scopes m index sight d b = b.lacks ≡ false → ListsScopes m index sight d b
 ShowsBy Kind.Variables m index sight d b = b.lacks ≡ false → ListsVariables m index d b
@@ -114,7 +116,8 @@ pub record LaunchedGoes (l : Launched) (request : Request) (a b : Answer) (m : L
       × ShowsBy request.kind l.desk.machine l.program.index sight (view request.arguments) b
   pub answers : AnswersBy request.kind a.outcome b.outcome
   pub recalls : changes request.kind ≡ false → m.memo.seen.items ≡ l.memo.seen.items
-  pub held : Rests l.program → is_active request ≡ true → m.memo.seen.items ≡ l.memo.seen.items
+  pub held : Rests l.program → is_active request ≡ true →
+      IsRefusal b.outcome × (b.notes ≡ a.notes) × (m.memo.seen.items ≡ l.memo.seen.items)
   pub sees : IsSeen l → m.desk ≡ l.desk → IsSeen m
 
 -- a restart launches what its arguments name, where they name a program, and else the same again, from the files as

@@ -34,6 +34,7 @@ pub record IsUnset (asked : Asks) (counting : Counting) (source : List ℕ) (p :
   pub elsewhere : p.elsewhere ≡ None
   pub stops : p.stops.items ≡ []
   pub watched : p.watched.items ≡ []
+  pub numbers : p.last_id ≡ 0
   pub waits : p.begun ≡ false
   pub lasts : p.ended ≡ false
   pub sight : p.sight ≡ None

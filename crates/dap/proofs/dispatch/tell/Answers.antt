@@ -30,7 +30,7 @@ returns-in-DataBreakpointInfo-clause-answers c =
 pub returns-in-Threads-clause-shows : goal.returns-in-Threads-clause-shows
 returns-in-Threads-clause-shows c =
     shows_as c.args.request.now.kind Kind.Threads c.args.machine.now c.args.program.now.index c.args.program.now.sight
-    (view c.args.request.now.arguments) c.threads.new.answer c.in-Threads.is tt
+    (view c.args.request.now.arguments) c.threads.new.answer c.in-Threads.is c.threads.ensures
 
 pub returns-in-StackTrace-clause-shows : goal.returns-in-StackTrace-clause-shows
 returns-in-StackTrace-clause-shows c =
@@ -60,4 +60,4 @@ returns-in-DataBreakpointInfo-clause-shows c =
 pub returns-in_default-clause-shows : goal.returns-in_default-clause-shows
 returns-in_default-clause-shows c =
     shows_none c.args.request.now.kind c.args.machine.now c.args.program.now.index c.args.program.now.sight (view c.args.request.now.arguments)
-    c.tell_other.new.answer c.in_default.not-StackTrace c.in_default.not-Scopes c.in_default.not-Variables c.in_default.not-StepInTargets
+    c.tell_other.new.answer c.in_default.not-Threads c.in_default.not-StackTrace c.in_default.not-Scopes c.in_default.not-Variables c.in_default.not-StepInTargets

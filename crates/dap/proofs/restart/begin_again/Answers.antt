@@ -11,4 +11,4 @@ returns c =
     (begins_once _ _ _ _ c.tell_changed.new.answer c.begin.new.answer c.begin.ensures.begins)
     (tells_anew (record c.take_over-is_lost.new.launched.program { asked = c.args.placing.asked; stops = c.args.placing.stops })
     c.args.placing.moved.items c.args.placing.shown.items c.args.answer.now c.tell_unwatched.new.answer
-    c.tell_changed.new.answer c.requires.shown c.tell_unwatched.ensures c.tell_changed.ensures.tells)
+    c.tell_changed.new.answer c.requires.shown c.tell_unwatched.ensures c.tell_changed.ensures.tells c.tell_changed.ensures.same.0)
