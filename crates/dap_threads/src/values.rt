@@ -531,8 +531,8 @@ fn add_calls(alloc: Global, program: &Program, instance: usize, list: &mut Liste
 /// Adds the call of this index, if it is made in the instance.
 fn add_call(alloc: Global, program: &Program, index: usize, instance: usize, list: &mut Listed)
     ensures { (before : List_of)
-        → AddsUnfolded before (map (λ (k : ℕ). unfolds.Handle.Instance k) (calls_within program.now.index instance index))
-        list.old
+        → AddsUnfolded before
+        (map (λ (k : ℕ). unfolds.Handle.Instance k) (calls_within program.now.index instance index)) list.old
         → AddsUnfolded before
         (map (λ (k : ℕ). unfolds.Handle.Instance k) (calls_within program.now.index instance (index + 1))) list.new }
 {
