@@ -34,8 +34,8 @@ abbrev pub EarlyBy : Kind → Reads → Option Counting → Bool → Data → An
 EarlyBy Kind.Launch reads client excepts d a b y = LaunchesFor reads client excepts d a b y
 EarlyBy _ reads client excepts d a b y = (y ≡ None) × (b.notes ≡ a.notes)
 
--- how a request of this kind is answered where nothing is launched, for a client that is known: no breakpoint stands and
--- nothing is watched, filters are refused exactly where they are no list, and there is nothing to attach to
+-- how a request of this kind is answered where nothing is launched, for a client that is known: no breakpoint stands
+-- and nothing is watched, filters are refused exactly where they are no list, and there is nothing to attach to
 abbrev pub AnswersKnown : Kind → Data → Answer → Answer → Type 0
 AnswersKnown Kind.SetBreakpoints d a b = TellsNone d b
 AnswersKnown Kind.SetDataBreakpoints d a b = TellsNoData (items_named (codes "breakpoints") d) b

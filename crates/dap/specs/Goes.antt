@@ -59,8 +59,8 @@ TellsBy Kind.SetBreakpoints d p a q b = TellsLines d p a q b
 TellsBy Kind.SetExceptionBreakpoints d p a q b = (b.notes ≡ a.notes) × AnswersFilters (filters_refused d) a b
 TellsBy _ d p a q b = b.notes ≡ a.notes
 
--- what the response to a request of this kind with these arguments lists, where there was memory for it: the
--- threads, the frames of one, the scopes of a frame, what is unfolded, or the steps that `stepIn` may name; or it is refused
+-- what the response to a request of this kind with these arguments lists, where there was memory for it: the threads,
+-- the frames of one, the scopes of a frame, what is unfolded, or the steps that `stepIn` may name; or it is refused
 abbrev pub ShowsBy : Kind → AtMachine → Index → Option Sight → Data → Answer → Type 0
 ShowsBy Kind.Threads m index sight d b = b.lacks ≡ false → ListsThreads m b
 ShowsBy Kind.StackTrace m index sight d b = b.lacks ≡ false → ListsFrames m index sight d b
