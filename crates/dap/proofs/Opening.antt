@@ -1,19 +1,21 @@
 -- What comes before a launch.
-use Rattle.std.proofs.Common.{ℕ, ◌≡◌, ◌∙◌, List, [], ◌∷◌, Bool, true, false, Option, None, Some, inl, inr, refl, sym, ap, subst}
-use Rattle.serde_json.specs.Data.{Data}
+use Rattle.std.proofs.Common.{ℕ, ◌≡◌, ◌∙◌, List, [], ◌∷◌, Bool, true, false, Option, None, Some, Vec, Global, codes, inl, inr, refl, sym, ap, subst}
+use Rattle.serde_json.specs.Data.{Data, Items}
 use Rattle.serde_json.specs.View.{view}
 use Rattle.dap_messages.specs.Notes.{IsDone, IsRefusal}
 use Rattle.dap_messages.specs.declared.answer.Answer.{Answer}
+use Rattle.dap_messages.specs.declared.answer.Note.{Note}
 use Rattle.dap_messages.specs.declared.kind.Kind.{Kind}
 use Rattle.dap_messages.specs.declared.request.Request.{Request}
 use Rattle.dap_messages.specs.declared.told.Told.{Told}
 use Rattle.dap_requests.specs.Said.{Tells}
+use Rattle.dap_requests.specs.Sets.{TellsNoData, items_named}
 use Rattle.dap_requests.proofs.public.Saying.{tells_on}
 use Rattle.dap_server.specs.Kinds.{moves}
 use Rattle.dap_views.specs.declared.program.Counting.{Counting}
 use Rattle.dap.specs.Anew.{excepting}
 use Rattle.dap.specs.Asking.{Asks, IsAsked}
-use Rattle.dap.specs.Early.{EarlyBy, Launches, LaunchesFor}
+use Rattle.dap.specs.Early.{AnswersEarly, AnswersKnown, EarlyBy, Launches, LaunchesFor}
 use Rattle.dap.specs.Files.{TellsFound, TellsLaunched}
 use Rattle.dap.specs.Goes.{Goes}
 use Rattle.dap.specs.Kinds.{ends, opens}
@@ -204,3 +206,37 @@ pub excepts_met : (x : Option Launched) (client : Option Counting) (kind : Kind)
     f ≡ excepts_behind x client kind d e
 excepts_met x client kind d e f is same =
     same ∙ subst (λ (k : Kind). e ≡ excepts_behind x client k d e) (sym is) (met x client d e)
+
+-- how a request of a known kind is answered
+pub known_as : (kind known : Kind) (d : Data) (a b : Answer) → kind ≡ known → AnswersKnown known d a b → AnswersKnown kind d a b
+known_as kind known d a b is h = subst (λ (k : Kind). AnswersKnown k d a b) (sym is) h
+
+pub known_other : (kind : Kind) (d : Data) (a b : Answer) → (kind ≡ Kind.SetBreakpoints → ⊥) → (kind ≡ Kind.SetDataBreakpoints → ⊥) →
+    (kind ≡ Kind.Attach → ⊥) → (kind ≡ Kind.SetExceptionBreakpoints → ⊥) → AnswersKnown kind d a b
+known_other Kind.SetBreakpoints d a b one two three four = absurd (one refl)
+known_other Kind.SetDataBreakpoints d a b one two three four = absurd (two refl)
+known_other Kind.Attach d a b one two three four = absurd (three refl)
+known_other Kind.SetExceptionBreakpoints d a b one two three four = absurd (four refl)
+known_other _ d a b one two three four = tt
+
+-- beside any events
+data-beside : (asked : Option Items) (b : Answer) (notes : Vec Note Global) → TellsNoData asked b → TellsNoData asked (record b { notes = notes })
+data-beside None b notes h = h
+data-beside (Some items) b notes h = h
+
+pub known_beside : (kind : Kind) (d : Data) (a m b : Answer) (notes : Vec Note Global) → (kind ≡ Kind.SetExceptionBreakpoints → ⊥) →
+    AnswersKnown kind d m b → AnswersKnown kind d a (record b { notes = notes })
+known_beside Kind.SetBreakpoints d a m b notes other h = h
+known_beside Kind.SetDataBreakpoints d a m b notes other h = data-beside (items_named (codes "breakpoints") d) b notes h
+known_beside Kind.SetExceptionBreakpoints d a m b notes other h = absurd (other refl)
+known_beside Kind.Attach d a m b notes other h = h
+known_beside _ d a m b notes other h = h
+
+-- for a client that is known, and for another
+pub answers_known : (client : Option Counting) (counting : Counting) (kind : Kind) (d : Data) (a b : Answer) → client ≡ Some counting →
+    AnswersKnown kind d a b → AnswersEarly client kind d a b
+answers_known client counting kind d a b is h = subst (λ (x : Option Counting). AnswersEarly x kind d a b) (sym is) h
+
+pub answers_stranger : (client : Option Counting) (kind : Kind) (d : Data) (a b : Answer) → client ≡ None →
+    ((kind ≡ Kind.Disconnect → ⊥) → IsRefusal b.outcome) → AnswersEarly client kind d a b
+answers_stranger client kind d a b is h = subst (λ (x : Option Counting). AnswersEarly x kind d a b) (sym is) h

@@ -30,7 +30,7 @@ use Rattle.dap_views.specs.declared.sight.Sight.{Sight}
 use Rattle.dap.specs.Anew.{GoesAnew, IsMeant, brought}
 use Rattle.dap.specs.Asking.{Asks, IsAsked, asked_by}
 use Rattle.dap.specs.Begins.{Begins}
-use Rattle.dap.specs.Early.{EarlyBy}
+use Rattle.dap.specs.Early.{AnswersEarly, EarlyBy}
 use Rattle.dap.specs.Files.{Reads}
 use Rattle.dap.specs.Kinds.{changes, ends, is_active, opens}
 use Rattle.dap.specs.Launching.{IsBegun}
@@ -59,8 +59,8 @@ TellsBy Kind.SetBreakpoints d p a q b = TellsLines d p a q b
 TellsBy Kind.SetExceptionBreakpoints d p a q b = (b.notes ≡ a.notes) × AnswersFilters (filters_refused d) a b
 TellsBy _ d p a q b = b.notes ≡ a.notes
 
--- what the response to a request of this kind with these arguments lists, where there was memory for it: the
--- threads, the frames of one, the scopes of a frame, what is unfolded, or the steps that `stepIn` may name; or it is refused
+-- what the response to a request of this kind with these arguments lists, where there was memory for it: the threads,
+-- the frames of one, the scopes of a frame, what is unfolded, or the steps that `stepIn` may name; or it is refused
 abbrev pub ShowsBy : Kind → AtMachine → Index → Option Sight → Data → Answer → Type 0
 ShowsBy Kind.Threads m index sight d b = b.lacks ≡ false → ListsThreads m b
 ShowsBy Kind.StackTrace m index sight d b = b.lacks ≡ false → ListsFrames m index sight d b
@@ -171,6 +171,12 @@ abbrev pub Early : Reads → Face → Request → Answer → Answer → Option L
 Early reads x request a b y =
     x.launched ≡ None → EarlyBy request.kind reads x.client x.excepts (view request.arguments) a b y
 
+-- and how it is answered, but `initialize`
+abbrev pub AnsweredEarly : Face → Request → Answer → Answer → Type 0
+AnsweredEarly x request a b =
+    x.launched ≡ None → (request.kind ≡ Kind.Initialize → ⊥)
+    → AnswersEarly x.client request.kind (view request.arguments) a b
+
 -- a session with a client that has just come
 pub record IsFresh (x : Face) : Type 0 where
   pub launched : x.launched ≡ None
@@ -192,6 +198,7 @@ pub record Comes (reads : Reads) (x : Face) (request : Request) (answer : Answer
   pub early : RefusedEarly x request answer y
   pub again : RefusedAgain x request answer y
   pub first : Early reads x request empty answer y.launched
+  pub answers : AnsweredEarly x request empty answer
   pub client : ClientBy request.kind x.client (view request.arguments) answer y.client
   pub excepts :
       y.excepts ≡ excepts_behind x.launched x.client request.kind (view request.arguments) x.excepts

@@ -6,9 +6,9 @@ ghost use Rattle.dap_messages.specs.Notes.{IsDone, IsRefusal};
 ghost use Rattle.dap_messages.specs.declared.kind.Kind.{Kind as Asks};
 ghost use Rattle.dap_messages.specs.declared.told.Told.{Told as Tells};
 ghost use Rattle.dap_requests.specs.Said.{Tells as TellsAll};
-ghost use Rattle.dap_requests.specs.Sets.{filters_refused};
+ghost use Rattle.dap_requests.specs.Sets.{AnswersFilters, filters_refused};
 ghost use Rattle.dap.specs.Anew.{excepting};
-ghost use Rattle.dap.specs.Early.{EarlyBy, Launches};
+ghost use Rattle.dap.specs.Early.{AnswersEarly, AnswersKnown, EarlyBy, Launches};
 ghost use Rattle.dap.specs.Goes.{Comes, Early, Goes, IsFresh, IsSeen, IsSound, LaunchedGoes, Restarts};
 ghost use Rattle.dap.specs.Kinds.{ends, opens};
 ghost use Rattle.dap.specs.Meeting.{ClientBy, Meets, MeetsBy, base, counting_of, is_path, names_paths};
@@ -91,6 +91,8 @@ impl Face {
         ensures again { request.now.kind ≡ Asks.Initialize → is_some self.old.client ≡ true
             → IsRefusal answer.new.outcome × (answer.new.notes ≡ answer.old.notes) × (self.new ≡ self.old) }
         ensures first { Early (F.reads files.now) self.old request.now answer.old answer.new self.new.launched }
+        ensures answers { self.old.launched ≡ None → (request.now.kind ≡ Asks.Initialize → ⊥)
+            → AnswersEarly self.old.client request.now.kind (view request.now.arguments) answer.old answer.new }
         ensures client { IsDone answer.old.outcome
             → ClientBy request.now.kind self.old.client (view request.now.arguments) answer.new self.new.client }
         ensures excepts { self.new.excepts ≡ excepts_behind self.old.launched self.old.client request.now.kind
@@ -142,6 +144,8 @@ impl Face {
         ensures early { self.old.launched ≡ None → opens request.now.kind ≡ false
             → IsRefusal answer.new.outcome × (answer.new.notes ≡ answer.old.notes) × (self.new ≡ self.old) }
         ensures first { Early (F.reads files.now) self.old request.now answer.old answer.new self.new.launched }
+        ensures answers { self.old.launched ≡ None
+            → AnswersEarly self.old.client request.now.kind (view request.now.arguments) answer.old answer.new }
         ensures client { self.new.client ≡ self.old.client }
         ensures excepts { self.new.excepts ≡ excepts_behind self.old.launched self.old.client request.now.kind
             (view request.now.arguments) self.old.excepts }
@@ -160,6 +164,8 @@ impl Face {
             → IsRefusal answer.new.outcome × (answer.new.notes ≡ answer.old.notes) × (self.new ≡ self.old) }
         ensures first { EarlyBy request.now.kind (F.reads files.now) self.old.client self.old.excepts
             (view request.now.arguments) answer.old answer.new self.new.launched }
+        ensures answers { AnswersEarly self.old.client request.now.kind (view request.now.arguments) answer.old
+            answer.new }
         ensures client { self.new.client ≡ self.old.client }
         ensures excepts { self.new.excepts
             ≡ excepts_early self.old.client request.now.kind (view request.now.arguments) self.old.excepts }
@@ -183,6 +189,7 @@ impl Face {
             → IsRefusal answer.new.outcome × (answer.new.notes ≡ answer.old.notes) × (self.new ≡ self.old) }
         ensures first { EarlyBy request.now.kind (F.reads files.now) (Some counting) self.old.excepts
             (view request.now.arguments) answer.old answer.new self.new.launched }
+        ensures answers { AnswersKnown request.now.kind (view request.now.arguments) answer.old answer.new }
         ensures client { self.new.client ≡ self.old.client }
         ensures excepts { self.new.excepts
             ≡ excepts_by request.now.kind (view request.now.arguments) self.old.excepts }
@@ -273,6 +280,7 @@ fn keep(mut found: Launched, excepts: bool, answer: &mut Answer) -> Launched
 fn set_filters(alloc: Global, excepts: &mut bool, request: &Request, answer: &mut Answer)
     ensures excepts { excepts.new ≡ unwrap_or (filters_refused (view request.now.arguments)) excepts.old }
     ensures quiet { answer.new.notes ≡ answer.old.notes }
+    ensures answers { AnswersFilters (filters_refused (view request.now.arguments)) answer.old answer.new }
 {
     let notes = mem::replace(&mut answer.notes, Vec::new(alloc));
     let asked = asks_for_refusals(request, answer);
@@ -304,6 +312,8 @@ fn ask_of<F: Sources>(
 fn tell_early(alloc: Global, request: &Request, answer: &mut Answer)
     ensures refused { opens request.now.kind ≡ false → IsRefusal answer.new.outcome }
     ensures quiet { answer.new.notes ≡ answer.old.notes }
+    ensures answers { (request.now.kind ≡ Asks.SetExceptionBreakpoints → ⊥)
+        → AnswersKnown request.now.kind (view request.now.arguments) answer.old answer.new }
 {
     let notes = mem::replace(&mut answer.notes, Vec::new(alloc));
     tell_none(alloc, request, answer);
@@ -312,7 +322,9 @@ fn tell_early(alloc: Global, request: &Request, answer: &mut Answer)
 
 /// Answers where nothing is launched what needs nothing of a session.
 fn tell_none(alloc: Global, request: &Request, answer: &mut Answer)
-    ensures { opens request.now.kind ≡ false → IsRefusal answer.new.outcome }
+    ensures refused { opens request.now.kind ≡ false → IsRefusal answer.new.outcome }
+    ensures answers { (request.now.kind ≡ Asks.SetExceptionBreakpoints → ⊥)
+        → AnswersKnown request.now.kind (view request.now.arguments) answer.old answer.new }
 {
     match request.kind {
         Kind::Disconnect => answer.did(),

@@ -50,3 +50,9 @@ pub returns-in_default-clause-client : goal.returns-in_default-clause-client
 returns-in_default-clause-client g c = λ done.
     client_stays c.args.request.now.kind c.args.self.now.client c.serve.new.self.client (view c.args.request.now.arguments) c.serve.new.answer
     c.in_default.not-Initialize c.serve.ensures.client
+
+pub returns-in-Initialize-clause-answers : goal.returns-in-Initialize-clause-answers
+returns-in-Initialize-clause-answers g c = λ none other. absurd (other c.in-Initialize.is)
+
+pub returns-in_default-clause-answers : goal.returns-in_default-clause-answers
+returns-in_default-clause-answers g c = λ none other. c.serve.ensures.answers none

@@ -28,6 +28,7 @@ returns g c = record {
         (ap (λ (k : Kind). ends k) same),
   );
   first = c.hear.ensures.first;
+  answers = c.hear.ensures.answers;
   client = c.hear.ensures.client c.new-answer.ensures.done;
   excepts = c.hear.ensures.excepts;
   over = c.is_over_behind-over.ensures;

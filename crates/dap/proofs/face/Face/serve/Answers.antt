@@ -22,3 +22,6 @@ pub returns-in-None-clause-excepts : goal.returns-in-None-clause-excepts
 returns-in-None-clause-excepts g c =
     excepts_before c.args.self.now.launched c.args.self.now.client c.args.request.now.kind (view c.args.request.now.arguments)
     c.args.self.now.excepts c.serve_early.new.self.excepts c.in-None.is c.serve_early.ensures.excepts
+
+pub returns-in-None-clause-answers : goal.returns-in-None-clause-answers
+returns-in-None-clause-answers g c = λ none. c.serve_early.ensures.answers

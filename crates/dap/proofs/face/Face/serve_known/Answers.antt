@@ -1,7 +1,7 @@
 use Rattle.std.proofs.Common.{Some, refl}
 use Rattle.serde_json.specs.View.{view}
 use Rattle.dap_messages.specs.declared.kind.Kind.{Kind}
-use Rattle.dap.proofs.Opening.{early_as, early_none, excepts_as, excepts_other, not_opened}
+use Rattle.dap.proofs.Opening.{early_as, early_none, excepts_as, excepts_other, known_as, not_opened}
 use Rattle.dap.proofs.face.Face.serve_known.Goals as goal
 
 pub returns-in-Launch-clause-early : goal.returns-in-Launch-clause-early
@@ -45,3 +45,15 @@ pub returns-in_default-clause-excepts : goal.returns-in_default-clause-excepts
 returns-in_default-clause-excepts g c =
     excepts_other c.args.request.now.kind (view c.args.request.now.arguments) c.args.self.now.excepts
     c.in_default.not-SetExceptionBreakpoints
+
+pub returns-in-Launch-clause-answers : goal.returns-in-Launch-clause-answers
+returns-in-Launch-clause-answers g c =
+    known_as c.args.request.now.kind Kind.Launch (view c.args.request.now.arguments) c.args.answer.now c.launch.new.answer c.in-Launch.is tt
+
+pub returns-in-SetExceptionBreakpoints-clause-answers : goal.returns-in-SetExceptionBreakpoints-clause-answers
+returns-in-SetExceptionBreakpoints-clause-answers g c =
+    known_as c.args.request.now.kind Kind.SetExceptionBreakpoints (view c.args.request.now.arguments) c.args.answer.now c.set_filters.new.answer
+    c.in-SetExceptionBreakpoints.is c.set_filters.ensures.answers
+
+pub returns-in_default-clause-answers : goal.returns-in_default-clause-answers
+returns-in_default-clause-answers g c = c.tell_early.ensures.answers c.in_default.not-SetExceptionBreakpoints
