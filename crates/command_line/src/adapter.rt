@@ -5,7 +5,7 @@ ghost use Rattle.command_line.specs.Adapter.{IsOfStreams};
 
 use debug_session::{Counted, Fault};
 use diagnosis::Unread;
-use editor_session::{Ended, serve};
+use editor_session::{Sources, serve};
 use file_answers::{Files, Source};
 use std::alloc::{AllocError, Global};
 use std::io::Write;
@@ -16,7 +16,10 @@ struct Named<'a, F> {
     files: &'a F,
 }
 
-impl<F: Files> editor_session::Files for Named<'_, F> {
+impl<F: Files> Sources for Named<'_, F> {
+    // No contract says what the files of a program hold.
+    ghost reads = { λ _ _ _. Unit {0} };
+
     fn read(&self, alloc: Global, name: &str) -> Result<Option<Vec<u8>>, AllocError> {
         // An editor is told that it cannot be read, and not why.
         let mut why = Unread::Failed;
@@ -28,14 +31,14 @@ impl<F: Files> editor_session::Files for Named<'_, F> {
     }
 }
 
-/// How the end of a session is told.
-fn fault_of(ended: Ended) -> Fault
+/// How the end of a session is told. What is no header of a message is what cannot be read.
+fn fault_of(fault: editor_session::Fault) -> Fault
     ensures { IsOfStreams result }
 {
-    match ended {
-        Ended::Memory => Fault::Memory,
-        Ended::ReadFailed => Fault::ReadFailed,
-        Ended::WriteFailed => Fault::WriteFailed,
+    match fault {
+        editor_session::Fault::Memory => Fault::Memory,
+        editor_session::Fault::ReadFailed | editor_session::Fault::NoHeader => Fault::ReadFailed,
+        editor_session::Fault::WriteFailed => Fault::WriteFailed,
     }
 }
 
@@ -51,6 +54,6 @@ pub fn serve_editor<R: Input, F: Files, O: Write>(
     let files = Named { files: from.files };
     match serve(from.alloc, &mut reader, out, &files) {
         Ok(()) => Ok(()),
-        Err(ended) => Err(fault_of(ended)),
+        Err(fault) => Err(fault_of(fault)),
     }
 }
