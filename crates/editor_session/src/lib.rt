@@ -1,6 +1,9 @@
-//! A session of an editor over a reader and a writer: what a program needs of the debug adapter, apart from the
-//! contracts of `dap`, so that who serves other commands too need not load them.
+//! A session of an editor over a reader and a writer: what a program needs of the debug adapter. What each request is
+//! answered is left to the contracts of `dap`, so that who serves other commands too need not load them.
 #![tactic(auto)]
+
+ghost use Rattle.std.specs.Prelude.{MatchResult};
+ghost use Rattle.editor_session.specs.Framed.{IsSession, IsSessionUpTo};
 
 pub use dap::{Fault, Sources};
 use std::alloc::Global;
@@ -17,6 +20,11 @@ pub fn serve<R: Read, W: Write, F: Sources>(
     reader: &mut R,
     writer: &mut W,
     files: &F,
-) -> Result<(), Fault> {
+) -> Result<(), Fault>
+    ensures { MatchResult result
+        (λ _. IsSession (R.remaining reader.old) (R.remaining reader.new) (W.contents writer.old) (W.contents writer.new))
+        (λ why. IsSessionUpTo why (R.remaining reader.old) (R.remaining reader.new) (W.contents writer.old)
+        (W.contents writer.new)) }
+{
     dap::serve(alloc, reader, writer, files)
 }
