@@ -26,13 +26,13 @@ numbered ns ls k = record { numbers = ns; made = made_of ls k }
 abbrev local_of : Text → ℕ → LocalKind → Local
 local_of name declared kind = record { name = name; declared = declared; kind = kind }
 
-variables_append : (xs ys : List Local) → variables_among (xs ++ ys) ≡ variables_among xs ++ variables_among ys
+pub variables_append : (xs ys : List Local) → variables_among (xs ++ ys) ≡ variables_among xs ++ variables_among ys
 variables_append [] ys = refl
 variables_append (x ∷ xs) ys =
     ap (λ (vs : List Variable). variable_of x.name x.kind ++ vs) (variables_append xs ys)
     ∙ sym (append_assoc (variable_of x.name x.kind) (variables_among xs) (variables_among ys))
 
-channels_append : (xs ys : List Local) → channels_among (xs ++ ys) ≡ channels_among xs ++ channels_among ys
+pub channels_append : (xs ys : List Local) → channels_among (xs ++ ys) ≡ channels_among xs ++ channels_among ys
 channels_append [] ys = refl
 channels_append (x ∷ xs) ys =
     ap (λ (cs : List Channel). channel_of x.name x.declared x.kind ++ cs) (channels_append xs ys)

@@ -7,8 +7,8 @@ use Rattle.elaborate.specs.Naming.{Names, channel_use, variable_use, expression_
 use Rattle.elaborate.specs.Size as size
 use Rattle.elaborate.specs.Size.{nothing, plain_nodes, beside, around, all_beside, last_size, expression_size, command_size}
 use Rattle.elaborate.specs.declared.count.Size.{Size}
-use Rattle.elaborate.specs.internal.Counting as counting
-use Rattle.elaborate.specs.internal.Counting.{whole, size_of}
+use Rattle.elaborate.specs.SourceSize as counting
+use Rattle.elaborate.specs.SourceSize.{whole, size_of}
 use Rattle.elaborate.specs.internal.SizeParts as counted
 use Rattle.elaborate.proofs.PartFolds.{PartOnLine, part_of_action, part_of_arm, part_of_guarded, part_of_labelled, With, moved}
 use Rattle.elaborate.proofs.TreeSizes.{size_of_arm, size_of_guarded, size_of_labelled, size_arm, size_guarded, size_labelled, size_continue, size_halt, size_assign, size_send, size_receive, size_sync, size_loop, size_while, size_if, size_case, size_input, size_select, size_arbitrate, size_sequence, size_parallel, size_constant, size_variable, size_received, size_binary, size_not, size_cast}

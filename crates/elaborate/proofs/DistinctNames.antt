@@ -4,7 +4,7 @@ use Rattle.std.proofs.lemmas.List.{append-nil, append_cancel_left, map-append}
 use Rattle.elaborate.specs.Body.{Call, part_of}
 use Rattle.elaborate.specs.Calls.{Expansion, Entered, called, missing, copies_of_calls, bodies_of_calls, names_in, expansion_of, expansions_onto, expansions}
 use Rattle.elaborate.specs.Copies.{copied, all_copied, channel_of_port, variable_of, channel_of, variables_among, channels_among}
-use Rattle.elaborate.specs.Elaboration.{root_ports, root, port_channels, root_copies, root_entered, main_of, system_of, whole_size, IsAccepted}
+use Rattle.elaborate.specs.Elaboration.{root_ports, root, port_channels, root_copies, root_entered, main_of, system_of, IsAccepted}
 use Rattle.elaborate.specs.Laws.{Distinct, declared_names, HasOwnNames, NamesAreDistinct}
 use Rattle.elaborate.specs.Naming.{Names, channels_of}
 use Rattle.elaborate.proofs.Counted.{total_of, nodes_of}

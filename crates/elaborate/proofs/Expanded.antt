@@ -5,17 +5,17 @@ use Rattle.elaborate.specs.Body.{Call, Part, part_of, nothing_to_do}
 use Rattle.elaborate.specs.Calls as calls
 use Rattle.elaborate.specs.Calls.{Entered, Expansion, copies_of_calls, bodies_of_calls, names_in, expansion_of, expansions_onto, expansions}
 use Rattle.elaborate.specs.Copies.{copied, all_copied, channel_of_port, numbers_behind, variables_among, channels_among}
-use Rattle.elaborate.specs.Elaboration.{root_ports, root, port_channels, root_copies, root_entered, main_of, system_of, whole_size}
+use Rattle.elaborate.specs.Elaboration.{root_ports, root, port_channels, root_copies, root_entered, main_of, system_of}
 use Rattle.elaborate.specs.Environment.{branch_on, branches_from}
-use Rattle.elaborate.specs.Fit.{entry_named, values_given}
+use Rattle.elaborate.specs.Fit.{entry_named}
 use Rattle.elaborate.specs.Naming.{Names, channels_of}
-use Rattle.elaborate.specs.Size.{nothing, plain_nodes, beside, around, command_size, IsSmall}
+use Rattle.elaborate.specs.Size.{nothing, plain_nodes, beside, around, command_size, system_size, IsSmall}
 use Rattle.elaborate.specs.declared.count.Size.{Size}
 use Rattle.elaborate.specs.declared.made.Made.{Made}
 use Rattle.elaborate.specs.declared.instance.Instance.{Instance}
 use Rattle.elaborate.specs.declared.instance.Entrance.{Entrance}
-use Rattle.elaborate.specs.internal.Counting as counting
-use Rattle.elaborate.specs.internal.Counting.{whole, procedure_size, sizes_onto}
+use Rattle.elaborate.specs.SourceSize as counting
+use Rattle.elaborate.specs.SourceSize.{whole, procedure_size, sizes_onto, sent_on, source_size}
 use Rattle.elaborate.specs.internal.Instances.{names_of, entrance_of}
 use Rattle.elaborate.specs.internal.Makers as makers
 use Rattle.elaborate.specs.internal.Makers.{WithMade, ProcedureMaker, next_call, after_call, maker_of, procedure_maker, makers_onto}
@@ -24,6 +24,7 @@ use Rattle.elaborate.specs.internal.Making.{Numbered, locals_onto, instance_of}
 use Rattle.elaborate.specs.internal.Walked.{walked_branches, root_channels, root_makes, walked_system}
 use Rattle.elaborate.proofs.CopyLemmas.{made_of, numbered, locals_are, ports_are}
 use Rattle.elaborate.proofs.Factored.{Bodies, all_made, one_made, in_front, factored}
+use Rattle.elaborate.proofs.SystemNodes.{nodes_beside_main, nodes_beside}
 use Rattle.elaborate.proofs.Counted.{total_of, nodes_of, own_number, more, none_more, same_sized, Matches, counts}
 use Rattle.elaborate.proofs.TreeSizes.{some_node, size_continue}
 use Rattle.stimulus.specs.declared.stimulus.Entry.{Entry}
@@ -221,28 +222,35 @@ sizes_length sizes [] = omega arith
 sizes_length sizes (p ∷ ps) =
     omega (arith, sizes_length (sizes ++ procedure_size whole sizes p ∷ []) ps, length-append sizes (procedure_size whole sizes p ∷ []))
 
+-- the nodes and levels of a system, with the copies in one place
+abbrev whole_size : List Procedure → List Entry → Size
+whole_size ps entries =
+    beside (command_size (main_of ps)) (plain_nodes (length (root_ports ps) + sent_on entries (root_ports ps) + length (root_copies ps)))
+
 -- what is counted of a description is how large its system is
-pub counted_is : (ps : List Procedure) (entries : List Entry)
-    → counting.system_size whole ps (length (root_ports ps)) (values_given entries) ≡ whole_size ps entries
+pub counted_is : (ps : List Procedure) (entries : List Entry) → source_size ps entries ≡ system_size (system_of ps entries)
 counted_is ps entries =
     let sizes = sizes_onto whole [] ps in
     let many : length sizes ≡ length ps = omega (arith, sizes_length [] ps) in
     let n = length (root_ports ps) in
-    let v = values_given entries in
+    let v = sent_on entries (root_ports ps) in
     let last = counted_onto [] [] refl (λ p. missing_counted) ps (length ps - 1) (root_entered ps) in
     ap (λ k. beside (get_or sizes (k - 1) (counting.around whole nothing)) (beside (plain_nodes n) (plain_nodes v))) many
     ∙ (ap (λ s. beside s (beside (plain_nodes n) (plain_nodes v))) last
-    ∙ same_sized _ _ _ _ (omega arith) (omega arith))
+    ∙ (same_sized _ _ _ _ (omega arith) (omega arith) ∙ whole_is ps entries))
+  where
+    whole_is : (ps : List Procedure) (entries : List Entry) → whole_size ps entries ≡ system_size (system_of ps entries)
+    whole_is ps entries = ap (λ n. beside (command_size (main_of ps)) (plain_nodes n)) (nodes_beside ps entries)
 
 -- the test of it, where values are counted up to the last number of 64 bits
 pub counted_test : (ps : List Procedure) (entries : List Entry) (ports values : ℕ) (small : Bool)
     → IsTrue small ↔ IsSmall (counting.system_size whole ps ports values)
-    → ports ≡ length (root_ports ps) → values ≡ min (values_given entries) 18446744073709551615
-    → IsTrue small ↔ IsSmall (whole_size ps entries)
+    → ports ≡ length (root_ports ps) → values ≡ min (sent_on entries (root_ports ps)) 18446744073709551615
+    → IsTrue small ↔ IsSmall (system_size (system_of ps entries))
 counted_test ps entries ports values small test many is =
-    let there : IsSmall (counting.system_size whole ps ports values) → IsSmall (counting.system_size whole ps (length (root_ports ps)) (values_given entries)) =
+    let there : IsSmall (counting.system_size whole ps ports values) → IsSmall (source_size ps entries) =
     λ h. (omega (arith, many, is, h.0), omega (arith, h.1)) in
-    let back : IsSmall (counting.system_size whole ps (length (root_ports ps)) (values_given entries)) → IsSmall (counting.system_size whole ps ports values) =
+    let back : IsSmall (source_size ps entries) → IsSmall (counting.system_size whole ps ports values) =
     λ h. (omega (arith, many, is, h.0), omega (arith, h.1)) in (
       λ t. subst IsSmall (counted_is ps entries) (there (test.0 t)),
       λ h. test.1 (back (subst IsSmall (sym (counted_is ps entries)) h)),
@@ -262,11 +270,13 @@ branches_same entries place (p ∷ ports) h =
 abbrev system_from : WithMade tree_command.Command → List Branch → System
 system_from r bs = record { main = r.0; environment = bs; variables = r.1.variables; channels = r.1.channels }
 
-pub walked_is : (ps : List Procedure) (entries : List Entry) → IsSmall (whole_size ps entries) → walked_system ps entries ≡ system_of ps entries
+pub walked_is : (ps : List Procedure) (entries : List Entry) → IsSmall (system_size (system_of ps entries)) → walked_system ps entries ≡ system_of ps entries
 walked_is ps entries small =
     let ports = root_ports ps in
     let many : length (port_channels ps) ≡ length ports = length-map ports channel_of_port in
-    let nodes : nodes_of (main_of ps) + (length ports + values_given entries + length (root_copies ps)) ≤ 16384 = small.0 in
+    let beside_main = nodes_beside ps entries in
+    let counted : nodes_of (main_of ps) + nodes_beside_main (system_of ps entries) ≤ 16384 = small.0 in
+    let nodes : nodes_of (main_of ps) + (length ports + sent_on entries ports + length (root_copies ps)) ≤ 16384 = omega (arith, counted, beside_main) in
     let few : 0 + length ports ≤ 4294967295 = omega (arith, nodes) in
     let bound : length (port_channels ps) + length (root_copies ps) + nodes_of (main_of ps) ≤ 4294967295 = omega (arith, nodes, many) in
     let channels : root_channels ps ≡ numbered (numbers_behind [] (port_channels ps)) (port_channels ps) 0 = ports_are [] [] 0 ports few in

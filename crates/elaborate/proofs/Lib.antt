@@ -16,3 +16,7 @@ mod PortBranches
 mod DistinctNames
 mod SystemNodes
 mod CallPlaces
+mod KeptNames
+mod KeptShape
+mod KeptCalls
+mod KeptRoot

@@ -2,7 +2,7 @@
 use Rattle.std.proofs.Common.{◌≡◌, ℕ, zero, suc, ◌+◌, ◌-◌, ◌<◌, ◌≤◌, max, min, List, [], ◌∷◌, ◌++◌, Some, None, length, get_or, drop, map, refl, ap, sym, ◌∙◌, subst, arith, slice_index_or, Bool, IsTrue, ◌↔◌}
 use Rattle.std.proofs.lemmas.List.{at_drop_more}
 use Rattle.elaborate.specs.Size.{nothing, IsSmall}
-use Rattle.elaborate.specs.internal.Counting.{Cut, whole, plain_nodes, beside, around, expression_layer, expression_size, all_beside, action_size, arm_size, command_size, guarded_size, labelled_size, size_of, procedure_size, sizes_onto, system_size}
+use Rattle.elaborate.specs.SourceSize.{Cut, whole, plain_nodes, beside, around, expression_layer, expression_size, all_beside, action_size, arm_size, command_size, guarded_size, labelled_size, size_of, procedure_size, sizes_onto, system_size}
 use Rattle.elaborate.specs.internal.Limited.{limited}
 use Rattle.elaborate.specs.internal.SizeParts.{size_of_guarded, size_of_labelled, size_of_arm}
 use Rattle.elaborate.specs.declared.count.Size.{Size}

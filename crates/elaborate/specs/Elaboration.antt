@@ -1,11 +1,10 @@
 -- The one system that a description and a stimulus give, and when they are refused.
-use Rattle.std.specs.Prelude.{◌≡◌, ◌+◌, ◌-◌, ◌++◌, List, [], Some, None, map, length, Option, slice_get}
+use Rattle.std.specs.Prelude.{◌≡◌, ◌-◌, ◌++◌, List, [], Some, None, map, length, Option, slice_get}
 use Rattle.elaborate.specs.Calls.{Expansion, Entered, called, expansions}
 use Rattle.elaborate.specs.Copies.{channel_of_port, variables_among, channels_among, numbers_behind}
 use Rattle.elaborate.specs.Environment.{branches_from}
-use Rattle.elaborate.specs.Fit.{first_misfit, values_given}
-use Rattle.elaborate.specs.Size.{beside, plain_nodes, command_size, IsSmall}
-use Rattle.elaborate.specs.declared.count.Size.{Size}
+use Rattle.elaborate.specs.Fit.{first_misfit}
+use Rattle.elaborate.specs.Size.{system_size, IsSmall}
 use Rattle.system.specs.declared.command.Command as tree_command
 use Rattle.refusals.specs.declared.elaborate.Fault.{Fault}
 use Rattle.refusals.specs.declared.elaborate.Fault.TheVariants.{Memory, TooManyNodes, BadStimulus}
@@ -53,20 +52,13 @@ system_of ps entries = record {
   channels = channels_among (port_channels ps ++ root_copies ps);
 }
 
--- How large the system is: its commands and expressions, its branches, the values that these send, and the copies.
--- (Where the ports have names of their own and every entry fits, that is the `system_size` of the system: a law of
--- `src/laws.rt`.)
-abbrev pub whole_size : List Procedure → List Entry → Size
-whole_size ps entries =
-    beside (command_size (main_of ps))
-    (plain_nodes (length (root_ports ps) + values_given entries + length (root_copies ps)))
-
 -- the line of the first entry that does not fit is refused, and then a system past the limits
 abbrev pub IsRefused : List Procedure → List Entry → Fault → Type 0
 IsRefused ps entries Memory = ⊥
 IsRefused ps entries (BadStimulus line) = first_misfit (root_ports ps) [] entries ≡ Some line
-IsRefused ps entries TooManyNodes = (first_misfit (root_ports ps) [] entries ≡ None) × ¬ IsSmall (whole_size ps entries)
+IsRefused ps entries TooManyNodes =
+    (first_misfit (root_ports ps) [] entries ≡ None) × ¬ IsSmall (system_size (system_of ps entries))
 
 -- every entry fits, and the system is within the limits
 abbrev pub IsAccepted : List Procedure → List Entry → Type 0
-IsAccepted ps entries = (first_misfit (root_ports ps) [] entries ≡ None) × IsSmall (whole_size ps entries)
+IsAccepted ps entries = (first_misfit (root_ports ps) [] entries ≡ None) × IsSmall (system_size (system_of ps entries))

@@ -1,5 +1,5 @@
 -- Which lines of a stimulus fit the ports of the root.
-use Rattle.std.specs.Prelude.{ℕ, ◌+◌, ◌^◌, nat_lt, nat_eq, Bool, true, false, ◌&&◌, not, is_some, if◌then◌else◌, List, [], ◌∷◌, ◌++◌, Option, Some, None, length}
+use Rattle.std.specs.Prelude.{ℕ, ◌+◌, ◌^◌, nat_lt, nat_eq, Bool, true, false, ◌&&◌, not, is_some, if◌then◌else◌, List, [], ◌∷◌, ◌++◌, Option, Some, None}
 use Rattle.std.specs.Cmp.Lexicographic.{pointwise}
 use Rattle.syntax.specs.Texts.{Text}
 use Rattle.stimulus.specs.declared.stimulus.Given.{Given}
@@ -47,13 +47,3 @@ abbrev pub first_misfit : List Port → List Entry → List Entry → Option ℕ
 first_misfit ports before [] = None
 first_misfit ports before (entry ∷ rest) =
     if entry_fits ports before entry then first_misfit ports (before ++ entry ∷ []) rest else Some entry.line
-
--- how many values are given
-abbrev pub count_given : Given → ℕ
-count_given (Values values) = length values
-count_given (Syncs count) = 0
-
--- how many values the entries give
-abbrev pub values_given : List Entry → ℕ
-values_given [] = 0
-values_given (entry ∷ entries) = count_given entry.given + values_given entries

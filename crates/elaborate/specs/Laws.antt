@@ -1,13 +1,15 @@
 -- What follows from the definitions, each a clause of the contract of a function in `src/laws.rt`.
-use Rattle.std.specs.Prelude.{◌≡◌, ℕ, ◌++◌, List, [], ◌∷◌, Some, None, map, length, slice_get}
+use Rattle.std.specs.Prelude.{◌≡◌, ℕ, ◌++◌, List, [], ◌∷◌, Some, map, length, slice_get}
 use Rattle.elaborate.specs.Body.{part_of}
 use Rattle.elaborate.specs.Copies.{numbers_behind}
-use Rattle.elaborate.specs.Elaboration.{root_ports, port_channels, root_copies, main_of, system_of, whole_size, IsAccepted}
+use Rattle.elaborate.specs.Elaboration.{root_ports, port_channels, root_copies, main_of, system_of, IsAccepted}
 use Rattle.elaborate.specs.Environment.{branch_on}
 use Rattle.elaborate.specs.Fit.{entry_named}
 use Rattle.elaborate.specs.Places.{places_of}
+use Rattle.elaborate.specs.SameShape.{SameCommand, IsPort, numbers_from}
 use Rattle.elaborate.specs.Size.{system_size}
 use Rattle.elaborate.specs.SourcePlaces.{root_places}
+use Rattle.elaborate.specs.SourceSize.{source_size}
 use Rattle.stimulus.specs.declared.stimulus.Entry.{Entry}
 use Rattle.syntax.specs.Lists.{In, Every}
 use Rattle.syntax.specs.Texts.{Text}
@@ -59,13 +61,25 @@ WithoutCallsIsItself = (earlier : List Procedure) (p : Procedure) → (part_of p
       locals = numbers_behind (port_channels (earlier ++ p ∷ [])) p.locals;
     }) [])
 
+-- What the system of a description is, by cases: its main part is the body of the root, each command one of the same
+-- form on the same line, each name the number of the variable or channel that it stands for, and each call the body of
+-- its procedure. The channels of the root's ports are the first ones, in order.
+abbrev pub KeepsItsShape : Type 0
+KeepsItsShape = (earlier : List Procedure) (p : Procedure) (entries : List Entry) →
+    let system = system_of (earlier ++ p ∷ []) entries in
+    ((place : ℕ) (q : Port) → slice_get p.ports place ≡ Some q →
+    IsPort q.name q.declared q.kind (slice_get system.channels place))
+    × ((calls : ℕ)
+    × SameCommand system (record { earlier = earlier; procedure = p; prefix = []; ports = numbers_from 0 p.ports })
+    0 p.body calls system.main)
+
 -- A call adds no entry to a place: the places of the commands of a system are those of its source where the body of a
 -- procedure stands at the place of its call.
 abbrev pub CallsAddNoPlace : Type 0
 CallsAddNoPlace = (ps : List Procedure) → places_of (main_of ps) ≡ root_places ps
 
--- the nodes counted are those of the system, where no two ports of the root have one name
+-- the nodes and levels that are counted of the source, the body of a procedure at each of its calls, are those of the
+-- system
 abbrev pub NodesAreOfTheSystem : Type 0
-NodesAreOfTheSystem = (ps : List Procedure) (entries : List Entry) →
-    Distinct (map (λ q. q.name) (root_ports ps)) → IsAccepted ps entries →
-    whole_size ps entries ≡ system_size (system_of ps entries)
+NodesAreOfTheSystem =
+    (ps : List Procedure) (entries : List Entry) → source_size ps entries ≡ system_size (system_of ps entries)

@@ -8,5 +8,7 @@ pub mod Size
 pub mod Elaboration
 pub mod Places
 pub mod SourcePlaces
+pub mod SourceSize
+pub mod SameShape
 pub mod Laws
 pub mod internal

@@ -1,5 +1,4 @@
 pub mod BodyParts
-pub mod Counting
 pub mod Instances
 pub mod Limited
 pub mod Makers

@@ -2,7 +2,7 @@
 ghost use Rattle.std.specs.Prelude.{◌≡◌, ◌↔◌, IsTrue, map, IfOk, length, List, [], slice_index_or, ◌-◌};
 ghost use Rattle.std.specs.Option.{option_map};
 ghost use Rattle.elaborate.specs.Size.{nothing, IsSmall};
-ghost use Rattle.elaborate.specs.internal.Counting as model;
+ghost use Rattle.elaborate.specs.SourceSize as model;
 ghost use Rattle.elaborate.specs.internal.Limited.{limited};
 ghost use Rattle.elaborate.specs.internal.SizeParts.{size_of_guarded, size_of_labelled, size_of_arm};
 

@@ -1,5 +1,5 @@
 // The laws of the definitions that the contracts cite, each the contract of a function that does nothing.
-ghost use Rattle.elaborate.specs.Laws.{NamesAreDistinct, BranchesAreInPortOrder, CallsAddNoPlace, WithoutCallsIsItself, NodesAreOfTheSystem};
+ghost use Rattle.elaborate.specs.Laws.{NamesAreDistinct, BranchesAreInPortOrder, CallsAddNoPlace, WithoutCallsIsItself, KeepsItsShape, NodesAreOfTheSystem};
 
 /// The variables and channels of an accepted system have names of their own, where each procedure declares distinct
 /// names without `:`, as every typed description does.
@@ -20,6 +20,12 @@ pub fn place_law()
 /// A description whose root calls nothing is elaborated to that root itself.
 pub fn itself_law()
     ensures { WithoutCallsIsItself }
+{}
+
+/// The system of a description is its root by cases: form by form, line by line and name by name, each call the body of
+/// its procedure.
+pub fn shape_law()
+    ensures { KeepsItsShape }
 {}
 
 /// The nodes that are counted are those of the system that is made.

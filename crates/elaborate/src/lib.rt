@@ -18,7 +18,7 @@ mod pass;
 mod ports;
 
 pub use front::refuse_front;
-pub use laws::{environment_law, itself_law, name_law, node_law, place_law};
+pub use laws::{environment_law, itself_law, name_law, node_law, place_law, shape_law};
 pub use pass::elaborate;
 pub use refusals::elaborate::Fault;
 pub use stimulus::{Entry, Front, Given, Stimulus};

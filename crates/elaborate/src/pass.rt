@@ -1,6 +1,6 @@
 ghost use Rattle.std.specs.Prelude.{◌≡◌, ◌⊎◌, ◌↔◌, IsTrue, IfOk, IfErr, OnOk};
 ghost use Rattle.elaborate.specs.Elaboration as model;
-ghost use Rattle.elaborate.specs.Size.{IsSmall};
+ghost use Rattle.elaborate.specs.Size.{IsSmall, system_size};
 ghost use Rattle.elaborate.specs.internal.Walked.{walked_system};
 ghost use Rattle.refusals.specs.declared.elaborate.Fault.TheVariants.{Memory};
 
@@ -62,7 +62,7 @@ fn system_by_names(
     if let Some(line) = misfit(ports, entries) {
         return Err(Fault::BadStimulus(line));
     }
-    if !is_within_limits(alloc, procedures, entries.as_slice())? {
+    if !is_within_limits(alloc, procedures, entries)? {
         return Err(Fault::TooManyNodes);
     }
     let system = made_system(alloc, procedures, entries)?;
@@ -73,12 +73,13 @@ fn system_by_names(
 fn is_within_limits(
     alloc: Global,
     procedures: &[Procedure],
-    entries: &[Entry],
+    entries: &NamedEntries<'_>,
 ) -> Result<bool, AllocError>
-    ensures { IfOk result (λ small. IsTrue small ↔ IsSmall (model.whole_size procedures.now entries.now)) }
+    ensures { IfOk result (λ small.
+        IsTrue small ↔ IsSmall (system_size (model.system_of procedures.now entries.now))) }
 {
-    let ports = root_ports(procedures).len();
-    let small = is_small(alloc, procedures, ports, value_count(entries))?;
+    let ports = root_ports(procedures);
+    let small = is_small(alloc, procedures, ports.len(), value_count(ports, entries))?;
     Ok(small)
 }
 
@@ -98,7 +99,7 @@ fn made_system(
     procedures: &[Procedure],
     entries: &NamedEntries<'_>,
 ) -> Result<System, AllocError>
-    requires { IsSmall (model.whole_size procedures.now entries.now) }
+    requires { IsSmall (system_size (model.system_of procedures.now entries.now)) }
     ensures { IfOk result (λ system. system ≡ model.system_of procedures.now entries.now) }
 {
     let system = system_in_order(alloc, procedures, entries)?;

@@ -1,10 +1,13 @@
 // The stimulus against the ports of the root.
-ghost use Rattle.std.specs.Prelude.{◌≡◌, ◌^◌, ◌-◌, [], min, nat_lt, take};
+ghost use Rattle.std.specs.Prelude.{◌≡◌, ◌^◌, ◌-◌, [], length, min, nat_lt, take};
+ghost use Rattle.std.specs.Option.{option_copied};
+ghost use Rattle.elaborate.specs.Environment.{given_values};
 ghost use Rattle.elaborate.specs.Fit as fit;
+ghost use Rattle.elaborate.specs.SourceSize as source;
 
 use crate::lookups::{NamedEntries, NamedPorts};
 use stimulus::{Entry, Given};
-use typed::PortKind;
+use typed::{Port, PortKind};
 use value::{Value, Width};
 
 /// The line of the first entry that does not fit the ports, if there is one.
@@ -78,20 +81,34 @@ fn holds(width: Width, value: u64) -> bool
     Value::new(value, width.bits()).is_some()
 }
 
-/// How many values the entries give, or the largest number of 64 bits.
-pub fn value_count(entries: &[Entry]) -> usize
-    ensures { result ≡ min (fit.values_given entries.now) (2 ^ 64 - 1) }
+/// How many values the environment sends on the ports, or the largest number of 64 bits.
+pub fn value_count(ports: &[Port], entries: &NamedEntries<'_>) -> usize
+    ensures { result ≡ min (source.sent_on entries.now ports.now) (2 ^ 64 - 1) }
 {
     let mut count: usize = 0;
-    for entry in entries {
-        count = count.saturating_add(count_given(&entry.given));
+    for port in ports {
+        let entry = entries.find(port.name.text());
+        count = count.saturating_add(values_sent(port.kind, entry));
     }
     count
 }
 
+/// How many values the environment sends on a port of the kind, whose entry, if it has one, is this.
+fn values_sent(kind: PortKind, entry: Option<&Entry>) -> usize
+    ensures { result ≡ source.sent kind (option_copied entry.entry) }
+{
+    match kind {
+        PortKind::Input(_) => match entry {
+            Some(entry) => count_given(&entry.given),
+            None => 0,
+        },
+        PortKind::Output(_) | PortKind::Sync => 0,
+    }
+}
+
 /// How many values are given.
 fn count_given(given: &Given) -> usize
-    ensures { result ≡ fit.count_given given.now }
+    ensures { result ≡ length (given_values given.now) }
 {
     match given {
         Given::Values(values) => values.len(),

@@ -12,7 +12,4 @@ pub fn names_are_distinct()
 /// An accepted system has as many nodes and levels as there may be, at most.
 pub fn system_is_small()
     ensures { SystemIsSmall }
-{
-    typed_source::names_are_own();
-    elaborate::node_law();
-}
+{}

@@ -6,4 +6,5 @@ pub mod Refusal
 pub mod Spelling
 pub mod Table
 pub mod Tokens
+pub mod Standing
 pub mod internal

@@ -41,6 +41,7 @@ impl<'a> Lexing<'a> {
     ghost use Rattle.std.specs.Prelude.{◌≡◌, ◌≤◌, ◌++◌, ◌⊎◌, [], List, IfOk, IfErr, OnOk, MatchOption};
     ghost use Rattle.lexer.specs.Tokens.{token_at};
     ghost use Rattle.lexer.specs.internal.Parts.{BeginsProcedure, HasRead, IsAtProcedure, IsCutOff, IsKept, IsPart, IsRest, Refuses, Skips};
+    ghost use Rattle.lexer.specs.Standing.{position_of, rest_of};
     ghost use Rattle.lexer.specs.declared.token.Kind.TheVariants.{End};
     ghost use Rattle.lexer.specs.declared.token.Token.{Token};
     ghost use Rattle.refusals.specs.declared.lexer.Fault.TheVariants.{Memory};
@@ -60,7 +61,7 @@ impl<'a> Lexing<'a> {
     pub(crate) fn cut(&mut self) -> Result<Option<Found<'a>>, Fault>
         ensures ok { IfOk result (λ found.
             MatchOption found
-            ((self.old.rest.now ≡ []) × (self.new ≡ self.old)) (λ found. IsCutOff self.old found self.new)) }
+            ((rest_of self.old ≡ []) × (self.new ≡ self.old)) (λ found. IsCutOff self.old found self.new)) }
         ensures err { IfErr result (λ fault. Refuses self.old fault) }
     {
         if self.rest.is_empty() {
@@ -99,7 +100,7 @@ impl<'a> Lexing<'a> {
 
     /// The token that stands where nothing is left.
     pub(crate) fn end(&self) -> Token<'a>
-        ensures { result ≡ token_at self.now.position End [] 0 }
+        ensures { result ≡ token_at (position_of self.now) End [] 0 }
     {
         Token::new(self.position, Kind::End, b"", 0)
     }
@@ -109,8 +110,7 @@ impl<'a> Lexing<'a> {
     ///
     /// A `procedure` that `part` held before counts too; other tokens that it held do not count against `most`.
     /// `Memory` may come at any token. At an error `part` has the tokens before the fault, and this source stands
-    /// behind
-    /// the last of them.
+    /// behind the last of them.
     pub fn add_part(&mut self, part: &mut Vec<Token<'a>>, most: usize) -> Result<Stop, Fault>
         ensures part { IfOk result (λ stop. (added : List Token) × (part.new.items ≡ part.old.items ++ added)
             × IsPart stop most self.old added self.new) }

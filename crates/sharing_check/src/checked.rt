@@ -61,10 +61,10 @@ impl Checked {
 ///
 /// # Errors
 ///
-/// - `Shared` where a branch of a parallel uses a variable that another one writes, at the least offset of a use that
-///   takes part;
-/// - else `Width` where too many branches use a channel at one time, at the least offset at which such a channel is
-///   declared;
+/// - `SharedVariable(offset)` where a branch of a parallel uses a variable that another one writes, at the least offset
+///   of a use that takes part;
+/// - else `SharedChannel(offset)` where too many branches use a channel at one time, at the least offset at which such a
+///   channel is declared;
 /// - `Memory` without memory.
 pub fn check_sharing(alloc: Global, system: System) -> Result<Checked, Fault>
     ensures kept { IfOk result (λ checked. checked ≡ system) }

@@ -1,7 +1,7 @@
 -- The size of the parts of a command that are no commands themselves.
--- No reader has to believe it: these are the folds of `size_of` in `internal/Counting.antt` at other parts.
+-- No reader has to believe it: these are the folds of `size_of` in `SourceSize.antt` at other parts.
 use Rattle.elaborate.specs.declared.count.Size.{Size}
-use Rattle.elaborate.specs.internal.Counting.{Cut, action_size, arm_size, command_size, guarded_size, labelled_size}
+use Rattle.elaborate.specs.SourceSize.{Cut, action_size, arm_size, command_size, guarded_size, labelled_size}
 use Rattle.std.specs.Prelude.{List}
 use Rattle.typed.specs.declared.tree.Guarded.{Guarded}
 use Rattle.typed.specs.declared.tree.Labelled.{Labelled}

@@ -3,6 +3,7 @@ use Rattle.std.proofs.Common.{◌≡◌, ◌≢◌, ℕ, ◌+◌, ◌-◌, ◌<�
 use Rattle.std.specs.Option.{option_to_list}
 use Rattle.std.proofs.lemmas.List.{append-nil, take-append-drop}
 use Rattle.std.proofs.lemmas.List.Elements.{All-nil, All-append}
+use Rattle.syntax.specs.Texts.{Text}
 use Rattle.lexer.specs.Cut.{Piece}
 use Rattle.lexer.specs.Table.{reserved_word}
 use Rattle.lexer.specs.Tokens.{IsReadable, token_at, token_of}
@@ -14,6 +15,7 @@ use Rattle.lexer.specs.declared.lexing.Found.{Found}
 use Rattle.lexer.specs.declared.lexing.Lexing.{Lexing}
 use Rattle.lexer.specs.declared.lexing.Stop.{Stop}
 use Rattle.lexer.specs.declared.lexing.Stop.TheVariants.{Full, Procedure, EndOfSource}
+use Rattle.lexer.specs.declared.position.Position.{Position}
 use Rattle.lexer.specs.declared.token.Kind.TheVariants.{End, ProcedureWord}
 use Rattle.lexer.specs.declared.token.Token.{Token}
 use Rattle.refusals.specs.declared.lexer.Fault.{Fault}
@@ -41,12 +43,18 @@ pub goes_to_fault : (old between : Lexing) (first : List Token) (fault : Fault) 
 goes_to_fault old between first fault one other source before read =
     other source (before ++ first) (one source before read)
 
+-- the source is read up to there
+stands_at : (source : Text) (tokens : List Token) (p q : Position) (r s : Text) → q ≡ p → s ≡ r → Reaches source tokens p r → Reaches source tokens q s
+stands_at source tokens p q r s e f read =
+    subst (λ (x : Position). Reaches source tokens x s) (sym e) (subst (λ (x : Text). Reaches source tokens p x) (sym f) read)
+
 -- the way over a piece that is cut off
 pub over_piece : (old new : Lexing) (found : Found) → IsCutOff old found new → IsReadable found.class found.text.now → Goes old (option_to_list (token_of found.position found.class found.text.now)) new
 over_piece old new found off readable source before read =
     let text = take off.size old.rest.now in
     let onward = reaches_next source before old.position old.rest.now found.class off.size read off.front (rw off.text at readable) in
-    rw (off.position, off.text, off.behind, off.rest) onward
+    let there = stands_at source (before ++ option_to_list (token_of old.position found.class text)) _ _ _ _ off.behind off.rest onward in
+    rw (off.position, off.text) there
 
 -- a piece that is a fault in itself
 pub bad_piece : (old new : Lexing) (found : Found) (fault : Fault) → IsCutOff old found new → IsPieceFault found.position.offset found.class found.text.now fault → Refuses old fault
@@ -95,7 +103,7 @@ goes_blank old new skips source before read = elim skips [
   | inl same ↦ rw same (goes_nowhere old source before read)
   | inr past ↦
       let onward = reaches_next source before old.position old.rest.now Blank past.size read past.front tt in
-      rw (past.behind, past.rest) onward
+      stands_at source (before ++ []) _ _ _ _ past.behind past.rest onward
 ]
 
 -- what is left grows no longer behind the blanks

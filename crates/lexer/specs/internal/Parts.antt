@@ -10,6 +10,7 @@ use Rattle.lexer.specs.Table.{reserved_word}
 use Rattle.lexer.specs.Tokens.{AreTokens, behind}
 use Rattle.lexer.specs.internal.Fronts.{IsFront}
 use Rattle.lexer.specs.internal.Reached.{Reaches}
+use Rattle.lexer.specs.Standing.{position_of, rest_of}
 use Rattle.lexer.specs.declared.class.Class.TheVariants.{Blank, Word}
 use Rattle.lexer.specs.declared.lexing.Found.{Found}
 use Rattle.lexer.specs.declared.lexing.Lexing.{Lexing}
@@ -21,7 +22,7 @@ use Rattle.refusals.specs.declared.lexer.Fault.{Fault}
 
 -- the source is read up to what is left, and these are the tokens of what is read
 abbrev pub HasRead : Text → List Token → Lexing → Type 0
-HasRead source tokens lexing = Reaches source tokens lexing.position lexing.rest.now
+HasRead source tokens lexing = Reaches source tokens (position_of lexing) (rest_of lexing)
 
 -- between the two these tokens are read
 abbrev pub Goes : Lexing → List Token → Lexing → Type 0
@@ -50,18 +51,18 @@ HasNoEnd tokens = All (λ (token : Token). token.kind ≢ End) tokens
 -- the piece was cut off the one, and the other is left
 pub record IsCutOff (old : Lexing) (found : Found) (new : Lexing) : Type 0 where
   pub size : ℕ
-  pub front : IsFront found.class size old.rest.now
-  pub text : found.text.now ≡ take size old.rest.now
-  pub position : found.position ≡ old.position
-  pub behind : new.position ≡ behind old.position (take size old.rest.now)
-  pub rest : new.rest.now ≡ drop size old.rest.now
+  pub front : IsFront found.class size (rest_of old)
+  pub text : found.text.now ≡ take size (rest_of old)
+  pub position : found.position ≡ position_of old
+  pub behind : position_of new ≡ behind (position_of old) (take size (rest_of old))
+  pub rest : rest_of new ≡ drop size (rest_of old)
 
 -- the blanks at the front are behind
 pub record IsBehindBlanks (old new : Lexing) : Type 0 where
   pub size : ℕ
-  pub front : IsFront Blank size old.rest.now
-  pub behind : new.position ≡ behind old.position (take size old.rest.now)
-  pub rest : new.rest.now ≡ drop size old.rest.now
+  pub front : IsFront Blank size (rest_of old)
+  pub behind : position_of new ≡ behind (position_of old) (take size (rest_of old))
+  pub rest : rest_of new ≡ drop size (rest_of old)
 
 -- the blanks at the front are behind, if there were any
 abbrev pub Skips : Lexing → Lexing → Type 0
@@ -70,8 +71,8 @@ Skips old new = (new ≡ old) ⊎ IsBehindBlanks old new
 -- what is left begins with the word `procedure`
 pub record IsAtProcedure (lexing : Lexing) : Type 0 where
   pub size : ℕ
-  pub front : IsFront Word size lexing.rest.now
-  pub word : reserved_word (take size lexing.rest.now) ≡ Some ProcedureWord
+  pub front : IsFront Word size (rest_of lexing)
+  pub word : reserved_word (take size (rest_of lexing)) ≡ Some ProcedureWord
 
 -- the first of the tokens is the word `procedure`
 abbrev pub BeginsProcedure : List Token → Type 0
@@ -80,7 +81,7 @@ BeginsProcedure (token ∷ _) = token.kind ≡ ProcedureWord
 
 -- each of the tokens took a byte and more
 abbrev pub TakesBytes : Lexing → List Token → Lexing → Type 0
-TakesBytes old added new = length added + length new.rest.now ≤ length old.rest.now
+TakesBytes old added new = length added + length (rest_of new) ≤ length (rest_of old)
 
 -- what is read in a part, by where it ends
 abbrev pub IsPart : Stop → ℕ → Lexing → List Token → Lexing → Type 0

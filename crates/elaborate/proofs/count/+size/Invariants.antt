@@ -1,6 +1,6 @@
 use Rattle.std.proofs.Common.{◌≡◌, drop, map}
 use Rattle.elaborate.specs.Size.{nothing}
-use Rattle.elaborate.specs.internal.Counting.{all_beside, size_of}
+use Rattle.elaborate.specs.SourceSize.{all_beside, size_of}
 use Rattle.elaborate.specs.internal.Limited.{limited}
 use Rattle.elaborate.specs.internal.SizeParts.{size_of_guarded, size_of_labelled, size_of_arm}
 use Rattle.elaborate.proofs.count.+size.Given as goal

@@ -1,5 +1,5 @@
 use Rattle.std.proofs.Common.{◌∙◌}
-use Rattle.elaborate.specs.internal.Counting.{whole, system_size}
+use Rattle.elaborate.specs.SourceSize.{whole, system_size}
 use Rattle.elaborate.proofs.Sizes.{system_cut, small_decided}
 use Rattle.elaborate.proofs.count.is_small.Goals as goal
 

@@ -1,5 +1,5 @@
 use Rattle.std.proofs.Common.{◌≡◌, [], drop}
-use Rattle.elaborate.specs.internal.Counting.{sizes_onto}
+use Rattle.elaborate.specs.SourceSize.{sizes_onto}
 use Rattle.elaborate.specs.internal.Limited.{limited}
 use Rattle.elaborate.proofs.count.sizes_of.Given as goal
 

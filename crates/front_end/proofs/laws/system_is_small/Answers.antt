@@ -3,4 +3,4 @@ use Rattle.front_end.proofs.SystemLaws.{small}
 use Rattle.front_end.proofs.laws.system_is_small.Goals as goal
 
 pub returns : goal.returns
-returns c = small c.names_are_own.ensures c.node_law.ensures
+returns c = small

@@ -1,18 +1,25 @@
--- How large a system is, counted before it is made: a call has the size of its procedure. The sizes of parts are put
--- together as they are (`whole`), or each is cut above the limits.
--- No reader has to believe it: `proofs/Counted.antt` ties it to the size of what is made (`Size.antt`).
+-- How large a source is, where the body of a procedure stands at the place of its call. The sizes of parts are put
+-- together as they are (`whole`). That this is the size of the system that is made (`Size.antt`) is a law of
+-- `src/laws.rt`.
 use Rattle.std.specs.Prelude.{ℕ, ◌+◌, ◌-◌, max, List, [], ◌∷◌, ◌++◌, Option, Some, None, length, slice_index_or}
+use Rattle.elaborate.specs.Elaboration.{root_ports}
+use Rattle.elaborate.specs.Environment.{values_of}
+use Rattle.elaborate.specs.Fit.{entry_named}
 use Rattle.elaborate.specs.Size.{nothing}
 use Rattle.elaborate.specs.declared.count.Size.{Size}
+use Rattle.stimulus.specs.declared.stimulus.Entry.{Entry}
 use Rattle.typed.specs.declared.tree.Expression.{Expression}
 use Rattle.typed.specs.declared.tree.Expression.TheOpen.{Expression-F}
 use Rattle.typed.specs.declared.tree.Expression.TheFolds.{fold-Expression}
 use Rattle.typed.specs.declared.tree.Command.{Command}
+use Rattle.typed.specs.declared.tree.Port.{Port}
+use Rattle.typed.specs.declared.tree.PortKind.{PortKind}
+use Rattle.typed.specs.declared.tree.PortKind.TheVariants as kind
 use Rattle.typed.specs.declared.tree.Procedure.{Procedure}
 use Rattle.typed.specs.declared.tree.Action.TheOpen.{Action-F, Arm-F, Command-F, Guarded-F, Labelled-F}
 use Rattle.typed.specs.declared.tree.Action.TheFolds.{fold-Command}
 
--- what is done with each size
+-- what is done with each size that is put together
 abbrev pub Cut : Type 0
 Cut = Size → Size
 
@@ -113,3 +120,18 @@ system_size cut ps ports values =
     let sizes = sizes_onto cut [] ps in
     let last = slice_index_or sizes (length sizes - 1) (around cut nothing) in
     beside cut last (beside cut (plain_nodes cut ports) (plain_nodes cut values))
+
+-- how many values are given for a port of this kind, whose entry, if it has one, is this
+abbrev pub sent : PortKind → Option Entry → ℕ
+sent (kind.Input width) entry = length (values_of entry)
+sent (kind.Output width) entry = 0
+sent kind.Sync entry = 0
+
+-- for all of these ports
+abbrev pub sent_on : List Entry → List Port → ℕ
+sent_on entries [] = 0
+sent_on entries (p ∷ ports) = sent p.kind (entry_named entries p.name) + sent_on entries ports
+
+-- the description with what is given for its ports
+abbrev pub source_size : List Procedure → List Entry → Size
+source_size ps entries = system_size whole ps (length (root_ports ps)) (sent_on entries (root_ports ps))
