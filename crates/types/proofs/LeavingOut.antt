@@ -508,7 +508,7 @@ module _ (number : ℕ → ℕ) (left : List Name) where
   abbrev pub TypesFollow : SoFar every → SoFar every → Type 0
   TypesFollow s t = Follows Renumbered (Good [] []) left s.names t.names × (t.right ≡ Ok tt)
 
-  name_follows : (s t : SoFar every) (name : Identifier) (m : Meaning) → Renumbered m ≡ m → Good [] [] m → (with_name every s name m).right ≡ Ok tt → TypesFollow s t
+  pub name_follows : (s t : SoFar every) (name : Identifier) (m : Meaning) → Renumbered m ≡ m → Good [] [] m → (with_name every s name m).right ≡ Ok tt → TypesFollow s t
       → TypesFollow (with_name every s name m) (with_name every t name m)
   name_follows s t name m same good e (f, right) =
       let h = and-ok s.right (one_fault (is_fresh s.names name.name name.span.start)) e in
@@ -548,7 +548,7 @@ module _ (number : ℕ → ℕ) (left : List Name) where
       types_follow next (with_definition every t d.name d.definition) rest e (definition_follows s t d.name d.definition (types_tie next rest e).0 f)
 
   -- types that are declared in the first alone
-  name_left : (s t : SoFar every) (name : Identifier) (m : Meaning) → In name.name left → (with_name every s name m).right ≡ Ok tt → TypesFollow s t
+  pub name_left : (s t : SoFar every) (name : Identifier) (m : Meaning) → In name.name left → (with_name every s name m).right ≡ Ok tt → TypesFollow s t
       → TypesFollow (with_name every s name m) t
   name_left s t name m out e (f, right) =
       let h = and-ok s.right (one_fault (is_fresh s.names name.name name.span.start)) e in
@@ -594,7 +594,7 @@ module _ (number : ℕ → ℕ) (left : List Name) where
       } in
       follows-left Renumbered (Good (s.procedures ++ x ∷ []) s.procedures) left s.names s.names p.name.name (meaning.Procedure (length s.procedures)) g out fresh
 
-with_types-append : (s : SoFar every) (xs ys : List TypeDeclaration) → with_types every s (xs ++ ys) ≡ with_types every (with_types every s xs) ys
+pub with_types-append : (s : SoFar every) (xs ys : List TypeDeclaration) → with_types every s (xs ++ ys) ≡ with_types every (with_types every s xs) ys
 with_types-append s [] ys = refl
 with_types-append s (x ∷ xs) ys = with_types-append (with_definition every s x.name x.definition) xs ys
 

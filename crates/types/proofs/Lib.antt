@@ -7,6 +7,7 @@ mod DeclaredDistinct
 mod DeclaredOnce
 mod ExpressionWays
 mod Fitting
+mod LastElement
 mod Least
 mod LeastCommands
 mod LeastDescriptions

@@ -1,15 +1,16 @@
 -- An accepted description stays accepted without one of several names that a declaration declares, and without ports,
--- where they are not used. An element of an enumeration is not left out alone: the others would have other numbers, and
--- a lesser width.
+-- where they are not used.
 use Rattle.std.specs.Prelude.{◌≡◌, ◌↔◌, List, [], ◌∷◌, ◌++◌, map, flat_map, Ok}
 use Rattle.types.specs.Declarations.{found_description}
 use Rattle.types.specs.Laws.{IsAccepted, Apart}
 use Rattle.types.specs.Parts.{Name, names_used}
+use Rattle.types.specs.Visible.{element_width}
 use Rattle.typed.specs.declared.tree.Procedure as typed
 use Rattle.syntax.specs.declared.declaration.Local.{Local}
 use Rattle.syntax.specs.declared.declaration.Port.{Port}
 use Rattle.syntax.specs.declared.declaration.Procedure.{Procedure}
 use Rattle.syntax.specs.declared.declaration.TypeDeclaration.{TypeDeclaration}
+use Rattle.syntax.specs.declared.declaration.TypeDefinition.TheVariants as type_of
 use Rattle.syntax.specs.declared.name.Identifier.{Identifier}
 
 -- ---- locals
@@ -107,3 +108,22 @@ OnePortMayBeLeftOut =
       types = types;
       procedures = before ++ with_port_names p front d (first ++ others) back ∷ behind;
     })
+
+-- ---- elements
+
+abbrev pub enumeration : Identifier → List Identifier → TypeDeclaration
+enumeration name elements = record { name = name; definition = type_of.Enumeration elements }
+
+-- An accepted description stays accepted without the last element of an enumeration, where no procedure uses it and the
+-- others keep their width. (Without one that is not the last the others would have other numbers.)
+abbrev pub LastElementMayBeLeftOut : Type 0
+LastElementMayBeLeftOut =
+    (before : List TypeDeclaration) (name : Identifier) (elements : List Identifier) (last : Identifier)
+    (behind : List TypeDeclaration) (procedures : List Procedure) →
+    element_width (elements ++ last ∷ []) ≡ element_width elements →
+    IsAccepted (record {
+      types = before ++ enumeration name (elements ++ last ∷ []) ∷ behind;
+      procedures = procedures;
+    }) →
+    Apart (last.name ∷ []) (flat_map names_used procedures) →
+    IsAccepted (record { types = before ++ enumeration name elements ∷ behind; procedures = procedures })

@@ -1,7 +1,7 @@
 // The laws of typing, each the contract of a function that does nothing.
 ghost use Rattle.types.specs.Fits.{DemandsAreMet};
 ghost use Rattle.types.specs.Laws.{DeclaredNamesAreDistinct, DeclaredNamesStay, ExpressionsHaveOneWidth, LocalsMayBeLeftOut, NamesAreDeclaredOnce, ProceduresMayBeLeftOut, TypesMayBeLeftOut};
-ghost use Rattle.types.specs.LeavingOut.{LocalsMayStandApart, OneLocalMayBeLeftOut, OnePortMayBeLeftOut, PortsMayBeLeftOut, PortsMayStandApart};
+ghost use Rattle.types.specs.LeavingOut.{LastElementMayBeLeftOut, LocalsMayStandApart, OneLocalMayBeLeftOut, OnePortMayBeLeftOut, PortsMayBeLeftOut, PortsMayStandApart};
 ghost use Rattle.types.specs.Nearest.{NamesAreDeclaredBefore};
 ghost use Rattle.types.specs.Widths.{OperandsHaveOneWidth, TypesHaveOneWidth};
 
@@ -46,8 +46,10 @@ pub fn names_may_stand_apart()
     ensures ports { PortsMayStandApart }
 {}
 
-/// An accepted description stays accepted without one unused name of a declaration of locals or of ports.
+/// An accepted description stays accepted without one unused name of a declaration of locals or of ports, or the last
+/// element of an enumeration, where the others keep their width.
 pub fn unused_name_may_be_left_out()
     ensures local { OneLocalMayBeLeftOut }
     ensures port { OnePortMayBeLeftOut }
+    ensures element { LastElementMayBeLeftOut }
 {}
