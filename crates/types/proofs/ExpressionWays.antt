@@ -205,7 +205,7 @@ cast_right es once opened type operand widths names right = by operand right (ty
 abbrev pub judged_shape : Shape → ℕ → JudgedValue every
 judged_shape = fold-Shape (ℕ → JudgedValue every) (JudgedValue every) (shape_layer every) (expression_layer every)
 
-abbrev widths_in_shape : List Declaration → Shape → List ℕ
+abbrev pub widths_in_shape : List Declaration → Shape → List ℕ
 widths_in_shape seen = fold-Shape (List ℕ) (List ℕ) (shape_widths seen) expression_widths
 
 abbrev pub names_in_shape : Shape → List Name

@@ -38,7 +38,7 @@ use Rattle.syntax.specs.declared.name.Identifier.{Identifier}
 use Rattle.types.proofs.DeclaredOnce.{alone-ok, both-ok, and-ok, demanded-ok, fresh-ok, Inner, inner-none, inner-twice, elements_tie, definition_ties, types_tie, all_ports_inner, all_locals_inner, ports_inner, locals_inner, Sound, sound, Judged, next_right, next_judged, ties-name, type_at, ports_tie, locals_tie}
 use Rattle.types.proofs.ExpressionWays.{type_found}
 use Rattle.types.proofs.Lookups.{Once, once-none, none_found, look_up-append, every-front, every-back, every-weaker}
-use Rattle.types.proofs.Staying.{renamed, Remains, Kept, KeptPart, command_stays}
+use Rattle.types.proofs.Staying.{Renumbering, renamed, Remains, Kept, KeptPart, command_stays}
 use Rattle.types.proofs.StaysRight.{Stays, Always}
 
 -- ---- names that follow others
@@ -136,7 +136,7 @@ within (x ∷ rest) = (inl refl, every-weaker _ _ (λ (y : Identifier) is. inr i
 
 -- ---- declarations that are right behind right ones
 
-all_ports_right : (s : Declared every Port) (ds : List tree_port.Port) → (all_ports every s ds).right ≡ Ok tt → s.right ≡ Ok tt
+pub all_ports_right : (s : Declared every Port) (ds : List tree_port.Port) → (all_ports every s ds).right ≡ Ok tt → s.right ≡ Ok tt
 all_ports_right s [] e = e
 all_ports_right s (d ∷ rest) e =
     (ports_tie (port_kind s.names d.kind) s d.names (all_ports_right (with_ports every (port_kind s.names d.kind) s d.names) rest e)).0
@@ -207,9 +207,20 @@ module _ (left : List Name) (old new : VisibleNames)
 -- ---- a procedure behind fewer names
 
 -- Procedures have other numbers; ports and locals keep theirs.
+abbrev pub procedures_anew : (ℕ → ℕ) → Renumbering
+procedures_anew number = record {
+  port = λ p. p;
+  local = λ l. l;
+  procedure = number;
+  KeepsPort = λ _. Unit {0};
+  KeepsLocal = λ _. Unit {0};
+  ports_apart = λ a b x y. refl;
+  locals_apart = λ a b x y. refl;
+}
+
 module _ (number : ℕ → ℕ) (left : List Name) where
   abbrev pub Renumbered : Meaning → Meaning
-  Renumbered = renamed (λ l. l) number
+  Renumbered = renamed (procedures_anew number)
 
   -- a visible procedure has the same ports in both
   abbrev pub Good : List (List PortKind) → List (List PortKind) → Meaning → Type 0
@@ -344,7 +355,7 @@ module _ (number : ℕ → ℕ) (left : List Name) where
 
   -- ---- a procedure
 
-  remains_by : (old new : Scope) (m : Meaning) → Good old.procedures new.procedures m → Remains (λ l. l) number (λ _. Unit {0}) (λ a b x y. refl) old new m
+  remains_by : (old new : Scope) (m : Meaning) → Good old.procedures new.procedures m → Remains (procedures_anew number) old new m
   remains_by old new (meaning.Procedure p) (kinds, a, b) = b ∙ sym a
   remains_by old new (meaning.TypeName w) good = tt
   remains_by old new (meaning.Element v) good = tt
@@ -356,15 +367,15 @@ module _ (number : ℕ → ℕ) (left : List Name) where
   remains_by old new (meaning.Sync l) good = tt
 
   module _ (old new : Scope) (f : Follows Renumbered (Good old.procedures new.procedures) left old.names new.names) where
-    name_kept : (n : Name) → (In n left → ⊥) → Kept (λ l. l) number (λ _. Unit {0}) (λ a b x y. refl) old new n
+    name_kept : (n : Name) → (In n left → ⊥) → Kept (procedures_anew number) old new n
     name_kept n out m is = let h = f.kept n m out is in (h.0, remains_by old new m h.1)
 
-    part_kept : (p : Part) → Every (λ n. In n left → ⊥) (names_of_part p) → KeptPart (λ l. l) number (λ _. Unit {0}) (λ a b x y. refl) old new p
+    part_kept : (p : Part) → Every (λ n. In n left → ⊥) (names_of_part p) → KeptPart (procedures_anew number) old new p
     part_kept (named n) out = name_kept n out.0
     part_kept (valued e) out = every-weaker _ _ name_kept (names_of_expression e) out
 
     parts_kept : (ps : List Part) → Every (λ n. In n left → ⊥) (flat_map names_of_part ps)
-        → Every (KeptPart (λ l. l) number (λ _. Unit {0}) (λ a b x y. refl) old new) ps
+        → Every (KeptPart (procedures_anew number) old new) ps
     parts_kept [] out = tt
     parts_kept (p ∷ ps) out = (
       part_kept p (every-front (λ n. In n left → ⊥) (names_of_part p) (flat_map names_of_part ps) out),
@@ -405,7 +416,7 @@ module _ (number : ℕ → ℕ) (left : List Name) where
       all_locals_alike os ns old.names inside.names new.names between f (behind every ports.names) (behind every ports'.names) p.locals to_ports to_ports'
       (record { names = ports_are.names; made = refl; right = refl }) s.locals locals_out s.locals_right in
       let body = ok_stays (judged_command every p.body inside []) (judged_command every p.body inside' []) j.body j.command
-      (command_stays (λ l. l) number (λ _. Unit {0}) (λ a b x y. refl) inside inside' p.body [] tt
+      (command_stays (procedures_anew number) inside inside' p.body [] tt
       (parts_kept inside inside' locals_are.names (parts_of_command p.body) body_out)) in
       let fresh = f.free p.name.name s.fresh in
       let types_kept = λ (n : Name) (w : ℕ) (out : In n left → ⊥) (is : look_up inside.names n ≡ Some (meaning.TypeName w)). (locals_are.names.kept n (meaning.TypeName w) out is).0 in
@@ -428,7 +439,7 @@ module _ (number : ℕ → ℕ) (left : List Name) where
   slice_get-last [] x = refl
   slice_get-last (y ∷ xs) x = slice_get-last xs x
 
-  good_more : (os ns xs ys : List (List PortKind)) (m : Meaning) → Good os ns m → Good (os ++ xs) (ns ++ ys) m
+  pub good_more : (os ns xs ys : List (List PortKind)) (m : Meaning) → Good os ns m → Good (os ++ xs) (ns ++ ys) m
   good_more os ns xs ys (meaning.Procedure p) (kinds, a, b) = (kinds, slice_get-append os xs p kinds a, slice_get-append ns ys (number p) kinds b)
   good_more os ns xs ys (meaning.TypeName w) good = tt
   good_more os ns xs ys (meaning.Element v) good = tt
@@ -443,7 +454,7 @@ module _ (number : ℕ → ℕ) (left : List Name) where
   abbrev pub Numbers : Scope → Scope → Type 0
   Numbers old new = (j : ℕ) → number (length old.procedures + j) ≡ length new.procedures + j
 
-  after_follows : (old new : Scope) → Follows Renumbered (Good old.procedures new.procedures) left old.names new.names → number (length old.procedures) ≡ length new.procedures
+  pub after_follows : (old new : Scope) → Follows Renumbered (Good old.procedures new.procedures) left old.names new.names → number (length old.procedures) ≡ length new.procedures
       → (p : tree_procedure.Procedure) → look_up old.names p.name.name ≡ None → (ports_of every new.names p).made ≡ (ports_of every old.names p).made
       → Follows Renumbered (Good (after_procedure every old p).procedures (after_procedure every new p).procedures) left (after_procedure every old p).names (after_procedure every new p).names
   after_follows old new f numbered p fresh same =
@@ -476,7 +487,7 @@ module _ (number : ℕ → ℕ) (left : List Name) where
       let two : length new.procedures + (1 + j) ≡ length (new.procedures ++ y ∷ []) + j = omega (arith, length-append new.procedures (y ∷ [])) in
       ap number one ∙ numbers (1 + j) ∙ two
 
-  procedures_stay : (old new : Scope) → Follows Renumbered (Good old.procedures new.procedures) left old.names new.names → Numbers old new → Once old.names
+  pub procedures_stay : (old new : Scope) → Follows Renumbered (Good old.procedures new.procedures) left old.names new.names → Numbers old new → Once old.names
       → (done : Findings every (List Procedure)) (done' : List Procedure) (ps : List tree_procedure.Procedure) (qs : List Procedure)
       → Every (λ n. In n left → ⊥) (flat_map names_used ps) → with_procedures every old done ps ≡ Ok qs
       → (rs : List Procedure) × (with_procedures every new (Ok done') ps ≡ Ok rs)
@@ -494,10 +505,10 @@ module _ (number : ℕ → ℕ) (left : List Name) where
   -- ---- types
 
   -- types that are declared in both
-  abbrev TypesFollow : SoFar every → SoFar every → Type 0
+  abbrev pub TypesFollow : SoFar every → SoFar every → Type 0
   TypesFollow s t = Follows Renumbered (Good [] []) left s.names t.names × (t.right ≡ Ok tt)
 
-  name_follows : (s t : SoFar every) (name : Identifier) (m : Meaning) → Renumbered m ≡ m → Good [] [] m → (with_name every s name m).right ≡ Ok tt → TypesFollow s t
+  pub name_follows : (s t : SoFar every) (name : Identifier) (m : Meaning) → Renumbered m ≡ m → Good [] [] m → (with_name every s name m).right ≡ Ok tt → TypesFollow s t
       → TypesFollow (with_name every s name m) (with_name every t name m)
   name_follows s t name m same good e (f, right) =
       let h = and-ok s.right (one_fault (is_fresh s.names name.name name.span.start)) e in
@@ -529,7 +540,7 @@ module _ (number : ℕ → ℕ) (left : List Name) where
       elements_follow width 0 (with_name every s name m) (with_name every t name m) elements e
       (name_follows s t name m refl tt (elements_tie width 0 (with_name every s name m) elements e).0 f)
 
-  types_follow : (s t : SoFar every) (ts : List TypeDeclaration) → (with_types every s ts).right ≡ Ok tt → TypesFollow s t
+  pub types_follow : (s t : SoFar every) (ts : List TypeDeclaration) → (with_types every s ts).right ≡ Ok tt → TypesFollow s t
       → TypesFollow (with_types every s ts) (with_types every t ts)
   types_follow s t [] e f = f
   types_follow s t (d ∷ rest) e f =
@@ -537,7 +548,7 @@ module _ (number : ℕ → ℕ) (left : List Name) where
       types_follow next (with_definition every t d.name d.definition) rest e (definition_follows s t d.name d.definition (types_tie next rest e).0 f)
 
   -- types that are declared in the first alone
-  name_left : (s t : SoFar every) (name : Identifier) (m : Meaning) → In name.name left → (with_name every s name m).right ≡ Ok tt → TypesFollow s t
+  pub name_left : (s t : SoFar every) (name : Identifier) (m : Meaning) → In name.name left → (with_name every s name m).right ≡ Ok tt → TypesFollow s t
       → TypesFollow (with_name every s name m) t
   name_left s t name m out e (f, right) =
       let h = and-ok s.right (one_fault (is_fresh s.names name.name name.span.start)) e in
@@ -583,7 +594,7 @@ module _ (number : ℕ → ℕ) (left : List Name) where
       } in
       follows-left Renumbered (Good (s.procedures ++ x ∷ []) s.procedures) left s.names s.names p.name.name (meaning.Procedure (length s.procedures)) g out fresh
 
-with_types-append : (s : SoFar every) (xs ys : List TypeDeclaration) → with_types every s (xs ++ ys) ≡ with_types every (with_types every s xs) ys
+pub with_types-append : (s : SoFar every) (xs ys : List TypeDeclaration) → with_types every s (xs ++ ys) ≡ with_types every (with_types every s xs) ys
 with_types-append s [] ys = refl
 with_types-append s (x ∷ xs) ys = with_types-append (with_definition every s x.name x.definition) xs ys
 

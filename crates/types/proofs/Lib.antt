@@ -1,9 +1,13 @@
 pub mod public
+mod Behind
 mod CallLemmas
 mod DeclarationLemmas
+mod DeclaredBefore
 mod DeclaredDistinct
 mod DeclaredOnce
 mod ExpressionWays
+mod Fitting
+mod LastElement
 mod Least
 mod LeastCommands
 mod LeastDescriptions
@@ -11,9 +15,14 @@ mod LeavingOut
 mod LocalsLeftOut
 mod Lookups
 mod NameLemmas
+mod OneName
 mod Order
 mod Owed
 mod PartsFound
+mod PortsLeftOut
+mod StandingApart
 mod Staying
 mod StaysRight
+mod TypeWidths
 mod TypingLaws
+mod WidthRules

@@ -1,15 +1,12 @@
 -- An accepted description without a declaration of locals that are not used is accepted.
-use Rattle.std.proofs.Common.{◌≡◌, ℕ, suc, ◌+◌, ◌-◌, ◌<◌, ◌≤◌, ◌⊎◌, inl, inr, List, [], ◌∷◌, ◌++◌, length, map, flat_map, true, false, Bool, Option, Some, None, is_some, nat_eq, nat_lt, slice_get, if◌then◌else◌, Result, Ok, Err, refl, ap, sym, subst, ◌∙◌, length-append, lt-ltb, le-ltb, eqb-true, eq-eqb, ne_eqb, true≢false, arith}
+use Rattle.std.proofs.Common.{◌≡◌, ℕ, ◌+◌, ◌<◌, ◌≤◌, inl, inr, List, [], ◌∷◌, ◌++◌, length, map, flat_map, Some, None, slice_get, Ok, refl, ap, sym, subst, ◌∙◌, length-append, arith}
 use Rattle.std.proofs.lemmas.List.Concat.{flat_map-append}
-use Rattle.std.specs.Option.{option_or}
-use Rattle.std.specs.Cmp.Lexicographic.{pointwise}
 use Rattle.types.specs.Commands.{Scope, judged_command}
-use Rattle.types.specs.Declarations.{demanded, width_or_one, enumeration_width, type_width_or_one, local_kind, port_kind, one_port, one_local, local_type, port_type, SoFar, with_name, with_elements, with_definition, with_types, Declared, with_one, with_ports, with_locals, all_ports, all_locals, behind, port_types, local_types, ports_of, locals_of, scope_inside, declarations_right, judged_procedure, after_procedure, with_procedures, types_of, judged_description, found_description}
-use Rattle.types.specs.Expressions.{declared_width, type_width}
-use Rattle.types.specs.Findings.{Verdict, Findings, becomes, both, and, with_next, one_fault, every}
-use Rattle.types.specs.Laws.{IsAccepted, Apart, LocalsMayBeLeftOut}
+use Rattle.types.specs.Declarations.{local_kind, port_kind, one_port, one_local, local_type, port_type, SoFar, with_types, Declared, with_one, with_ports, with_locals, all_ports, all_locals, behind, port_types, local_types, ports_of, locals_of, scope_inside, judged_procedure, after_procedure, with_procedures, judged_description, found_description}
+use Rattle.types.specs.Findings.{Findings, with_next, one_fault, every}
+use Rattle.types.specs.Laws.{LocalsMayBeLeftOut}
 use Rattle.types.specs.Names.{VisibleNames, look_up, declared, is_fresh, port_meaning, local_meaning}
-use Rattle.types.specs.Parts.{Name, Part, named, valued, names_of_type, names_of_part, names_of_expression, names_of_port, names_of_local, names_used, parts_of_command}
+use Rattle.types.specs.Parts.{Name, Part, named, valued, names_of_part, names_of_expression, names_of_port, names_of_local, names_used, parts_of_command}
 use Rattle.types.specs.declared.scope.Meaning.{Meaning}
 use Rattle.types.specs.declared.scope.Meaning.TheVariants as meaning
 use Rattle.typed.specs.declared.tree.Local.{Local}
@@ -21,83 +18,30 @@ use Rattle.typed.specs.declared.tree.PortKind.TheVariants as port
 use Rattle.typed.specs.declared.tree.Procedure.{Procedure}
 use Rattle.syntax.specs.Lists.{In, Every}
 use Rattle.syntax.specs.declared.declaration.Local as tree_local
-use Rattle.syntax.specs.declared.declaration.LocalKind as tree_local_kind
-use Rattle.syntax.specs.declared.declaration.LocalKind.TheVariants as local_of
 use Rattle.syntax.specs.declared.declaration.Port as tree_port
 use Rattle.syntax.specs.declared.declaration.Procedure as tree_procedure
-use Rattle.syntax.specs.declared.declaration.TypeDeclaration.{TypeDeclaration}
-use Rattle.syntax.specs.declared.declaration.TypeDefinition.{TypeDefinition}
-use Rattle.syntax.specs.declared.declaration.TypeDefinition.TheVariants.{Bits, Enumeration}
-use Rattle.syntax.specs.declared.expression.TypeName.{TypeName}
-use Rattle.syntax.specs.declared.expression.TypeName.TheVariants as type_name
 use Rattle.syntax.specs.declared.name.Identifier.{Identifier}
-use Rattle.types.proofs.DeclaredOnce.{both-ok, and-ok, demanded-ok, fresh-ok, Inner, inner-none, inner-twice, inner-name, all_ports_inner, all_locals_inner, locals_inner, types_tie, locals_tie, Sound, sound, Judged, next_right, next_judged, ties-name, type_at}
-use Rattle.types.proofs.ExpressionWays.{type_found}
+use Rattle.types.proofs.DeclaredOnce.{both-ok, and-ok, fresh-ok, Inner, inner-twice, all_ports_inner, all_locals_inner, locals_inner, types_tie, locals_tie, sound, Judged, next_right, next_judged, ties-name}
+use Rattle.types.proofs.Behind.{lower, lower_low, lower_high, Remote, lower_apart, Mean, mean_declared, types_mean, local_alike, all_locals-append, again}
 use Rattle.types.proofs.LeavingOut.{Follows, follows-declared, follows-left, unused, within, all_locals_right, ports_right, locals_right, ok_stays, right_by, judged_by, described_by}
-use Rattle.types.proofs.Lookups.{Once, once-none, none_found, look_up-append, every-append, every-front, every-back, every-weaker}
-use Rattle.types.proofs.Staying.{renamed, Remains, Kept, KeptPart, command_stays}
+use Rattle.types.proofs.Lookups.{Once, once-none, none_found, every-append, every-front, every-back, every-weaker}
+use Rattle.types.proofs.Staying.{Renumbering, renamed, Remains, Kept, KeptPart, command_stays}
 
 -- ---- numbers of locals
 
--- those from number r + k on have k less
-abbrev lower : ℕ → ℕ → ℕ → ℕ
-lower r k a = if nat_lt a r then a else a - k
-
--- a local that is not one of the k from number r on
-abbrev Remote : ℕ → ℕ → ℕ → Type 0
-Remote r k a = (a < r) ⊎ (r + k ≤ a)
-
-lower_low : (r k a : ℕ) → a < r → lower r k a ≡ a
-lower_low r k a few = rw (lt-ltb a r few) refl
-
-lower_high : (r k a : ℕ) → r + k ≤ a → lower r k a ≡ a - k
-lower_high r k a many = let past : r ≤ a = omega (arith, many) in rw (le-ltb a r past) refl
-
-abbrev LoweredBy : ℕ → ℕ → ℕ → ℕ → Type 0
-LoweredBy r k a x = ((x ≡ a) × (a < r)) ⊎ ((x ≡ a - k) × (r + k ≤ a))
-
-lowered : (r k a : ℕ) → Remote r k a → LoweredBy r k a (lower r k a)
-lowered r k a h = elim h [ inl few ↦ inl (lower_low r k a few, few) | inr many ↦ inr (lower_high r k a many, many) ]
-
-back_up : (r k a b x y : ℕ) → LoweredBy r k a x → LoweredBy r k b y → x ≡ y → a ≡ b
-back_up r k a b x y h g e = elim h [
-  | inl p ↦ elim g [ inl q ↦ omega (arith, p.0, p.1, q.0, q.1, e) | inr q ↦ omega (arith, p.0, p.1, q.0, q.1, e) ]
-  | inr p ↦ elim g [ inl q ↦ omega (arith, p.0, p.1, q.0, q.1, e) | inr q ↦ omega (arith, p.0, p.1, q.0, q.1, e) ]
-]
-
-tests_same : (a b c d : ℕ) → (a ≡ b → c ≡ d) → (c ≡ d → a ≡ b) → nat_eq a b ≡ nat_eq c d
-tests_same a b c d f g = by (nat_eq a b) refl
-  where
-    by : (t : Bool) → nat_eq a b ≡ t → nat_eq a b ≡ nat_eq c d
-    by true is = is ∙ sym (eq-eqb c d (f (eqb-true a b is)))
-    by false is = is ∙ sym (ne_eqb c d (λ e. true≢false (sym (eq-eqb a b (g e)) ∙ is)))
-
-lower_apart : (r k a b : ℕ) → Remote r k a → Remote r k b → nat_eq (lower r k a) (lower r k b) ≡ nat_eq a b
-lower_apart r k a b x y =
-    tests_same (lower r k a) (lower r k b) a b (back_up r k a b (lower r k a) (lower r k b) (lowered r k a x) (lowered r k b y)) (λ e. ap (lower r k) e)
+-- locals have other numbers where these are left out; ports and procedures keep theirs
+abbrev locals_anew : ℕ → ℕ → Renumbering
+locals_anew r k = record {
+  port = λ p. p;
+  local = lower r k;
+  procedure = λ p. p;
+  KeepsPort = λ _. Unit {0};
+  KeepsLocal = Remote r k;
+  ports_apart = λ a b x y. refl;
+  locals_apart = lower_apart r k;
+}
 
 -- ---- what all names mean
-
-abbrev Mean : (Meaning → Type 0) → VisibleNames → Type 0
-Mean P es = (n : List ℕ) (m : Meaning) → look_up es n ≡ Some m → P m
-
-mean_behind : (P : Meaning → Type 0) (es : VisibleNames) (x : List ℕ) (m : Meaning) → Mean P es → P m → Mean P (es ++ (x, m) ∷ [])
-mean_behind P es x m all one n k is = by (look_up es n) refl
-  where
-    found : option_or (look_up es n) (look_up ((x, m) ∷ []) n) ≡ Some k
-    found = sym (look_up-append es ((x, m) ∷ []) n) ∙ is
-
-    last : (b : Bool) → (if b then Some m else None) ≡ Some k → P k
-    last true e = let same : m ≡ k = cc in subst P same one
-    last false e = absurd cc
-
-    by : (o : Option Meaning) → look_up es n ≡ o → P k
-    by (Some j) e = let same : Some j ≡ Some k = rw e at found in all n k (e ∙ same)
-    by None e = last (pointwise nat_eq n x) (rw e at found)
-
-mean_declared : (P : Meaning → Type 0) (es : VisibleNames) (x : List ℕ) (m : Meaning) → Mean P es → P m → Mean P (declared es x m)
-mean_declared P es x m all one =
-    elim (is_some (look_up es x)) as (λ b. Mean P (if b then es else es ++ (x, m) ∷ [])) [ true ↦ all | false ↦ mean_behind P es x m all one ]
 
 -- what is no local
 abbrev IsOuter : Meaning → Type 0
@@ -105,22 +49,6 @@ IsOuter (meaning.Variable l w) = ⊥
 IsOuter (meaning.Channel l w) = ⊥
 IsOuter (meaning.Sync l) = ⊥
 IsOuter _ = Unit {0}
-
-elements_outer : (width n : ℕ) (s : SoFar every) (elements : List Identifier) → Mean IsOuter s.names → Mean IsOuter (with_elements every width n s elements).names
-elements_outer width n s [] all = all
-elements_outer width n s (x ∷ rest) all =
-    let m = meaning.Element (record { bits = n; width = width }) in
-    elements_outer width (suc n) (with_name every s x m) rest (mean_declared IsOuter s.names x.name m all tt)
-
-definition_outer : (s : SoFar every) (name : Identifier) (d : TypeDefinition) → Mean IsOuter s.names → Mean IsOuter (with_definition every s name d).names
-definition_outer s name (Bits width) all = mean_declared IsOuter s.names name.name (meaning.TypeName (width_or_one (declared_width width))) all tt
-definition_outer s name (Enumeration elements) all =
-    let m = meaning.TypeName (enumeration_width (length elements)) in
-    elements_outer (enumeration_width (length elements)) 0 (with_name every s name m) elements (mean_declared IsOuter s.names name.name m all tt)
-
-types_outer : (s : SoFar every) (ts : List TypeDeclaration) → Mean IsOuter s.names → Mean IsOuter (with_types every s ts).names
-types_outer s [] all = all
-types_outer s (t ∷ rest) all = types_outer (with_definition every s t.name t.definition) rest (definition_outer s t.name t.definition all)
 
 port_outer : (p : ℕ) (kind : PortKind) → IsOuter (port_meaning p kind)
 port_outer p (port.Input w) = tt
@@ -192,13 +120,9 @@ all_locals_below s (d ∷ rest) all =
 
 -- ---- locals behind fewer locals
 
-all_locals-append : (s : Declared every Local) (xs ys : List tree_local.Local) → all_locals every s (xs ++ ys) ≡ all_locals every (all_locals every s xs) ys
-all_locals-append s [] ys = refl
-all_locals-append s (x ∷ xs) ys = all_locals-append (with_locals every (local_kind s.names x.kind) s x.names) xs ys
-
 module _ (r k : ℕ) (left : List Name) where
   abbrev New : Meaning → Meaning
-  New = renamed (lower r k) (λ p. p)
+  New = renamed (locals_anew r k)
 
   abbrev Fine : Meaning → Type 0
   Fine (meaning.Channel l w) = Remote r k l
@@ -276,24 +200,6 @@ module _ (r k : ℕ) (left : List Name) where
 
   -- a type of a local is the same behind fewer locals
   module _ (outer inner : VisibleNames) (between : Inner outer inner) where
-    type_alike : (a b : VisibleNames) → Inner outer a → Inner outer b → (type : TypeName) → demanded (type_width inner [] type) ≡ Ok tt
-        → type_width_or_one b type ≡ type_width_or_one a type
-    type_alike a b front front' (type_name.Bits width) e = refl
-    type_alike a b front front' (type_name.Named identifier) e =
-        let name = identifier.name in
-        let right = demanded-ok (type_width inner [] (type_name.Named identifier)) e in
-        let m = meaning.TypeName right.0 in
-        let found = between.types name right.0 (type_found inner [] name identifier.span.start right.0 right.1) in
-        ap width_or_one (type_at b name identifier.span.start right.0 (front'.stays name m found)
-        ∙ sym (type_at a name identifier.span.start right.0 (front.stays name m found)))
-
-    kind_alike : (a b : VisibleNames) → Inner outer a → Inner outer b → (kind : tree_local_kind.LocalKind) → local_type inner kind ≡ Ok tt
-        → local_kind b kind ≡ local_kind a kind
-    kind_alike a b front front' (local_of.Variable type) e = ap (λ w. local.Variable w) (type_alike a b front front' type e)
-    kind_alike a b front front' (local_of.SharedVariable type) e = ap (λ w. local.SharedVariable w) (type_alike a b front front' type e)
-    kind_alike a b front front' (local_of.Channel type) e = ap (λ w. local.Channel w) (type_alike a b front front' type e)
-    kind_alike a b front front' local_of.Sync e = refl
-
     all_locals_behind : (s t : Declared every Local) (ds : List tree_local.Local) → Inner outer s.names → Inner outer t.names
         → Every (λ (d : tree_local.Local). local_type inner d.kind ≡ Ok tt) ds → (all_locals every s ds).right ≡ Ok tt → Behind s t
         → Behind (all_locals every s ds) (all_locals every t ds)
@@ -303,7 +209,7 @@ module _ (r k : ℕ) (left : List Name) where
         let kind' = local_kind t.names d.kind in
         let next = with_locals every kind s d.names in
         let one : Behind next (with_locals every kind' t d.names) =
-        subst (λ z. Behind next (with_locals every z t d.names)) (sym (kind_alike s.names t.names front front' d.kind right.0))
+        subst (λ z. Behind next (with_locals every z t d.names)) (sym (local_alike outer inner between s.names t.names front front' d.kind right.0))
         (locals_behind kind s t d.names (all_locals_right next rest e) b) in
         all_locals_behind next (with_locals every kind' t d.names) rest
         (inner-twice outer s.names next.names front (locals_inner kind s d.names))
@@ -312,7 +218,7 @@ module _ (r k : ℕ) (left : List Name) where
 -- ---- the procedure
 
 remains_fine : (r k : ℕ) (left : List Name) (old new : Scope) → new.procedures ≡ old.procedures → (m : Meaning) → Fine r k left m
-    → Remains (lower r k) (λ p. p) (Remote r k) (lower_apart r k) old new m
+    → Remains (locals_anew r k) old new m
 remains_fine r k left old new same (meaning.Procedure p) fine = ap (λ ps. slice_get ps p) same
 remains_fine r k left old new same (meaning.Channel l w) fine = fine
 remains_fine r k left old new same (meaning.Sync l) fine = fine
@@ -447,10 +353,10 @@ module _ (scope : Scope) (once : Once scope.names) (outer : Mean IsOuter scope.n
     inside' = record { names = t3.names; procedures = scope.procedures }
 
     abbrev KeptHere : Name → Type 0
-    KeptHere = Kept (lower (length s1.made) (length l.names)) (λ p. p) (Remote (length s1.made) (length l.names)) (lower_apart (length s1.made) (length l.names)) inside inside'
+    KeptHere = Kept (locals_anew (length s1.made) (length l.names)) inside inside'
 
     abbrev KeptPartHere : Part → Type 0
-    KeptPartHere = KeptPart (lower (length s1.made) (length l.names)) (λ p. p) (Remote (length s1.made) (length l.names)) (lower_apart (length s1.made) (length l.names)) inside inside'
+    KeptPartHere = KeptPart (locals_anew (length s1.made) (length l.names)) inside inside'
 
     name_stays : (n : Name) → Out n → KeptHere n
     name_stays n stays m is =
@@ -477,7 +383,7 @@ module _ (scope : Scope) (once : Once scope.names) (outer : Mean IsOuter scope.n
         let command : judged_command every p.body inside [] ≡ Ok j.body =
         ap (λ (z : VisibleNames). judged_command every p.body (record { names = z; procedures = scope.procedures }) []) (sym inner_is) ∙ j.command in
         let body = ok_stays (judged_command every p.body inside []) (judged_command every p.body inside' []) j.body command
-        (command_stays (lower (length s1.made) (length l.names)) (λ p. p) (Remote (length s1.made) (length l.names)) (lower_apart (length s1.made) (length l.names))
+        (command_stays (locals_anew (length s1.made) (length l.names))
         inside inside' p.body [] tt (parts_stay (parts_of_command p.body) body_out)) in
         let port_kinds = subst (λ (z : VisibleNames). Every (λ (d : tree_port.Port). port_type z d.kind ≡ Ok tt) p.ports) inner_is s.ports in
         let ports_ok = ports_right gone s3.names t3.names names_kept p.ports ports_out port_kinds in
@@ -491,15 +397,6 @@ module _ (scope : Scope) (once : Once scope.names) (outer : Mean IsOuter scope.n
         )
 
 -- ---- the whole
-
--- procedures are right behind any others
-again : (scope : Scope) (done : Findings every (List Procedure)) (done' : List Procedure) (ps : List tree_procedure.Procedure) (qs : List Procedure)
-    → with_procedures every scope done ps ≡ Ok qs → (rs : List Procedure) × (with_procedures every scope (Ok done') ps ≡ Ok rs)
-again scope done done' [] qs e = (done', refl)
-again scope done done' (p ∷ ps) qs e =
-    let h = next_right scope done p ps qs e in
-    let rest = again (after_procedure every scope p) (with_next every done (judged_procedure every scope p)) (done' ++ h.0 ∷ []) ps qs e in
-    (rest.0, ap (λ z. with_procedures every (after_procedure every scope p) (with_next every (Ok done') z) ps) h.1 ∙ rest.1)
 
 locals_left_out_at : (scope : Scope) (done : Findings every (List Procedure)) (done' : List Procedure) (before : List tree_procedure.Procedure) (p : tree_procedure.Procedure)
     (later : List tree_procedure.Procedure) (front : List tree_local.Local) (l : tree_local.Local) (back : List tree_local.Local) (qs : List Procedure)
@@ -530,7 +427,7 @@ locals_left_out types before p later front l back (qs, e) apart =
     let q : tree_procedure.Procedure = record p { locals = front ++ l ∷ back } in
     let h = both-ok (λ p. p.1) s.right (with_procedures every (record { names = s.names; procedures = [] }) (Ok []) (before ++ q ∷ later)) qs e in
     let once : Once s.names = (types_tie s0 types h.2).1.once once-none in
-    let stays = locals_left_out_at (record { names = s.names; procedures = [] }) (Ok []) [] before p later front l back h.1 once (types_outer s0 types (λ n m is. none_found n m is))
+    let stays = locals_left_out_at (record { names = s.names; procedures = [] }) (Ok []) [] before p later front l back h.1 once (types_mean IsOuter (λ w. tt) (λ v. tt) s0 types (λ n m is. none_found n m is))
     (unused (map (λ (z : Identifier). z.name) l.names) (names_used q) apart) h.3 in (
       stays.0,
       described_by s.right

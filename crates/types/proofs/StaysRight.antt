@@ -66,7 +66,7 @@ Pairs R [] (b ∷ bs) = ⊥
 Pairs R (a ∷ us) [] = ⊥
 Pairs R (a ∷ us) (b ∷ bs) = R a b × Pairs R us bs
 
-pairs-next : {A B : Type 0} (R : A → B → Type 0) (us : List A) (bs : List B) (a : A) (b : B) → Pairs R us bs → R a b → Pairs R (us ++ a ∷ []) (bs ++ b ∷ [])
+pub pairs-next : {A B : Type 0} (R : A → B → Type 0) (us : List A) (bs : List B) (a : A) (b : B) → Pairs R us bs → R a b → Pairs R (us ++ a ∷ []) (bs ++ b ∷ [])
 pairs-next R [] [] a b ps r = (r, tt)
 pairs-next R [] (y ∷ bs) a b ps r = absurd ps
 pairs-next R (x ∷ us) [] a b ps r = absurd ps

@@ -27,7 +27,7 @@ use Rattle.types.proofs.ExpressionWays.{type_once, expression_once, RightValue}
 use Rattle.types.proofs.Lookups.{Once, IsFound, shown, lone_only, every-append, every-weaker}
 use Rattle.types.proofs.PartsFound.{Gives, IsRight, AreRight, command_gives}
 
-every-flat : {X Y : Type 0} (P : Y → Type 0) (f : X → List Y) (xs : List X) → Every (λ x. Every P (f x)) xs → Every P (flat_map f xs)
+pub every-flat : {X Y : Type 0} (P : Y → Type 0) (f : X → List Y) (xs : List X) → Every (λ x. Every P (f x)) xs → Every P (flat_map f xs)
 every-flat P f [] h = tt
 every-flat P f (x ∷ xs) h = every-append P (f x) (flat_map f xs) h.0 (every-flat P f xs h.1)
 
@@ -35,7 +35,7 @@ given_by : {A G : Type 0} (r : Findings every A) (a : A) → r ≡ Ok a → Give
 given_by (Ok b) a e g = g
 given_by (Err fs) a e g = absurd cc
 
-right_by : (es : VisibleNames) (r : Findings every Valued) (widths : List ℕ) (names : List Name) (v : Valued) → r ≡ Ok v → RightValue es r widths names
+pub right_by : (es : VisibleNames) (r : Findings every Valued) (widths : List ℕ) (names : List Name) (v : Valued) → r ≡ Ok v → RightValue es r widths names
     → (widths ≡ v.width ∷ []) × Every (IsFound es) names
 right_by es r widths names v e right = subst (λ x. RightValue es x widths names) e right
 
@@ -73,17 +73,17 @@ module _ (es : VisibleNames) (once : Once es) where
 -- ---- a procedure of an accepted description
 
 module _ (d : Description) (before : List Procedure) (p : Procedure) (here : InAccepted d before p) where
-  is_sound : Sound here.scope p
+  pub is_sound : Sound here.scope p
   is_sound = sound here.scope p here.once here.judged.declarations
 
-  all_visible : map shown (scope_inside every here.scope p).names ≡ visible_in d.types before p
+  pub all_visible : map shown (scope_inside every here.scope p).names ≡ visible_in d.types before p
   all_visible =
       is_sound.seen
       ∙ ap (λ (ds : List Declaration).
       ds ++ (flat_map (λ (d : tree_port.Port). valued_names (port_widths ds d.kind) d.names) p.ports
       ++ flat_map (λ (d : tree_local.Local). valued_names (local_widths ds d.kind) d.names) p.locals)) here.seen
 
-  parts : AreRight (scope_inside every here.scope p).names (parts_of_command p.body)
+  pub parts : AreRight (scope_inside every here.scope p).names (parts_of_command p.body)
   parts = given_by (judged_command every p.body (scope_inside every here.scope p) []) here.judged.body here.judged.command
       (command_gives p.body (scope_inside every here.scope p) [])
 
@@ -99,7 +99,7 @@ module _ (d : Description) (before : List Procedure) (p : Procedure) (here : InA
       (every-flat (IsFound es) names_of_part (parts_of_command p.body)
       (every-weaker _ _ (part_names es is_sound.once) (parts_of_command p.body) parts)))
 
-  declared_once : Every (λ name. OnlyOne (λ (declaration : Declaration). declaration.name ≡ name) (visible_in d.types before p)) (names_used p)
+  pub declared_once : Every (λ name. OnlyOne (λ (declaration : Declaration). declaration.name ≡ name) (visible_in d.types before p)) (names_used p)
   declared_once =
       let es = (scope_inside every here.scope p).names in
       every-weaker (IsFound es) _

@@ -10,4 +10,8 @@ pub mod Declarations
 pub mod Laws
 pub mod Parts
 pub mod Visible
+pub mod Nearest
+pub mod Widths
+pub mod Fits
+pub mod LeavingOut
 pub mod internal

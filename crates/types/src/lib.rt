@@ -20,7 +20,7 @@ mod verdict;
 
 pub use laws::{
     declared_names_are_distinct, expressions_have_one_width, names_are_declared_once,
-    unused_may_be_left_out,
+    names_may_stand_apart, unused_may_be_left_out, unused_name_may_be_left_out, widths_fit,
 };
 pub use refusals::types::Fault;
 use std::alloc::Global;
