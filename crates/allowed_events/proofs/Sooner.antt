@@ -1,8 +1,8 @@
 -- What the test of order tells, and where it puts an event.
-use Rattle.std.proofs.Common.{◌≡◌, ◌⊎◌, inl, inr, ℕ, suc, ◌==◌, ◌<◌, ◌≤◌, List, [], ◌∷◌, ◌++◌, Bool, true, false, cond, length, take, drop, refl, sym, ◌∙◌, ap, subst, arith}
+use Rattle.std.proofs.Common.{◌≡◌, ◌⊎◌, inl, inr, ℕ, zero, suc, ◌==◌, ◌<◌, ◌≤◌, List, [], ◌∷◌, ◌++◌, Bool, true, false, cond, length, take, drop, Some, refl, sym, ◌∙◌, ap, subst, arith}
 use Rattle.std.proofs.lemmas.Bool.{ltb-true}
 use Rattle.std.proofs.lemmas.Bool.Decides.{nat_tests}
-use Rattle.std.specs.Prelude.{nat_lt}
+use Rattle.std.specs.Prelude.{nat_lt, slice_get}
 use Rattle.std.specs.Ordering.{is_lt}
 use Rattle.std.specs.declared.cmp.Ordering.{Ordering}
 use Rattle.std.specs.declared.cmp.Ordering.TheVariants.{Less, Equal, Greater}
@@ -20,6 +20,7 @@ use Rattle.runs.specs.internal.EventLaws.{same_event-decides}
 use Rattle.runs.specs.WellFormed.{WellFormed}
 use Rattle.runs.specs.declared.event.Event.{Event}
 use Rattle.runs.proofs.public.Lists.{every-in, every-of, in-left, in-right, in-parts}
+use Rattle.runs.proofs.public.Options.{none-some, some-injective}
 use Rattle.runs.proofs.public.ReadyLists.{sooner?, sooner-transitive}
 use Rattle.std.specs.List.{Contains}
 use Rattle.std.specs.List.Sorted.{IsPermutation}
@@ -206,7 +207,27 @@ left-none [] n is none = refl
 left-none (e ∷ left) n is none = absurd (omega arith)
 
 -- one event at most is in order
-pub sorted-few : (es : List Event) (n : ℕ) → n ≡ length es → n ≤ 1 → SortedOf es es
-sorted-few [] n is few = record { same = λ e. (λ i. i, λ i. i); in_order = tt }
-sorted-few (e ∷ []) n is few = record { same = λ f. (λ i. i, λ i. i); in_order = (tt, tt) }
-sorted-few (e ∷ f ∷ es) n is few = absurd (omega arith)
+pub few-in-order : (es : List Event) (n : ℕ) → length es ≤ suc n → InOrder Sooner (drop n es)
+few-in-order [] zero few = tt
+few-in-order [] (suc n) few = tt
+few-in-order (e ∷ []) zero few = (tt, tt)
+few-in-order (e ∷ f ∷ es) zero few = absurd (omega arith)
+few-in-order (e ∷ es) (suc n) few = few-in-order es n (omega arith)
+
+-- an event more before the next, and so before all behind it
+pub order-more : (es : List Event) (e f : Event) (n : ℕ) → slice_get es n ≡ Some e → slice_get es (suc n) ≡ Some f → is_sooner e f ≡ true → InOrder Sooner (drop (suc n) es) →
+    InOrder Sooner (drop n es)
+order-more [] e f n at next before order = none-some e at
+order-more (x ∷ []) e f zero at next before order = none-some f next
+order-more (x ∷ y ∷ es) e f zero at next before order =
+    let first : x ≡ e = some-injective x e at in
+    let second : y ≡ f = some-injective y f next in
+    let less : Sooner x y = subst (λ (z : Event). Sooner z y) (sym first) (subst (λ (z : Event). Sooner e z) (sym second) (sooner-true e f before)) in (
+      (less, every-of (Sooner x) es (λ g i. sooner-transitive x y g less (every-in (Sooner y) es g order.0 i))),
+      order,
+    )
+order-more (x ∷ es) e f (suc n) at next before order = order-more es e f n at next before order
+
+-- events that are in order are what they are sorted
+pub sorted-already : (es list : List Event) → list ≡ es → InOrder Sooner list → SortedOf es es
+sorted-already es list is order = record { same = λ e. (λ i. i, λ i. i); in_order = subst (λ (k : List Event). InOrder Sooner k) is order }

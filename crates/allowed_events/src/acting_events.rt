@@ -36,7 +36,7 @@ pub(crate) fn acted_by(
         Tidy (tree_view tree.now) →
         IfOk result (λ events. (e : any.Event) → In e events ↔ ActedByOne (state_of tree.now store.now) acting.now e) }
 {
-    let mut events = Items::new(alloc);
+    let mut events = Items::with_capacity(alloc, acting.len())?;
     for one in acting {
         add_acted(alloc, uses, tree, store, one, &mut events)?;
     }

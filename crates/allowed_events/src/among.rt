@@ -77,7 +77,7 @@ fn made_among(
     ensures { (S : State) → OffersExactly S actions.now →
         IfOk result (λ events. (e : any.Event) → In e events ↔ ActedByOne S actions.now e) }
 {
-    let mut events = Items::new(alloc);
+    let mut events = Items::with_capacity(alloc, actions.len())?;
     for one in actions {
         add_made(alloc, partners, actions, one, &mut events)?;
     }

@@ -1,5 +1,5 @@
 // The order in which events are listed.
-ghost use Rattle.std.specs.Prelude.{◌≡◌, ◌≤◌, ◌↔◌, cond, length, IsTrue};
+ghost use Rattle.std.specs.Prelude.{◌≡◌, ◌≤◌, ◌↔◌, true, cond, length, IsTrue};
 ghost use Rattle.address.specs.Order.{order_of};
 ghost use Rattle.runs.specs.InOrder.{InOrder};
 ghost use Rattle.runs.specs.Ready.{other, Sooner};
@@ -77,6 +77,20 @@ pub(crate) fn sooner_count(event: &Event, sorted: &[Event]) -> usize
         index -= 1;
     }
     0
+}
+
+/// Whether the events are in order as they are. It looks from the last on.
+pub(crate) fn are_in_order(events: &[Event]) -> bool
+    ensures { result ≡ true → InOrder Sooner events.now }
+{
+    let mut index = events.len();
+    while index > 1 {
+        index -= 1;
+        if !is_sooner(&events[index - 1], &events[index]) {
+            return false;
+        }
+    }
+    true
 }
 
 /// Whether the choice takes the event.

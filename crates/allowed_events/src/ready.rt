@@ -18,7 +18,7 @@ ghost use Rattle.allowed_events.specs.internal.Acting.{SortedOf};
 ghost use Rattle.allowed_events.specs.internal.Sorting.{inserted};
 
 use crate::acting_events::acted_by;
-use crate::order::{latest_first, sooner_count};
+use crate::order::{are_in_order, latest_first, sooner_count};
 use address::Entry;
 use channel_uses::ChannelUses;
 use local_actions::actions_below;
@@ -63,12 +63,12 @@ pub fn ready_below(
 }
 
 /// The same events in the order of their acting addresses, then of their arms, then of their other addresses; each
-/// stands once. One event, as a step finds it nearly always, is in order as it is.
+/// stands once. Nearly always they are in order as they are: they come in the order in which a walk finds who acts.
 pub fn in_order(alloc: Global, events: Items<Event>) -> Result<Items<Event>, AllocError>
     ensures { (S : State) → WellFormed S.residual → ((e : any.Event) → In e events → Allowed S e) →
         IfOk result (λ sorted. SortedOf events sorted) }
 {
-    if events.len() <= 1 {
+    if are_in_order(events.as_slice()) {
         return Ok(events);
     }
     sort(alloc, events)

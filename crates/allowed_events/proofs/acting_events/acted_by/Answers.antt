@@ -6,7 +6,7 @@ use Rattle.allowed_events.proofs.ActedActions.{so-far-start, so-far-step, so-far
 use Rattle.allowed_events.proofs.acting_events.acted_by.Goals as goal
 
 pub loop-one-init : goal.loop-one-init
-loop-one-init c = λ code table stems tidy. so-far-start (state_of c.args.tree.now c.args.store.now) _ _ c.args.acting.now c.new-events.ensures refl
+loop-one-init c = λ code table stems tidy. so-far-start (state_of c.args.tree.now c.args.store.now) _ _ c.args.acting.now c.in_ok-events.ensures refl
 
 pub loop-one-preserved : goal.loop-one-preserved
 loop-one-preserved c = λ code table stems tidy.

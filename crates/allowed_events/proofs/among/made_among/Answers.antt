@@ -5,7 +5,7 @@ use Rattle.allowed_events.proofs.ActedActions.{so-far-start, so-far-step, so-far
 use Rattle.allowed_events.proofs.among.made_among.Goals as goal
 
 pub loop-one-init : goal.loop-one-init
-loop-one-init c = λ S offers. so-far-start S _ _ c.args.actions.now c.new-events.ensures refl
+loop-one-init c = λ S offers. so-far-start S _ _ c.args.actions.now c.in_ok-events.ensures refl
 
 pub loop-one-preserved : goal.loop-one-preserved
 loop-one-preserved c = λ S offers.

@@ -1,5 +1,6 @@
-use Rattle.allowed_events.proofs.Sooner.{sorted-few}
+use Rattle.allowed_events.proofs.Sooner.{sorted-already}
 use Rattle.allowed_events.proofs.ready.in_order.Goals as goal
 
-pub returns-then-len-le1 : goal.returns-then-len-le1
-returns-then-len-le1 c = λ S w allowed. sorted-few c.args.events _ c.len.ensures c.if-len-le1.true
+pub returns-then-are_in_order : goal.returns-then-are_in_order
+returns-then-are_in_order c = λ S w allowed.
+    sorted-already c.args.events _ c.as_slice.ensures (c.are_in_order.ensures c.if-are_in_order.true)
