@@ -1,4 +1,5 @@
 ghost use Rattle.std.specs.Prelude.{◌≡◌, ◌≢◌, ℕ, List, [], length, IfOk, IfErr, IfSome, MatchOption, slice_get, Some, None};
+ghost use Rattle.runs.specs.InOrder.{InOrder};
 ghost use Rattle.runs.specs.Steps.{State};
 ghost use Rattle.runs.specs.Live.{events, IsLive, ConsequencesList};
 ghost use Rattle.runs.specs.Object.{Reaches};
@@ -7,7 +8,7 @@ ghost use Rattle.runs.specs.Does.{Answers};
 ghost use Rattle.runs.specs.declared.command.Command.{Command};
 ghost use Rattle.process_tree.specs.Tidy.{Tidy};
 ghost use Rattle.process_tree.specs.View.{tree_view};
-ghost use Rattle.local_actions.specs.Actions.{OffersExactly};
+ghost use Rattle.local_actions.specs.Actions.{OffersExactly, Precedes};
 ghost use Rattle.local_actions.specs.View.{state_of};
 ghost use Rattle.event_places.specs.EventPlaces.{line_after, is_open_after};
 ghost use Rattle.machine.specs.Branching.{AnswersBranch};
@@ -273,14 +274,15 @@ impl Machine {
         or_no_memory(self.history.ready(self.alloc, &self.uses))
     }
 
-    /// The actions that the state offers, in order of place: those of the events that may be taken, and those that
-    /// wait.
+    /// The actions that the state offers, each once, in order of place, at one place of their arms: those of the events
+    /// that may be taken, and those that wait.
     ///
     /// # Errors
     ///
     /// `Memory` without memory.
     pub fn actions(&self) -> Result<Items<LocalAction>, Refusal>
-        ensures { IfOk result (λ actions. (T : State) × Reaches (object self.now) T × OffersExactly T actions) }
+        ensures offered { IfOk result (λ actions. (T : State) × Reaches (object self.now) T × OffersExactly T actions) }
+        ensures in_order { IfOk result (λ actions. InOrder Precedes actions) }
     {
         or_no_memory(self.history.actions(self.alloc))
     }

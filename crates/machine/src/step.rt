@@ -2,12 +2,13 @@
 ghost use Rattle.std.specs.Prelude.{◌≡◌, ◌≤◌, ◌<◌, ◌∷◌, ◌++◌, [], ℕ, List, Some, suc, length, IfOk, IfErr, OnOk, OnErr};
 ghost use Rattle.sharing_check.specs.declared.checked.Checked.{Checked};
 ghost use Rattle.runs.specs.Steps.{Allowed};
+ghost use Rattle.runs.specs.InOrder.{InOrder};
 ghost use Rattle.runs.specs.Live.{LiveAt};
 ghost use Rattle.runs.specs.Object.{Reaches, most_live, last_ticket, with_event};
 ghost use Rattle.runs.specs.Ready.{ReadyList};
 ghost use Rattle.runs.specs.Does.{Does};
 ghost use Rattle.machine.specs.Results.{step_reply};
-ghost use Rattle.local_actions.specs.Actions.{OffersExactly};
+ghost use Rattle.local_actions.specs.Actions.{OffersExactly, Precedes};
 ghost use Rattle.dependence.specs.Behind.{ComesBehind};
 ghost use Rattle.event_inverse.specs.Grown.{TreeAndStore, state_of_tree, applied};
 ghost use Rattle.event_inverse.specs.View.{inverse_view};
@@ -173,9 +174,11 @@ impl History {
 
     /// The actions that are offered now, in order of place.
     pub(crate) fn actions(&self, alloc: Global) -> Result<Items<LocalAction>, AllocError>
-        ensures { (system : Checked) → Holds system self.now → IfOk result (λ actions.
+        ensures offered { (system : Checked) → Holds system self.now → IfOk result (λ actions.
             Reaches (execution system self.now) (state_of_tree (tree_of self.now))
             × OffersExactly (state_of_tree (tree_of self.now)) actions) }
+        ensures in_order { (system : Checked) → Holds system self.now → IfOk result (λ actions.
+            InOrder Precedes actions) }
     {
         actions_of(alloc, &self.tree, &self.store)
     }
