@@ -24,5 +24,6 @@ mod StandingApart
 mod Staying
 mod StaysRight
 mod TypeWidths
+mod Turns
 mod TypingLaws
 mod WidthRules
