@@ -1,9 +1,11 @@
 pub mod public
 mod BackSteps
 mod Children
+mod CommandCodes
 mod Exactly
 mod Finding
 mod OneByOne
+mod OneMore
 mod Passing
 mod Ports
 mod Rows

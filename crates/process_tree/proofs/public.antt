@@ -1,6 +1,7 @@
 pub mod Asking
 pub mod Back
 pub mod Formed
+pub mod Forms
 pub mod Puts
 pub mod Simulation
 pub mod Steps

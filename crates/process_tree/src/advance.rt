@@ -119,7 +119,8 @@ fn in_loop(
     ensures ok { IfOk result (λ out.
         advanced (turns_view turns.old (repeat_view repeat.now).0 (repeat_view repeat.now).1) place.now ask
         ≡ Some (turns_view turns.new (repeat_view repeat.now).0 (repeat_view repeat.now).1, out_view out)) }
-    ensures err { OnErr result (turns_view turns.new ≡ turns_view turns.old) }
+    ensures err { OnErr result (turns_view turns.new (repeat_view repeat.now).0 (repeat_view repeat.now).1
+        ≡ turns_view turns.old (repeat_view repeat.now).0 (repeat_view repeat.now).1) }
 {
     match turns {
         Turns::Fresh => {
@@ -204,7 +205,8 @@ fn in_test(
     ensures ok { IfOk result (λ out.
         advanced (tested_view tested.old (decide_view decide.now).0 (decide_view decide.now).1) place.now ask
         ≡ Some (tested_view tested.new (decide_view decide.now).0 (decide_view decide.now).1, out_view out)) }
-    ensures err { OnErr result (tested_view tested.new ≡ tested_view tested.old) }
+    ensures err { OnErr result (tested_view tested.new (decide_view decide.now).0 (decide_view decide.now).1
+        ≡ tested_view tested.old (decide_view decide.now).0 (decide_view decide.now).1) }
 {
     match tested {
         Tested::Untested => {

@@ -199,7 +199,7 @@ header-refused system text Fault.ReadFailed stops = absurd stops
 header-refused system text Fault.WriteFailed stops = absurd stops
 
 -- behind its header
-steps-refused : (system : System) (v : Version) (text steps : List ℕ) (fault : Fault) → HasSteps v text steps → StepsStop system steps fault
+pub steps-refused : (system : System) (v : Version) (text steps : List ℕ) (fault : Fault) → HasSteps v text steps → StepsStop system steps fault
     → IsRefused system text fault
 steps-refused system v text steps Fault.Memory has stops = tt
 steps-refused system v text steps Fault.BadHeader has stops = absurd stops
@@ -213,16 +213,9 @@ steps-refused system v text steps Fault.WriteFailed has stops = absurd stops
 pub new-system : (system : System) (m : AtMachine) → m ≡ record { checked = system; live = []; next = 1 } → m.checked ≡ system
 new-system system m new = ap (λ (n : AtMachine). n.checked) new
 
--- behind its header, by a new machine
-pub refused-text : (system : System) (v : Version) (m : AtMachine) (text steps : List ℕ) (fault : Fault)
-    → m ≡ record { checked = system; live = []; next = 1 } → HasSteps v text steps → StepsStop m.checked steps fault → IsRefused system text fault
-refused-text system v m text steps fault new has stops =
-    steps-refused system v text steps fault has (subst (λ (s : System). StepsStop s steps fault) (new-system system m new) stops)
-
--- all steps are taken on a new machine
-pub taken-all : (system : System) (m m' : AtMachine) (steps : List ℕ) → m ≡ record { checked = system; live = []; next = 1 }
-    → Loading m.checked steps m' [] → Loading system steps m' []
-taken-all system m m' steps new loading = subst (λ (s : System). Loading s steps m' []) (new-system system m new) loading
+-- a new machine is one by its own system
+pub is-new : (system : System) (m : AtMachine) → m ≡ record { checked = system; live = []; next = 1 } → m ≡ record { checked = m.checked; live = []; next = 1 }
+is-new system m new = new ∙ ap (λ (s : System). record { checked = s; live = []; next = 1 }) (sym (new-system system m new))
 
 -- the number of the first line behind the header
 pub number-start : (system : System) (m : AtMachine) → m ≡ record { checked = system; live = []; next = 1 } → 2 ≡ 2 + length (events m.live)

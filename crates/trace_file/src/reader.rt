@@ -1,4 +1,4 @@
-ghost use Rattle.std.specs.Prelude.{◌≡◌, [], MatchResult};
+ghost use Rattle.std.specs.Prelude.{◌≡◌, ℕ, List, [], MatchResult};
 ghost use Rattle.trace_file.specs.TraceText.{HasSteps};
 ghost use Rattle.trace_file.specs.Loading.{IsLoaded, IsRefused, StepsStop, Loads, after_reading};
 ghost use Rattle.trace_file.specs.internal.Fields.{HasNone};
@@ -50,10 +50,38 @@ pub fn load_text(alloc: Global, checked: Checked, text: &[u8]) -> Result<Machine
         (λ fault. IsRefused checked text.now fault) }
 {
     let (version, steps) = behind_header(text)?;
+    load_steps(alloc, checked, version, steps)
+}
+
+/// A machine that has taken the steps behind a header of this version.
+fn load_steps(
+    alloc: Global,
+    checked: Checked,
+    version: Version,
+    steps: &[u8],
+) -> Result<Machine, Fault>
+    ensures { (text : List ℕ) → HasSteps version text steps.now →
+        MatchResult result (λ machine. IsLoaded checked text machine) (λ fault. IsRefused checked text fault) }
+{
     let mut machine = Machine::new(alloc, checked)?;
-    take_steps(alloc, &mut machine, steps)?;
-    refuse_disorder(alloc, &machine, version)?;
+    take_all(alloc, &mut machine, version, steps)?;
     Ok(machine)
+}
+
+/// Takes the steps behind a header of this version on a new machine, which are to stand as that version has them.
+fn take_all(
+    alloc: Global,
+    machine: &mut Machine,
+    version: Version,
+    steps: &[u8],
+) -> Result<(), Fault>
+    requires { machine.old ≡ record { checked = machine.old.checked; live = []; next = 1 } }
+    ensures { (text : List ℕ) → HasSteps version text steps.now →
+        MatchResult result (λ _. IsLoaded machine.old.checked text machine.new)
+        (λ fault. IsRefused machine.old.checked text fault) }
+{
+    take_steps(alloc, machine, steps)?;
+    refuse_disorder(alloc, machine, version)
 }
 
 /// The version by the first line, which is to be a header, and what is behind that line.

@@ -5,8 +5,9 @@ use Rattle.process_tree.specs.Proc.{all_started}
 use Rattle.process_tree.specs.Translation.{row_of}
 use Rattle.process_tree.specs.View.{code_view, proc_view, procs_of, repeat_view, decide_view, await_view}
 use Rattle.process_tree.specs.declared.finder.Finder.{Finder}
-use Rattle.process_tree.specs.internal.Listed.{Listing, again_at, listed_sequence, listed_parallel, added}
+use Rattle.process_tree.specs.internal.Listed.{Listing, again_at, listed, lists, listed_sequence, listed_parallel, added}
 use Rattle.process_tree.proofs.OneByOne.{begun-row, row-at, row-past}
+use Rattle.process_tree.proofs.public.Forms.{once-seen, sender-seen, loop-seen, test-seen, arms-seen, sequence-seen, parallel-seen, turn-seen, opened-seen, done-as, told-as}
 use Rattle.process_tree.proofs.Passing.{onwards, at-work, beside, one-open, one-over, proc-next, taken-offers, opened-over, turn-again, arm-close, repeat-guard}
 use Rattle.process_tree.proofs.list.+list.Goals as goal
 use Rattle.process_tree.proofs.list.+list.Goals.{list_parallel-then-not-branch, list_parallel-else-not-branch}
@@ -92,3 +93,71 @@ pub list_opened-returns-in_ok-list_close-clause-offers : goal.list_opened-return
 list_opened-returns-in_ok-list_close-clause-offers t c = λ ds cs.
     arm-close c.args.finder.now c.list_child.new.finder c.list_close.new.finder ds cs c.args.channel c.args.value (proc_view c.args.body.now) c.args.over
     c.in_ok-list_child.field-0 c.if-over.false c.in_ok-list_child.ensures.offers c.in_ok-list_child.ensures.over c.if-branch.true c.in_ok-list_close.ensures
+
+pub list-returns-in-Once-clause-offers : goal.list-returns-in-Once-clause-offers
+list-returns-in-Once-clause-offers t c =
+    done-as (λ p. lists p c.args.finder.now) _ _ _ c.list_unmade.result (once-seen c.args.proc.now _ c.get.result.now _ c.in-Once.is c.get.ensures) c.list_unmade.ensures.offers
+
+pub list-returns-in-Once-clause-over : goal.list-returns-in-Once-clause-over
+list-returns-in-Once-clause-over t c =
+    told-as (λ p. (listed p).over) _ _ c.list_unmade.result (once-seen c.args.proc.now _ c.get.result.now _ c.in-Once.is c.get.ensures) c.list_unmade.ensures.over
+
+pub list-returns-in-Sender-clause-offers : goal.list-returns-in-Sender-clause-offers
+list-returns-in-Sender-clause-offers t c =
+    done-as (λ p. lists p c.args.finder.now) _ _ _ c.list_phase.result (sender-seen c.args.proc.now _ c.get-in-Sender.result.now _ c.in-Sender.is c.get-in-Sender.ensures) c.list_phase.ensures.offers
+
+pub list-returns-in-Sender-clause-over : goal.list-returns-in-Sender-clause-over
+list-returns-in-Sender-clause-over t c =
+    told-as (λ p. (listed p).over) _ _ c.list_phase.result (sender-seen c.args.proc.now _ c.get-in-Sender.result.now _ c.in-Sender.is c.get-in-Sender.ensures) c.list_phase.ensures.over
+
+pub list-returns-in-Loop-clause-offers : goal.list-returns-in-Loop-clause-offers
+list-returns-in-Loop-clause-offers t c =
+    done-as (λ p. lists p c.args.finder.now) _ _ _ c.list_loop.result (loop-seen c.args.proc.now _ c.get-in-Loop.result.now _ _ c.in-Loop.is c.get-in-Loop.ensures refl) c.list_loop.ensures.offers
+
+pub list-returns-in-Loop-clause-over : goal.list-returns-in-Loop-clause-over
+list-returns-in-Loop-clause-over t c =
+    told-as (λ p. (listed p).over) _ _ c.list_loop.result (loop-seen c.args.proc.now _ c.get-in-Loop.result.now _ _ c.in-Loop.is c.get-in-Loop.ensures refl) c.list_loop.ensures.over
+
+pub list-returns-in-Test-clause-offers : goal.list-returns-in-Test-clause-offers
+list-returns-in-Test-clause-offers t c =
+    done-as (λ p. lists p c.args.finder.now) _ _ _ c.list_tested.result (test-seen c.args.proc.now _ c.get-in-Test.result.now _ _ c.in-Test.is c.get-in-Test.ensures refl) c.list_tested.ensures.offers
+
+pub list-returns-in-Test-clause-over : goal.list-returns-in-Test-clause-over
+list-returns-in-Test-clause-over t c =
+    told-as (λ p. (listed p).over) _ _ c.list_tested.result (test-seen c.args.proc.now _ c.get-in-Test.result.now _ _ c.in-Test.is c.get-in-Test.ensures refl) c.list_tested.ensures.over
+
+pub list-returns-in-Arms-clause-offers : goal.list-returns-in-Arms-clause-offers
+list-returns-in-Arms-clause-offers t c =
+    done-as (λ p. lists p c.args.finder.now) _ _ _ c.list_gate.result (arms-seen c.args.proc.now _ c.get-in-Arms.result.now _ _ c.in-Arms.is c.get-in-Arms.ensures refl) c.list_gate.ensures.offers
+
+pub list-returns-in-Arms-clause-over : goal.list-returns-in-Arms-clause-over
+list-returns-in-Arms-clause-over t c =
+    told-as (λ p. (listed p).over) _ _ c.list_gate.result (arms-seen c.args.proc.now _ c.get-in-Arms.result.now _ _ c.in-Arms.is c.get-in-Arms.ensures refl) c.list_gate.ensures.over
+
+pub list-returns-in-Sequence-clause-offers : goal.list-returns-in-Sequence-clause-offers
+list-returns-in-Sequence-clause-offers t c =
+    done-as (λ p. lists p c.args.finder.now) _ _ _ c.list_sequence.result (sequence-seen c.args.proc.now _ c.get-in-Sequence.result.now _ c.as_slice.result.now c.in-Sequence.is c.get-in-Sequence.ensures c.as_slice.ensures.value) c.list_sequence.ensures.offers
+
+pub list-returns-in-Sequence-clause-over : goal.list-returns-in-Sequence-clause-over
+list-returns-in-Sequence-clause-over t c =
+    told-as (λ p. (listed p).over) _ _ c.list_sequence.result (sequence-seen c.args.proc.now _ c.get-in-Sequence.result.now _ c.as_slice.result.now c.in-Sequence.is c.get-in-Sequence.ensures c.as_slice.ensures.value) c.list_sequence.ensures.over
+
+pub list-returns-in-Parallel-clause-offers : goal.list-returns-in-Parallel-clause-offers
+list-returns-in-Parallel-clause-offers t c =
+    done-as (λ p. lists p c.args.finder.now) _ _ _ c.list_parallel.result (parallel-seen c.args.proc.now _ c.as_slice-in-Parallel.result.now c.in-Parallel.is c.as_slice-in-Parallel.ensures.value) c.list_parallel.ensures.offers
+
+pub list-returns-in-Parallel-clause-over : goal.list-returns-in-Parallel-clause-over
+list-returns-in-Parallel-clause-over t c =
+    told-as (λ p. (listed p).over) _ _ c.list_parallel.result (parallel-seen c.args.proc.now _ c.as_slice-in-Parallel.result.now c.in-Parallel.is c.as_slice-in-Parallel.ensures.value) c.list_parallel.ensures.over
+
+pub list_loop-returns-in-Turn-clause-offers : goal.list_loop-returns-in-Turn-clause-offers
+list_loop-returns-in-Turn-clause-offers t c =
+    done-as (λ p. lists p c.args.finder.now) _ _ _ c.list_turn.result (turn-seen (repeat_view c.args.repeat.now).0 (repeat_view c.args.repeat.now).1 c.args.turns.now _ _ _ c.deref.result.now c.in-Turn.is c.deref.ensures) c.list_turn.ensures.offers
+
+pub list_loop-returns-in-Turn-clause-over : goal.list_loop-returns-in-Turn-clause-over
+list_loop-returns-in-Turn-clause-over t c =
+    told-as (λ p. (listed p).over) _ _ c.list_turn.result (turn-seen (repeat_view c.args.repeat.now).0 (repeat_view c.args.repeat.now).1 c.args.turns.now _ _ _ c.deref.result.now c.in-Turn.is c.deref.ensures) c.list_turn.ensures.over
+
+pub list_gate-returns-in-Opened-clause-offers : goal.list_gate-returns-in-Opened-clause-offers
+list_gate-returns-in-Opened-clause-offers t c =
+    done-as (λ p. lists p c.args.finder.now) _ _ _ c.list_opened.result (opened-seen (await_view c.args.waiting.now).0 (await_view c.args.waiting.now).1 c.args.gate.now _ _ _ _ c.deref.result.now c.in-Opened.is c.deref.ensures) (c.list_opened.ensures.offers (await_view c.args.waiting.now).0 (await_view c.args.waiting.now).1)
