@@ -109,8 +109,32 @@ impl Address {
     pub fn equals(&self, other: &Address) -> bool
         ensures { IsTrue result ↔ (self.now ≡ other.now) }
     {
-        self.entries() == other.entries()
+        are_same(self.entries(), other.entries())
     }
+}
+
+/// Whether both are the same entries. Places that differ do so near their ends mostly, so it looks from there on.
+fn are_same(one: &[Entry], other: &[Entry]) -> bool
+    ensures { IsTrue result ↔ (one.now ≡ other.now) }
+{
+    if one.len() != other.len() {
+        return false;
+    }
+    let mut index = one.len();
+    while index > 0 {
+        index -= 1;
+        if !is_entry(one[index], other[index]) {
+            return false;
+        }
+    }
+    true
+}
+
+/// Whether both are the same entry.
+fn is_entry(one: Entry, other: Entry) -> bool
+    ensures { IsTrue result ↔ (one ≡ other) }
+{
+    one == other
 }
 
 impl PartialEq for Address {

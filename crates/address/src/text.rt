@@ -6,6 +6,7 @@ ghost use Rattle.address.specs.Reading.{HasNoText, IsTextOf};
 ghost use Rattle.address.specs.internal.Entries.{IsDigitsEnd, ReadsEntry, ReadsNumber, BeginsNoEntry, ReadsNoNumber};
 
 use crate::{Address, Entry};
+use smallvec::SmallVec;
 use std::alloc::{AllocError, Global};
 use std::fmt;
 
@@ -36,7 +37,8 @@ impl fmt::Display for Address {
 pub fn read(alloc: Global, text: &[u8]) -> Result<Option<Address>, AllocError>
     ensures { IfOk result (λ r. MatchOption r (HasNoText text.now) (λ a. IsTextOf a text.now)) }
 {
-    let mut entries = Vec::new(alloc);
+    // Each entry has two bytes at least.
+    let mut entries = SmallVec::with_capacity(alloc, text.len() / 2)?;
     let mut rest = text;
     while !rest.is_empty() {
         let Some((entry, after)) = read_entry(rest) else {
@@ -45,7 +47,7 @@ pub fn read(alloc: Global, text: &[u8]) -> Result<Option<Address>, AllocError>
         entries.push(entry)?;
         rest = after;
     }
-    Ok(Some(Address::from_vec(entries)))
+    Ok(Some(Address { entries }))
 }
 
 /// The entry at the start of the text, and what follows it; `None` where the text does not begin with `.` or `/` and a
