@@ -6,7 +6,7 @@ use Rattle.elaborate.specs.Calls.{Entered, Expansion, called, missing, copies_of
 use Rattle.elaborate.specs.Copies.{copied, all_copied, variables_among, channels_among}
 use Rattle.elaborate.specs.Naming.{Names, channel_at, channels_of, number_at}
 use Rattle.elaborate.specs.SameShape as same
-use Rattle.elaborate.specs.SameShape.{Standing, SameCommand, MeansVariable, MeansChannel, MeanChannels, IsVariable, IsChannel}
+use Rattle.elaborate.specs.SameShape.{Standing, SameCommand, MeansVariable, MeansChannel, MeanChannels, HasLocals, IsVariable, IsChannel}
 use Rattle.elaborate.proofs.KeptNames.{local_variable, local_channel, copy_got}
 use Rattle.elaborate.proofs.KeptShape.{Matches, same_channels, command_kept}
 use Rattle.system.specs.Named.{prefix_of_call}
@@ -68,7 +68,7 @@ module _ (system : System) (total : List Local) (variables : system.variables �
   -- what becomes of the procedure, over these before it, is it, wherever it is entered
   abbrev pub IsShown : List Procedure → Procedure → Expansion → Type 0
   IsShown earlier p e = (entered : Entered) (more : List Local) → entered.before ++ (e.copies entered.prefix ++ more) ≡ total
-      → SameCommand system (standing earlier p entered) 0 p.body (0 + length (part_of p.body).calls) (e.body entered)
+      → HasLocals system (standing earlier p entered) × SameCommand system (standing earlier p entered) 0 p.body (0 + length (part_of p.body).calls) (e.body entered)
 
   -- so it is with each of these procedures
   pub record At (earlier : List Procedure) (es : List Expansion) (k : ℕ) : Type 0 where
@@ -102,7 +102,8 @@ module _ (system : System) (total : List Local) (variables : system.variables �
             → SameCommand system at passed (call_on line c) (passed + 1) ((called es c.procedure).body (inner passed before c))
         by (Some q) is =
             same.called at line passed c.procedure (0 + length (part_of q.body).calls) c.arguments q (channels_of names c.arguments)
-            ((called es c.procedure).body (inner passed before c)) is mean ((are c.procedure).there q is (inner passed before c) more whole)
+            ((called es c.procedure).body (inner passed before c)) is mean
+            ((are c.procedure).there q is (inner passed before c) more whole).0 ((are c.procedure).there q is (inner passed before c) more whole).1
         by None is =
             subst (λ (e : Expansion). SameCommand system at passed (call_on line c) (passed + 1) (e.body (inner passed before c)))
             (sym ((are c.procedure).nowhere is)) (same.missing at line passed c.procedure c.arguments is)
@@ -141,16 +142,19 @@ module _ (system : System) (total : List Local) (variables : system.variables �
           )
 
     procedure_shown : (more : List Local) → entered.before ++ ((expansion_of es p).copies entered.prefix ++ more) ≡ total
-        → SameCommand system at 0 p.body (0 + length (part_of p.body).calls) ((expansion_of es p).body entered)
+        → HasLocals system at × SameCommand system at 0 p.body (0 + length (part_of p.body).calls) ((expansion_of es p).body entered)
     procedure_shown more all =
         let cs = (part_of p.body).calls in
         let copies = copies_of_calls es entered.prefix 0 cs in
         let whole : entered.before ++ (own ++ (copies ++ more)) ≡ total =
         ap (λ (ls : List Local). entered.before ++ ls) (sym (append_assoc own copies more)) ∙ all in
         let behind : (entered.before ++ own) ++ (copies ++ more) ≡ total = append_assoc entered.before own (copies ++ more) ∙ whole in
-        command_kept system at names (means_variables (copies ++ more) whole) (means_channels (copies ++ more) whole) p.body 0
-        (bodies_of_calls es names entered.prefix (entered.before ++ own) 0 cs)
-        (calls_match (copies ++ more) whole 0 (entered.before ++ own) more cs behind)
+        let meant = means_variables (copies ++ more) whole in
+        let channelled = means_channels (copies ++ more) whole in (
+          λ place. (number_at names.locals place, meant place, channelled (binding.Local place)),
+          command_kept system at names meant channelled p.body 0 (bodies_of_calls es names entered.prefix (entered.before ++ own) 0 cs)
+              (calls_match (copies ++ more) whole 0 (entered.before ++ own) more cs behind),
+        )
 
   -- ---- all procedures
 

@@ -6,7 +6,7 @@ use Rattle.elaborate.specs.Calls.{Expansion, expansion_of, expansions}
 use Rattle.elaborate.specs.Copies.{numbers_behind}
 use Rattle.elaborate.specs.Elaboration.{root_ports, port_channels, root_copies, root_entered, main_of, system_of}
 use Rattle.elaborate.specs.Laws.{KeepsItsShape}
-use Rattle.elaborate.specs.SameShape.{Standing, SameCommand, IsPort, numbers_from}
+use Rattle.elaborate.specs.SameShape.{Standing, SameCommand, HasLocals, IsPort, numbers_from}
 use Rattle.elaborate.proofs.KeptNames.{port_channel, ports_numbered}
 use Rattle.elaborate.proofs.KeptCalls.{root_shown}
 use Rattle.elaborate.proofs.RootLemmas.{root_is, root_ports_are}
@@ -35,18 +35,21 @@ module _ (earlier : List Procedure) (p : Procedure) (entries : List Entry) where
   numbered : numbers_behind [] (port_channels ps) ≡ numbers_from 0 p.ports
   numbered = ports_numbered [] 0 (root_ports ps) refl ∙ ap (numbers_from 0) (root_ports_are earlier p)
 
-  root_kept : (calls : ℕ) × SameCommand system (standing (numbers_from 0 p.ports)) 0 p.body calls (main_of ps)
+  -- it has its locals, and its body stands there
+  abbrev Shown : List ℕ → Type 0
+  Shown ports = HasLocals system (standing ports) × ((calls : ℕ) × SameCommand system (standing ports) 0 p.body calls (main_of ps))
+
+  root_kept : Shown (numbers_from 0 p.ports)
   root_kept =
       let e = expansion_of (expansions earlier) p in
       let whole : port_channels ps ++ (e.copies [] ++ []) ≡ port_channels ps ++ root_copies ps =
       ap (λ (ls : List Local). port_channels ps ++ ls) (append-nil (e.copies []) ∙ sym (ap (λ (f : Expansion). f.copies []) (root_is earlier p))) in
       let calls = 0 + length (part_of p.body).calls in
-      let shown = root_shown system (port_channels ps ++ root_copies ps) refl refl earlier p (root_entered ps) [] whole in (
-        calls,
-        subst (λ (ports : List ℕ). SameCommand system (standing ports) 0 p.body calls (main_of ps)) numbered
-            (subst (λ (t : tree_command.Command). SameCommand system (standing (numbers_behind [] (port_channels ps))) 0 p.body calls t)
-            (sym (ap (λ (f : Expansion). f.body (root_entered ps)) (root_is earlier p))) shown),
-      )
+      let shown = root_shown system (port_channels ps ++ root_copies ps) refl refl earlier p (root_entered ps) [] whole in
+      let main : SameCommand system (standing (numbers_behind [] (port_channels ps))) 0 p.body calls (main_of ps) =
+      subst (λ (t : tree_command.Command). SameCommand system (standing (numbers_behind [] (port_channels ps))) 0 p.body calls t)
+      (sym (ap (λ (f : Expansion). f.body (root_entered ps)) (root_is earlier p))) shown.1 in
+      subst Shown numbered (shown.0, (calls, main))
 
 pub shape_kept : KeepsItsShape
-shape_kept earlier p entries = (ports_kept earlier p entries, root_kept earlier p entries)
+shape_kept earlier p entries = (ports_kept earlier p entries, (root_kept earlier p entries).0, (root_kept earlier p entries).1)

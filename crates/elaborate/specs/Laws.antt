@@ -6,7 +6,7 @@ use Rattle.elaborate.specs.Elaboration.{root_ports, port_channels, root_copies, 
 use Rattle.elaborate.specs.Environment.{branch_on}
 use Rattle.elaborate.specs.Fit.{entry_named}
 use Rattle.elaborate.specs.Places.{places_of}
-use Rattle.elaborate.specs.SameShape.{SameCommand, IsPort, numbers_from}
+use Rattle.elaborate.specs.SameShape.{Standing, SameCommand, HasLocals, IsPort, numbers_from}
 use Rattle.elaborate.specs.Size.{system_size}
 use Rattle.elaborate.specs.SourcePlaces.{root_places}
 use Rattle.elaborate.specs.SourceSize.{source_size}
@@ -63,15 +63,14 @@ WithoutCallsIsItself = (earlier : List Procedure) (p : Procedure) → (part_of p
 
 -- What the system of a description is, by cases: its main part is the body of the root, each command one of the same
 -- form on the same line, each name the number of the variable or channel that it stands for, and each call the body of
--- its procedure. The channels of the root's ports are the first ones, in order.
+-- its procedure over locals of its own. The channels of the root's ports are the first ones, in order.
 abbrev pub KeepsItsShape : Type 0
 KeepsItsShape = (earlier : List Procedure) (p : Procedure) (entries : List Entry) →
     let system = system_of (earlier ++ p ∷ []) entries in
+    let root : Standing = record { earlier = earlier; procedure = p; prefix = []; ports = numbers_from 0 p.ports } in
     ((place : ℕ) (q : Port) → slice_get p.ports place ≡ Some q →
     IsPort q.name q.declared q.kind (slice_get system.channels place))
-    × ((calls : ℕ)
-    × SameCommand system (record { earlier = earlier; procedure = p; prefix = []; ports = numbers_from 0 p.ports })
-    0 p.body calls system.main)
+    × HasLocals system root × ((calls : ℕ) × SameCommand system root 0 p.body calls system.main)
 
 -- A call adds no entry to a place: the places of the commands of a system are those of its source where the body of a
 -- procedure stands at the place of its call.

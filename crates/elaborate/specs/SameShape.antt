@@ -54,6 +54,15 @@ pub record Standing : Type 0 where
   pub prefix : Text
   pub ports : List ℕ
 
+-- in the call behind so many others of a body that stands so, of the procedure of this number
+abbrev pub in_call : Standing → ℕ → ℕ → Procedure → List ℕ → Standing
+in_call at passed p procedure ports = record {
+  earlier = take p at.earlier;
+  procedure = procedure;
+  prefix = prefix_of_call at.prefix (passed + 1);
+  ports = ports;
+}
+
 -- the channels of the ports of a root: they are numbered as the ports are
 abbrev pub numbers_from : ℕ → List Port → List ℕ
 numbers_from n [] = []
@@ -118,6 +127,11 @@ module _ (system : System) where
       (l : Local) → slice_get at.procedure.locals place ≡ Some l →
       IsChannel (at.prefix ++ l.name) l.declared l.kind (slice_get system.channels number)
 
+  -- each local has a number, that of the variable or channel which it is
+  abbrev pub HasLocals : Standing → Type 0
+  HasLocals at =
+      (place : ℕ) → (number : ℕ) × MeansVariable at place number × MeansChannel at (binding.Local place) number
+
   -- these are the channels of the arguments, in order
   abbrev pub MeanChannels : Standing → List ChannelUse → List ℕ → Type 0
   MeanChannels at [] [] = Unit {0}
@@ -155,19 +169,13 @@ module _ (system : System) where
       -- the same command, on the same line
       on_line : (at : Standing) (line m n : ℕ) (a : Action) (b : tree.Action) → SameAction at m a n b →
           SameCommand at m (roll-Command (record { line = line; action = a })) n (record { line = line; action = b })
-      -- the next call of the body: the body of its procedure stands there, with the call's number before its names
-      -- and the channels of the arguments for its ports
+      -- the next call of the body: the body of its procedure stands there, over locals of its own with the call's number
+      -- before their names, and with the channels of the arguments for its ports
       called : (at : Standing) (line m p n : ℕ) (arguments : List ChannelUse) (procedure : Procedure) (ports : List ℕ)
           (body : tree_command.Command) →
           slice_get at.earlier p ≡ Some procedure → MeanChannels at arguments ports →
-          SameCommand
-          (record {
-            earlier = take p at.earlier;
-            procedure = procedure;
-            prefix = prefix_of_call at.prefix (m + 1);
-            ports = ports;
-          })
-          0 procedure.body n body →
+          HasLocals (in_call at m p procedure ports) →
+          SameCommand (in_call at m p procedure ports) 0 procedure.body n body →
           SameCommand at m (roll-Command (record { line = line; action = roll-Action (Action-F.Call p arguments) }))
           (m + 1) body
       -- a procedure that is not there does nothing (a typed description calls none)
