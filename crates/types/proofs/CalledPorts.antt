@@ -1,10 +1,10 @@
 -- The procedure that a call names stands before, and its ports are those that the call is held against.
-use Rattle.std.proofs.Common.{◌≡◌, ◌⊎◌, inl, inr, ℕ, List, [], ◌∷◌, ◌++◌, length, map, flat_map, true, false, Bool, Option, Some, None, is_some, nat_eq, slice_get, if◌then◌else◌, Ok, refl, ap, sym, subst, ◌∙◌, append_assoc, append-nil}
+use Rattle.std.proofs.Common.{◌≡◌, ℕ, List, [], ◌∷◌, ◌++◌, length, map, flat_map, true, false, Bool, Option, Some, None, is_some, nat_eq, slice_get, if◌then◌else◌, Ok, refl, ap, sym, subst, ◌∙◌, append_assoc, append-nil}
 use Rattle.std.proofs.lemmas.List.{map-append}
 use Rattle.std.specs.Option.{option_or}
 use Rattle.std.specs.Cmp.Lexicographic.{pointwise, bytes_decides}
 use Rattle.types.specs.Commands.{Scope}
-use Rattle.types.specs.Declarations.{demanded, type_width_or_one, width_or_one, port_kind, local_kind, one_port, one_local, port_type, SoFar, with_name, with_elements, with_definition, with_types, enumeration_width, Declared, with_one, with_ports, with_locals, all_ports, all_locals, behind, ports_of, locals_of, scope_inside, judged_procedure, after_procedure, with_procedures, types_of, judged_description, found_description}
+use Rattle.types.specs.Declarations.{demanded, type_width_or_one, width_or_one, port_kind, local_kind, one_port, one_local, port_type, SoFar, Declared, with_one, with_ports, with_locals, all_ports, all_locals, behind, ports_of, scope_inside, judged_procedure, after_procedure, with_procedures, types_of, judged_description, found_description}
 use Rattle.types.specs.Expressions.{declared_width, type_width}
 use Rattle.types.specs.Findings.{Verdict, Findings, with_next, every}
 use Rattle.types.specs.Fits.{ports_in_order}
@@ -31,7 +31,7 @@ use Rattle.syntax.specs.declared.declaration.TypeDeclaration.{TypeDeclaration}
 use Rattle.syntax.specs.declared.expression.TypeName.{TypeName}
 use Rattle.syntax.specs.declared.expression.TypeName.TheVariants.{Named, Bits}
 use Rattle.syntax.specs.declared.name.Identifier.{Identifier}
-use Rattle.types.proofs.Behind.{Mean, types_mean, type_alike}
+use Rattle.types.proofs.Behind.{types_mean, type_alike}
 use Rattle.types.proofs.DeclaredOnce.{both-ok, demanded-ok, InAccepted, Inner, inner-none, inner-twice, all_ports_inner, all_locals_inner, ports_inner, types_tie, sound, Judged, next_judged, ties-name, type_at}
 use Rattle.types.proofs.ExpressionWays.{type_found, type_once}
 use Rattle.types.proofs.LeavingOut.{slice_get-append, slice_get-last}

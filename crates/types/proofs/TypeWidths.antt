@@ -1,10 +1,10 @@
 -- Each type of a port or local has one width.
-use Rattle.std.proofs.Common.{◌≡◌, inl, ℕ, List, [], ◌∷◌, ◌++◌, map, flat_map, Ok, refl, sym, subst}
+use Rattle.std.proofs.Common.{◌≡◌, inl, ℕ, List, [], ◌∷◌, map, flat_map, Ok, refl, sym, subst}
 use Rattle.types.specs.Declarations.{demanded, port_type, local_type, scope_inside}
 use Rattle.types.specs.Expressions.{declared_width, type_width}
 use Rattle.types.specs.Findings.{every}
 use Rattle.types.specs.Names.{VisibleNames}
-use Rattle.types.specs.Visible.{Declaration, type_widths, outside}
+use Rattle.types.specs.Visible.{Declaration, type_widths}
 use Rattle.types.specs.Widths.{TypeHasThisAlone, type_of_port, type_of_local, types_written, TypesHaveOneWidth}
 use Rattle.syntax.specs.Lists.{In, Every}
 use Rattle.syntax.specs.declared.declaration.Description.{Description}
