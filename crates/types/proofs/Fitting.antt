@@ -1,18 +1,19 @@
 -- What a right command demands of widths is met.
-use Rattle.std.proofs.Common.{◌≡◌, inl, inr, ℕ, ◌≤◌, List, [], ◌∷◌, ◌++◌, map, flat_map, true, false, Bool, ◌&&◌, not, nat_eq, nat_le, Option, Some, None, if◌then◌else◌, Result, Ok, Err, IfOk, refl, ap, sym, subst, ◌∙◌, append_assoc, append-nil, eqb-true, leb-true}
+use Rattle.std.proofs.Common.{◌≡◌, inl, inr, ℕ, ◌≤◌, List, [], ◌∷◌, ◌++◌, map, flat_map, true, false, Bool, ◌&&◌, not, nat_eq, nat_le, Option, Some, None, if◌then◌else◌, Result, Ok, Err, IfOk, refl, ap, sym, subst, ◌∙◌, append_assoc, append-nil, eqb-true, leb-true, slice_get, is_ok}
+use Rattle.std.proofs.lemmas.Bool.{false≢true}
 use Rattle.std.specs.Cmp.Lexicographic.{bytes_decides}
-use Rattle.std.specs.List.{list_any}
+use Rattle.std.specs.List.{list_all, list_any}
 use Rattle.types.specs.Arms as arms
-use Rattle.types.specs.Arms.{GuardedArm, LabelledArm, guarded, conditional, labelled, cased, arm_of, distinct, label_value, judged_label, judged_labels, new_label, new_labels, with_seen}
-use Rattle.types.specs.Calls.{called}
+use Rattle.types.specs.Arms.{GuardedArm, LabelledArm, guarded, conditional, labelled, cased, arm_of, distinct, label_value, judged_label, judged_labels, new_label, new_labels, with_seen, new_channels}
+use Rattle.types.specs.Calls.{is_fit, fits_input, fits_output, fits_sync, fits_port, all_fit, call_fits, called, judged_arguments}
 use Rattle.types.specs.Commands.{Scope, Judged, start_of, command_of, value, action_layer, arm_layer, case_arm_layer, command_layer, guarded_layer, each, judged_command, assignment, sending, receiving, guarded_loop, enclosing, target, sender, receiver, opened_by, channel_alone}
 use Rattle.types.specs.Declarations.{scope_inside}
 use Rattle.types.specs.Expressions.{judged_expression}
 use Rattle.types.specs.Findings.{Verdict, Findings, becomes, if_right, both, and, with_next, with_all, and_all, demands, one_fault, every}
 use Rattle.types.specs.Names.{VisibleNames, look_up, find, found_as, found_for, channel_of, is_among}
 use Rattle.types.specs.Parts.{Name, names_of_expression}
-use Rattle.types.specs.Uses.{target_use, sending_use, receiving_use, label_use, arm_use}
-use Rattle.types.specs.Visible.{Declaration, of_all, widths_of}
+use Rattle.types.specs.Uses.{target_use, sending_use, receiving_use, label_use, arm_use, procedure_use}
+use Rattle.types.specs.Visible.{Declaration, of_all, widths_of, outside}
 use Rattle.types.specs.internal.CommandParts.{judged_action, judged_guarded, judged_labelled, judged_arm}
 use Rattle.types.specs.declared.arms.LabelUse.{LabelUse}
 use Rattle.types.specs.declared.expression.Valued.{Valued}
@@ -30,6 +31,8 @@ use Rattle.typed.specs.declared.tree.Binding.{Binding}
 use Rattle.typed.specs.declared.tree.Binding.TheVariants as binding
 use Rattle.typed.specs.declared.tree.ChannelUse.{ChannelUse}
 use Rattle.typed.specs.declared.tree.Command as typed_command
+use Rattle.typed.specs.declared.tree.PortKind as port_kind
+use Rattle.typed.specs.declared.tree.PortKind.TheVariants as port
 use Rattle.typed.specs.declared.tree.VariableUse.{VariableUse}
 use Rattle.syntax.specs.Lists.{In, Every}
 use Rattle.syntax.specs.declared.command.Action.{Action}
@@ -43,18 +46,23 @@ use Rattle.syntax.specs.declared.command.LabelValue.TheVariants as label
 use Rattle.syntax.specs.declared.command.Action.TheFolds.{map-Action, fold-Action, fold-Arm, fold-CaseArm, fold-Guarded, fold-roll-Action, fold-roll-Arm, fold-roll-CaseArm, fold-roll-Command, fold-roll-Guarded, ind-Command}
 use Rattle.syntax.specs.declared.command.Action.TheOpen.{Action-F, Arm-F}
 use Rattle.syntax.specs.declared.command.Action.TheViews.{roll-Action, roll-Arm, roll-CaseArm, roll-Command, roll-Guarded}
+use Rattle.syntax.specs.declared.declaration.PortKind as tree_port_kind
+use Rattle.syntax.specs.declared.declaration.PortKind.TheVariants as port_of
+use Rattle.syntax.specs.declared.declaration.Procedure.{Procedure}
+use Rattle.syntax.specs.declared.declaration.TypeDeclaration.{TypeDeclaration}
 use Rattle.syntax.specs.declared.expression.Expr.{Expr}
 use Rattle.syntax.specs.declared.name.Identifier.{Identifier}
-use Rattle.types.proofs.DeclaredOnce.{in_accepted}
+use Rattle.types.proofs.CalledPorts.{SameKind, Known, knows, known_inside}
 use Rattle.types.proofs.Lookups.{Once, shown, value_ways, lone_answers, every-append, every-front, every-back}
 use Rattle.types.proofs.ExpressionWays.{expression_once}
 use Rattle.types.proofs.Least.{With}
 use Rattle.types.proofs.PartsFound.{open_action}
 use Rattle.types.proofs.StaysRight.{Pairs, pairs-next}
+use Rattle.types.proofs.TypeWidths.{type_has}
 use Rattle.types.proofs.TypingLaws.{right_by, is_sound, all_visible}
 use Rattle.types.proofs.WidthRules.{in_single, answering, alone_by_rules}
 use Rattle.types.specs.Widths.{HasThisAlone, NameHasThisAlone}
-use Rattle.types.specs.Fits.{Demand, one_bit, has_room, is_received, may_match, demands_of_each, InArm, demands_of_labels, demands_of_action, demands_of_arm, demands_of_case_arm, demands_of_layer, demands_of_guarded, demands_of_command, LabelHasThisAlone, IsMet, DemandsAreMet}
+use Rattle.types.specs.Fits.{Demand, one_bit, has_room, is_received, may_match, demands_of_each, InArm, demands_of_labels, demands_of_action, demands_of_arm, demands_of_case_arm, demands_of_layer, demands_of_guarded, demands_of_command, LabelHasThisAlone, IsMet, DemandsAreMet, takes, PassesNone, PortTakes, PortsTake, ports_in_order}
 
 -- ---- what holds of what is right
 
@@ -195,12 +203,12 @@ module _ (opened : List Binding) (offset : ℕ) where
 
 -- ---- a scope in which each name is declared once
 
-module _ (scope : Scope) (once : Once scope.names) where
+module _ (scope : Scope) (once : Once scope.names) (types : List TypeDeclaration) (before : List Procedure) (known : Known types before scope) where
   abbrev visible : List Declaration
   visible = map shown scope.names
 
   abbrev Met : List Demand → Type 0
-  Met = Every (IsMet visible)
+  Met = Every (IsMet types before visible)
 
   target_width : (x : Identifier) (opened : List Binding) → IfOk (one_fault (target x scope opened)) (λ r. NameHasThisAlone visible x.name r.1)
   unfolding target_use
@@ -279,7 +287,7 @@ module _ (scope : Scope) (once : Once scope.names) where
   each_met f [] [] ps = tt
   each_met f [] (m ∷ made) ps = absurd ps
   each_met f (x ∷ xs) [] ps = absurd ps
-  each_met f (x ∷ xs) (m ∷ made) ps = every-append (IsMet visible) (f x) (demands_of_each (map f xs)) ps.0 (each_met f xs made ps.1)
+  each_met f (x ∷ xs) (m ∷ made) ps = every-append (IsMet types before visible) (f x) (demands_of_each (map f xs)) ps.0 (each_met f xs made ps.1)
 
   -- ---- the labels against the subject
 
@@ -327,10 +335,125 @@ module _ (scope : Scope) (once : Once scope.names) where
   arms_labels f subject width has (x ∷ xs) (m ∷ made) ps fit =
       let Few = λ (u : LabelUse). u.value.width ≤ width in
       let rest = flat_map (λ (a : LabelledArm). a.labels) made in
-      every-append (IsMet visible) (map (λ l. may_match l subject) (f x).0 ++ (f x).1) (demands_of_labels subject (map f xs))
-      (every-append (IsMet visible) (map (λ l. may_match l subject) (f x).0) (f x).1
+      every-append (IsMet types before visible) (map (λ l. may_match l subject) (f x).0 ++ (f x).1) (demands_of_labels subject (map f xs))
+      (every-append (IsMet types before visible) (map (λ l. may_match l subject) (f x).0) (f x).1
       (arm_labels subject width has (f x).0 m.labels ps.0.0 (every-front Few m.labels rest fit)) ps.0.1)
       (arms_labels f subject width has xs made ps.1 (every-back Few m.labels rest fit))
+
+  -- ---- calls against the ports
+
+  port_named : (m : Meaning) (w : ℕ) → fits_input w m ≡ true → value_ways m ≡ w ∷ []
+  port_named (meaning.Input p v) w e = ap (λ z. z ∷ []) (sym (eqb-true w v e))
+  port_named (meaning.Channel l v) w e = ap (λ z. z ∷ []) (sym (eqb-true w v e))
+  port_named (meaning.TypeName v) w e = absurd (false≢true e)
+  port_named (meaning.Element v) w e = absurd (false≢true e)
+  port_named (meaning.Procedure p) w e = absurd (false≢true e)
+  port_named (meaning.Output p v) w e = absurd (false≢true e)
+  port_named (meaning.SyncPort p) w e = absurd (false≢true e)
+  port_named (meaning.Variable l v) w e = absurd (false≢true e)
+  port_named (meaning.Sync l) w e = absurd (false≢true e)
+
+  output_named : (m : Meaning) (w : ℕ) → fits_output w m ≡ true → value_ways m ≡ w ∷ []
+  output_named (meaning.Output p v) w e = ap (λ z. z ∷ []) (sym (eqb-true w v e))
+  output_named (meaning.Channel l v) w e = ap (λ z. z ∷ []) (sym (eqb-true w v e))
+  output_named (meaning.TypeName v) w e = absurd (false≢true e)
+  output_named (meaning.Element v) w e = absurd (false≢true e)
+  output_named (meaning.Procedure p) w e = absurd (false≢true e)
+  output_named (meaning.Input p v) w e = absurd (false≢true e)
+  output_named (meaning.SyncPort p) w e = absurd (false≢true e)
+  output_named (meaning.Variable l v) w e = absurd (false≢true e)
+  output_named (meaning.Sync l) w e = absurd (false≢true e)
+
+  sync_named : (m : Meaning) → fits_sync m ≡ true → value_ways m ≡ []
+  sync_named (meaning.SyncPort p) e = refl
+  sync_named (meaning.Sync l) e = refl
+  sync_named (meaning.TypeName v) e = absurd (false≢true e)
+  sync_named (meaning.Element v) e = absurd (false≢true e)
+  sync_named (meaning.Procedure p) e = absurd (false≢true e)
+  sync_named (meaning.Input p v) e = absurd (false≢true e)
+  sync_named (meaning.Output p v) e = absurd (false≢true e)
+  sync_named (meaning.Variable l v) e = absurd (false≢true e)
+  sync_named (meaning.Channel l v) e = absurd (false≢true e)
+
+  named_none : (n : Name) (m : Meaning) → look_up scope.names n ≡ Some m → value_ways m ≡ [] → PassesNone visible n
+  named_none n m is ways =
+      let l = once n m is in
+      let among : In (l.name, m) scope.names = subst (In (l.name, m)) (sym l.all) (in_middle (l.name, m) l.before l.behind) in
+      (shown (l.name, m), in_map shown (l.name, m) scope.names among, sym ((bytes_decides n l.name).0 l.same), ways)
+
+  port_takes : (ds : List Declaration) (kind : port_kind.PortKind) (written : tree_port_kind.PortKind) (n : Name) (m : Meaning) → SameKind ds kind written
+      → look_up scope.names n ≡ Some m → is_fit kind m ≡ true → PortTakes ds visible written n
+  port_takes ds (port.Input w) (port_of.Input type) n m same is e = (w, type_has ds type w same, named_width scope.names once n m w is (port_named m w e))
+  port_takes ds (port.Output w) (port_of.Output type) n m same is e = (w, type_has ds type w same, named_width scope.names once n m w is (output_named m w e))
+  port_takes ds port.Sync port_of.Sync n m same is e = named_none n m is (sync_named m e)
+  port_takes ds (port.Input w) (port_of.Output type) n m same is e = absurd same
+  port_takes ds (port.Input w) port_of.Sync n m same is e = absurd same
+  port_takes ds (port.Output w) (port_of.Input type) n m same is e = absurd same
+  port_takes ds (port.Output w) port_of.Sync n m same is e = absurd same
+  port_takes ds port.Sync (port_of.Input type) n m same is e = absurd same
+  port_takes ds port.Sync (port_of.Output type) n m same is e = absurd same
+
+  one_takes : (ds : List Declaration) (kind : port_kind.PortKind) (written : tree_port_kind.PortKind) (n : Name) → SameKind ds kind written
+      → fits_port kind (look_up scope.names n) ≡ true → PortTakes ds visible written n
+  one_takes ds kind written n same e = by (look_up scope.names n) refl
+    where
+      by : (o : Option Meaning) → look_up scope.names n ≡ o → PortTakes ds visible written n
+      by (Some m) is = port_takes ds kind written n m same is (sym (ap (fits_port kind) is) ∙ e)
+      by None is = absurd (false≢true (sym (ap (fits_port kind) is) ∙ e))
+
+  two_true : (a b : Bool) → (a && b) ≡ true → (a ≡ true) × (b ≡ true)
+  two_true true true e = (refl, refl)
+  two_true true false e = absurd (false≢true e)
+  two_true false b e = absurd (false≢true e)
+
+  ports_take : (ds : List Declaration) (kinds : List port_kind.PortKind) (written : List tree_port_kind.PortKind) (arguments : List Identifier)
+      → Pairs (SameKind ds) kinds written → all_fit scope.names kinds arguments ≡ true → PortsTake ds visible written (map (λ (a : Identifier). a.name) arguments)
+  ports_take ds [] [] [] ps e = tt
+  ports_take ds [] [] (a ∷ arguments) ps e = absurd (false≢true e)
+  ports_take ds [] (k ∷ written) arguments ps e = absurd ps
+  ports_take ds (kind ∷ kinds) [] arguments ps e = absurd ps
+  ports_take ds (kind ∷ kinds) (k ∷ written) [] ps e = absurd (false≢true e)
+  ports_take ds (kind ∷ kinds) (k ∷ written) (a ∷ arguments) ps e =
+      let h = two_true (fits_port kind (look_up scope.names a.name)) (all_fit scope.names kinds arguments) e in
+      (one_takes ds kind k a.name ps.0 h.0, ports_take ds kinds written arguments ps.1 h.1)
+
+  call_met : (n : Name) (i : ℕ) (arguments : List Identifier) (us : List ChannelUse) → look_up scope.names n ≡ Some (meaning.Procedure i)
+      → call_fits scope.names (slice_get scope.procedures i) arguments us ≡ true → IsMet types before visible (takes n (map (λ (a : Identifier). a.name) arguments))
+  call_met n i arguments us is e =
+      let s = known n i is in
+      let fits : call_fits scope.names (Some s.kinds) arguments us ≡ true = sym (ap (λ z. call_fits scope.names z arguments us) s.at) ∙ e in
+      let h = two_true (all_fit scope.names s.kinds arguments) (list_all is_ok (new_channels [] us)) fits in
+      (s.first, s.procedure, s.rest, s.split, s.named, ports_take (outside types s.first) s.kinds (ports_in_order s.procedure) arguments s.same h.0)
+
+  -- a name that is used as a procedure means one
+  abbrev MeansIt : ℕ → Option Meaning → Found → Type 0
+  MeansIt offset o f = IfOk (one_fault (procedure_use f offset)) (λ i. o ≡ Some (meaning.Procedure i))
+
+  meant : (offset : ℕ) (opened : List Binding) (m : Meaning) → MeansIt offset (Some m) (found_as opened m (channel_of m))
+  unfolding procedure_use
+  meant offset opened (meaning.Procedure p) = refl
+  meant offset opened (meaning.Variable l w) = tt
+  meant offset opened (meaning.TypeName w) = tt
+  meant offset opened (meaning.Element v) = tt
+  meant offset opened (meaning.Input p w) =
+      either_found (MeansIt offset (Some (meaning.Input p w))) (is_among opened (binding.Port p)) (record { binding = binding.Port p; width = Some w }) (meaning.Input p w) tt tt
+  meant offset opened (meaning.Output p w) =
+      either_found (MeansIt offset (Some (meaning.Output p w))) (is_among opened (binding.Port p)) (record { binding = binding.Port p; width = Some w }) (meaning.Output p w) tt tt
+  meant offset opened (meaning.SyncPort p) =
+      either_found (MeansIt offset (Some (meaning.SyncPort p))) (is_among opened (binding.Port p)) (record { binding = binding.Port p; width = None }) (meaning.SyncPort p) tt tt
+  meant offset opened (meaning.Channel l w) =
+      either_found (MeansIt offset (Some (meaning.Channel l w))) (is_among opened (binding.Local l)) (record { binding = binding.Local l; width = Some w }) (meaning.Channel l w) tt tt
+  meant offset opened (meaning.Sync l) =
+      either_found (MeansIt offset (Some (meaning.Sync l))) (is_among opened (binding.Local l)) (record { binding = binding.Local l; width = None }) (meaning.Sync l) tt tt
+
+  procedure_means : (x : Identifier) (opened : List Binding)
+      → MeansIt x.span.start (look_up scope.names x.name) (find scope.names opened x.name)
+  unfolding find procedure_use
+  procedure_means x opened = by (look_up scope.names x.name) refl
+    where
+      by : (o : Option Meaning) → look_up scope.names x.name ≡ o → MeansIt x.span.start (look_up scope.names x.name) (found_for opened (look_up scope.names x.name))
+      by None is = subst (λ o. MeansIt x.span.start o (found_for opened o)) (sym is) tt
+      by (Some m) is = subst (λ o. MeansIt x.span.start o (found_for opened o)) (sym is) (meant x.span.start opened m)
 
 -- ---- commands
 
@@ -346,9 +469,9 @@ demands_in_case_arm = fold-CaseArm (List Demand) (List Demand) InArm (List Deman
 abbrev demands_in_guarded : Guarded → List Demand
 demands_in_guarded = fold-Guarded (List Demand) (List Demand) InArm (List Demand) (List Demand) demands_of_action demands_of_arm demands_of_case_arm demands_of_layer demands_of_guarded
 
-module _ (scope : Scope) (once : Once scope.names) where
+module _ (scope : Scope) (once : Once scope.names) (types : List TypeDeclaration) (before : List Procedure) (known : Known types before scope) where
   abbrev IsGood : List Demand → Type 0
-  IsGood = Met scope once
+  IsGood = Met scope once types before known
 
   abbrev ActionMet : Action → Type 0
   ActionMet x = (opened : List Binding) → IfOk (judged_action every x scope opened) (λ _. IsGood (demands_of_whole x))
@@ -357,7 +480,7 @@ module _ (scope : Scope) (once : Once scope.names) where
   OneArmMet x = (opened : List Binding) → IfOk (judged_arm every x scope opened) (λ _. IsGood (demands_in_arm x))
 
   abbrev LabelledMet : CaseArm → Type 0
-  LabelledMet x = (opened : List Binding) → IfOk (judged_labelled every x scope opened) (ArmMet scope once (demands_in_case_arm x))
+  LabelledMet x = (opened : List Binding) → IfOk (judged_labelled every x scope opened) (ArmMet scope once types before known (demands_in_case_arm x))
 
   abbrev CommandMet : Command → Type 0
   CommandMet x = (opened : List Binding) → IfOk (judged_command every x scope opened) (λ _. IsGood (demands_of_command x))
@@ -381,26 +504,26 @@ module _ (scope : Scope) (once : Once scope.names) where
   commands_met : (opened : List Binding) (ys : List (With CommandMet))
       → IfOk (each every (map (judged_command every) (map (λ y. y.0) ys)) scope opened) (λ _. IsGood (demands_of_each (map demands_of_command (map (λ y. y.0) ys))))
   commands_met opened ys =
-      ok-weaker (Pairs (λ x _. IsGood (demands_of_command x)) (map (λ y. y.0) ys)) _ _ (λ made ps. each_met scope once demands_of_command (map (λ y. y.0) ys) made ps)
-      (children_pairs scope once opened (judged_command every) CommandMet (λ x _. IsGood (demands_of_command x)) (λ x f. f opened) (Ok []) [] tt ys)
+      ok-weaker (Pairs (λ x _. IsGood (demands_of_command x)) (map (λ y. y.0) ys)) _ _ (λ made ps. each_met scope once types before known demands_of_command (map (λ y. y.0) ys) made ps)
+      (children_pairs scope once types before known opened (judged_command every) CommandMet (λ x _. IsGood (demands_of_command x)) (λ x f. f opened) (Ok []) [] tt ys)
 
   arms_met : (opened : List Binding) (ys : List (With OneArmMet))
       → IfOk (each every (map (judged_arm every) (map (λ y. y.0) ys)) scope opened) (λ _. IsGood (demands_of_each (map demands_in_arm (map (λ y. y.0) ys))))
   arms_met opened ys =
-      ok-weaker (Pairs (λ x _. IsGood (demands_in_arm x)) (map (λ y. y.0) ys)) _ _ (λ made ps. each_met scope once demands_in_arm (map (λ y. y.0) ys) made ps)
-      (children_pairs scope once opened (judged_arm every) OneArmMet (λ x _. IsGood (demands_in_arm x)) (λ x f. f opened) (Ok []) [] tt ys)
+      ok-weaker (Pairs (λ x _. IsGood (demands_in_arm x)) (map (λ y. y.0) ys)) _ _ (λ made ps. each_met scope once types before known demands_in_arm (map (λ y. y.0) ys) made ps)
+      (children_pairs scope once types before known opened (judged_arm every) OneArmMet (λ x _. IsGood (demands_in_arm x)) (λ x f. f opened) (Ok []) [] tt ys)
 
   case_arms_pair : (opened : List Binding) (ys : List (With LabelledMet))
-      → IfOk (each every (map (judged_labelled every) (map (λ y. y.0) ys)) scope opened) (Pairs (λ x made. ArmMet scope once (demands_in_case_arm x) made) (map (λ y. y.0) ys))
+      → IfOk (each every (map (judged_labelled every) (map (λ y. y.0) ys)) scope opened) (Pairs (λ x made. ArmMet scope once types before known (demands_in_case_arm x) made) (map (λ y. y.0) ys))
   case_arms_pair opened ys =
-      children_pairs scope once opened (judged_labelled every) LabelledMet (λ x made. ArmMet scope once (demands_in_case_arm x) made) (λ x f. f opened) (Ok []) [] tt ys
+      children_pairs scope once types before known opened (judged_labelled every) LabelledMet (λ x made. ArmMet scope once types before known (demands_in_case_arm x) made) (λ x f. f opened) (Ok []) [] tt ys
 
   abbrev GuardMet : Guarded → GuardedArm → Type 0
   GuardMet x made = (made.guard.width ≡ 1) → IsGood (demands_in_guarded x)
 
   if_arms_pair : (opened : List Binding) (ys : List (With GuardedMet))
       → IfOk (each every (map (judged_guarded every) (map (λ y. y.0) ys)) scope opened) (Pairs GuardMet (map (λ y. y.0) ys))
-  if_arms_pair opened ys = children_pairs scope once opened (judged_guarded every) GuardedMet GuardMet (λ x f. f opened) (Ok []) [] tt ys
+  if_arms_pair opened ys = children_pairs scope once types before known opened (judged_guarded every) GuardedMet GuardMet (λ x f. f opened) (Ok []) [] tt ys
 
   any : {A E : Type 0} (G : Type 0) (r : Result A E) → G → IfOk r (λ _. G)
   any G r g = ok-by (λ _. G) r (λ a is. g)
@@ -425,7 +548,7 @@ module _ (scope : Scope) (once : Once scope.names) where
   guards_met [] (m ∷ made) ps are = absurd ps
   guards_met (x ∷ xs) [] ps are = absurd ps
   guards_met (x ∷ xs) (m ∷ made) ps are =
-      every-append (IsMet (visible scope once)) (demands_in_guarded x) (demands_of_each (map demands_in_guarded xs)) (ps.0 (guard-ok m are.0)) (guards_met xs made ps.1 are.1)
+      every-append (IsMet types before (visible scope once types before known)) (demands_in_guarded x) (demands_of_each (map demands_in_guarded xs)) (ps.0 (guard-ok m are.0)) (guards_met xs made ps.1 are.1)
 
   conditional_met : (xs : List Guarded) (these : Findings every (List GuardedArm)) (last : Findings every (Option typed_command.Command)) (more : List Demand)
       → IfOk these (Pairs GuardMet xs) → IfOk last (λ _. IsGood more)
@@ -436,30 +559,30 @@ module _ (scope : Scope) (once : Once scope.names) where
       ok-if_right (λ (p : List GuardedArm × Option typed_command.Command). Pairs GuardMet xs p.0 × IsGood more) (λ _. G) (both every these last) _
       (λ p h. ok-becomes (λ _. G) (λ _. G) _ (demands every (map arms.one_bit p.0)) (λ a g. g)
       (ok-by (λ _. G) (demands every (map arms.one_bit p.0)) (λ a is.
-      every-append (IsMet (visible scope once)) (demands_of_each (map demands_in_guarded xs)) more
-      (guards_met xs p.0 h.0 (demands-ok scope once (Ok tt) (map arms.one_bit p.0) is).1) h.1)))
+      every-append (IsMet types before (visible scope once types before known)) (demands_of_each (map demands_in_guarded xs)) more
+      (guards_met xs p.0 h.0 (demands-ok scope once types before known (Ok tt) (map arms.one_bit p.0) is).1) h.1)))
       (ok-both (Pairs GuardMet xs) (λ _. IsGood more) these last ps good)
 
   -- ---- `case`
 
   cased_met : (subject : Expr) (xs : List CaseArm) (judged : Findings every Valued) (these : Findings every (List LabelledArm)) (last : Findings every (Option typed_command.Command))
-      (more : List Demand) → IfOk judged (λ v. HasThisAlone (visible scope once) subject v.width)
-      → IfOk these (Pairs (λ x made. ArmMet scope once (demands_in_case_arm x) made) xs) → IfOk last (λ _. IsGood more)
+      (more : List Demand) → IfOk judged (λ v. HasThisAlone (visible scope once types before known) subject v.width)
+      → IfOk these (Pairs (λ x made. ArmMet scope once types before known (demands_in_case_arm x) made) xs) → IfOk last (λ _. IsGood more)
       → IfOk (cased every judged these last) (λ _. IsGood (demands_of_labels subject (map demands_in_case_arm xs) ++ more))
   unfolding cased
   cased_met subject xs judged these last more wide ps good =
       let G = IsGood (demands_of_labels subject (map demands_in_case_arm xs) ++ more) in
-      let Arms = Pairs (λ (x : CaseArm) (made : LabelledArm). ArmMet scope once (demands_in_case_arm x) made) xs in
-      ok-if_right (λ (p : Valued × (List LabelledArm × Option typed_command.Command)). HasThisAlone (visible scope once) subject p.0.width × (Arms p.1.0 × IsGood more)) (λ _. G)
+      let Arms = Pairs (λ (x : CaseArm) (made : LabelledArm). ArmMet scope once types before known (demands_in_case_arm x) made) xs in
+      ok-if_right (λ (p : Valued × (List LabelledArm × Option typed_command.Command)). HasThisAlone (visible scope once types before known) subject p.0.width × (Arms p.1.0 × IsGood more)) (λ _. G)
       (both every judged (both every these last)) _
       (λ p h.
       let us = flat_map (λ (a : LabelledArm). a.labels) p.1.0 in
       ok-becomes (λ _. G) (λ _. G) _ (demands every (new_labels p.0.width [] us)) (λ a g. g)
       (ok-by (λ _. G) (demands every (new_labels p.0.width [] us)) (λ a is.
-      every-append (IsMet (visible scope once)) (demands_of_labels subject (map demands_in_case_arm xs)) more
-      (arms_labels scope once demands_in_case_arm subject p.0.width h.0 xs p.1.0 h.1.0
-      (labels_fit scope once p.0.width [] us (demands-ok scope once (Ok tt) (new_labels p.0.width [] us) is).1)) h.1.1)))
-      (ok-both (λ (v : Valued). HasThisAlone (visible scope once) subject v.width) (λ (q : List LabelledArm × Option typed_command.Command). Arms q.0 × IsGood more) judged (both every these last) wide
+      every-append (IsMet types before (visible scope once types before known)) (demands_of_labels subject (map demands_in_case_arm xs)) more
+      (arms_labels scope once types before known demands_in_case_arm subject p.0.width h.0 xs p.1.0 h.1.0
+      (labels_fit scope once types before known p.0.width [] us (demands-ok scope once types before known (Ok tt) (new_labels p.0.width [] us) is).1)) h.1.1)))
+      (ok-both (λ (v : Valued). HasThisAlone (visible scope once types before known) subject v.width) (λ (q : List LabelledArm × Option typed_command.Command). Arms q.0 × IsGood more) judged (both every these last) wide
       (ok-both Arms (λ _. IsGood more) these last ps good))
 
   -- ---- each form
@@ -489,38 +612,44 @@ module _ (scope : Scope) (once : Once scope.names) where
   action_met (Action-F.Loop body) opened =
       ok-becomes (λ _. IsGood (demands_of_command body.0)) (λ _. IsGood (demands_of_command body.0)) _ (judged_command every body.0 scope opened) (λ a h. h) (body.1 opened)
   action_met (Action-F.While guard body) opened =
-      tested scope once (λ (v : Valued). HasThisAlone (visible scope once) guard v.width) (λ _. IsGood (demands_of_command body.0)) (IsGood (one_bit guard ∷ demands_of_command body.0))
+      tested scope once types before known (λ (v : Valued). HasThisAlone (visible scope once types before known) guard v.width) (λ _. IsGood (demands_of_command body.0)) (IsGood (one_bit guard ∷ demands_of_command body.0))
       (value every guard scope opened) (judged_command every body.0 scope opened) (λ p. nat_eq p.0.width 1) _ _
-      (λ a b has good e. (subst (HasThisAlone (visible scope once) guard) (eqb-true a.width 1 e) has, good)) (value_width scope once guard opened) (body.1 opened)
+      (λ a b has good e. (subst (HasThisAlone (visible scope once types before known) guard) (eqb-true a.width 1 e) has, good)) (value_width scope once types before known guard opened) (body.1 opened)
   action_met (Action-F.If these None) opened = conditional_met (map (λ y. y.0) these) _ (Ok None) [] (if_arms_pair opened these) tt
   action_met (Action-F.If these (Some last)) opened =
       conditional_met (map (λ y. y.0) these) _ _ (demands_of_command last.0) (if_arms_pair opened these) (last_met opened last)
   action_met (Action-F.Case subject these None) opened =
-      cased_met subject (map (λ y. y.0) these) (value every subject scope opened) _ (Ok None) [] (value_width scope once subject opened) (case_arms_pair opened these) tt
+      cased_met subject (map (λ y. y.0) these) (value every subject scope opened) _ (Ok None) [] (value_width scope once types before known subject opened) (case_arms_pair opened these) tt
   action_met (Action-F.Case subject these (Some last)) opened =
-      cased_met subject (map (λ y. y.0) these) (value every subject scope opened) _ _ (demands_of_command last.0) (value_width scope once subject opened)
+      cased_met subject (map (λ y. y.0) these) (value every subject scope opened) _ _ (demands_of_command last.0) (value_width scope once types before known subject opened)
       (case_arms_pair opened these) (last_met opened last)
   action_met (Action-F.Select these) opened = select_met opened these (λ these. action.Select these)
   action_met (Action-F.Arbitrate first second) opened = select_met opened (first ∷ second ∷ []) (λ these. action.Arbitrate these)
   action_met (Action-F.Assign x e) opened =
-      tested scope once (λ (r : VariableUse × ℕ). NameHasThisAlone (visible scope once) x.name r.1) (λ (v : Valued). HasThisAlone (visible scope once) e v.width) (IsGood (has_room e x.name ∷ []))
+      tested scope once types before known (λ (r : VariableUse × ℕ). NameHasThisAlone (visible scope once types before known) x.name r.1) (λ (v : Valued). HasThisAlone (visible scope once types before known) e v.width) (IsGood (has_room e x.name ∷ []))
       (one_fault (target x scope opened)) (value every e scope opened) (λ p. nat_le p.1.width p.0.1) _ _
-      (λ a b room wide is. ((b.width, a.1, wide, room, leb-true b.width a.1 is), tt)) (target_width scope once x opened) (value_width scope once e opened)
+      (λ a b room wide is. ((b.width, a.1, wide, room, leb-true b.width a.1 is), tt)) (target_width scope once types before known x opened) (value_width scope once types before known e opened)
   action_met (Action-F.Send ch e) opened =
-      tested scope once (λ (r : ChannelUse × ℕ). NameHasThisAlone (visible scope once) ch.name r.1) (λ (v : Valued). HasThisAlone (visible scope once) e v.width) (IsGood (has_room e ch.name ∷ []))
+      tested scope once types before known (λ (r : ChannelUse × ℕ). NameHasThisAlone (visible scope once types before known) ch.name r.1) (λ (v : Valued). HasThisAlone (visible scope once types before known) e v.width) (IsGood (has_room e ch.name ∷ []))
       (one_fault (sender ch scope opened)) (value every e scope opened) (λ p. nat_le p.1.width p.0.1) _ _
-      (λ a b room wide is. ((b.width, a.1, wide, room, leb-true b.width a.1 is), tt)) (sender_width scope once ch opened) (value_width scope once e opened)
+      (λ a b room wide is. ((b.width, a.1, wide, room, leb-true b.width a.1 is), tt)) (sender_width scope once types before known ch opened) (value_width scope once types before known e opened)
   action_met (Action-F.Receive ch x) opened =
-      tested scope once (λ (r : ChannelUse × ℕ). NameHasThisAlone (visible scope once) ch.name r.1) (λ (r : VariableUse × ℕ). NameHasThisAlone (visible scope once) x.name r.1)
+      tested scope once types before known (λ (r : ChannelUse × ℕ). NameHasThisAlone (visible scope once types before known) ch.name r.1) (λ (r : VariableUse × ℕ). NameHasThisAlone (visible scope once types before known) x.name r.1)
       (IsGood (is_received ch.name x.name ∷ []))
       (one_fault (receiver ch scope opened)) (one_fault (target x scope opened)) (λ p. nat_le p.0.1 p.1.1) _ _
-      (λ a b wide room is. ((a.1, b.1, wide, room, leb-true a.1 b.1 is), tt)) (receiver_width scope once ch opened) (target_width scope once x opened)
+      (λ a b wide room is. ((a.1, b.1, wide, room, leb-true a.1 b.1 is), tt)) (receiver_width scope once types before known ch opened) (target_width scope once types before known x opened)
   action_met (Action-F.Input ch body) opened =
       let inner = opened_by opened (channel_alone (receiver ch scope opened)) in
       let G = IsGood (demands_of_command body.0) in
       ok-becomes (λ (p : (ChannelUse × ℕ) × typed_command.Command). Unit {0} × G) (λ _. G) _ (both every (one_fault (receiver ch scope opened)) (judged_command every body.0 scope inner))
       (λ p h. h.1) (ok-both (λ _. Unit {0}) (λ _. G) (one_fault (receiver ch scope opened)) (judged_command every body.0 scope inner) (any (Unit {0}) _ tt) (body.1 inner))
-  action_met (Action-F.Call p arguments) opened = any (Unit {0}) _ tt
+  action_met (Action-F.Call p arguments) opened =
+      tested scope once types before known (λ (i : ℕ). look_up scope.names p.name ≡ Some (meaning.Procedure i)) (λ _. Unit {0})
+      (IsGood (takes p.name (map (λ (a : Identifier). a.name) arguments) ∷ []))
+      (one_fault (procedure_use (find scope.names opened p.name) p.span.start)) (judged_arguments every scope.names opened arguments)
+      (λ q. call_fits scope.names (slice_get scope.procedures q.0) arguments q.1) _ _
+      (λ i us is all fits. (call_met scope once types before known p.name i arguments us is fits, tt)) (procedure_means scope once types before known p opened)
+      (any (Unit {0}) _ tt)
   action_met (Action-F.Sequence children) opened = sequence_met opened children (λ cs. action.Sequence cs)
   action_met (Action-F.Parallel children) opened = sequence_met opened children (λ cs. action.Parallel cs)
 
@@ -541,20 +670,20 @@ module _ (scope : Scope) (once : Once scope.names) where
   unfolding guarded
   guarded_met guard body opened =
       let G = IsGood (demands_of_command body.0) in
-      ok-becomes (λ (p : Valued × typed_command.Command). HasThisAlone (visible scope once) guard p.0.width × G) _ _
-      (both every (value every guard scope opened) (judged_command every body.0 scope opened)) (λ p h one. (subst (HasThisAlone (visible scope once) guard) one h.0, h.1))
-      (ok-both (λ (v : Valued). HasThisAlone (visible scope once) guard v.width) (λ _. G) (value every guard scope opened) (judged_command every body.0 scope opened)
-      (value_width scope once guard opened) (body.1 opened))
+      ok-becomes (λ (p : Valued × typed_command.Command). HasThisAlone (visible scope once types before known) guard p.0.width × G) _ _
+      (both every (value every guard scope opened) (judged_command every body.0 scope opened)) (λ p h one. (subst (HasThisAlone (visible scope once types before known) guard) one h.0, h.1))
+      (ok-both (λ (v : Valued). HasThisAlone (visible scope once types before known) guard v.width) (λ _. G) (value every guard scope opened) (judged_command every body.0 scope opened)
+      (value_width scope once types before known guard opened) (body.1 opened))
 
   labelled_met : (labels : List Label) (body : With CommandMet) (opened : List Binding)
-      → IfOk (labelled every (judged_labels every scope.names opened labels) (judged_command every body.0 scope opened)) (ArmMet scope once (labels, demands_of_command body.0))
+      → IfOk (labelled every (judged_labels every scope.names opened labels) (judged_command every body.0 scope opened)) (ArmMet scope once types before known (labels, demands_of_command body.0))
   unfolding labelled
   labelled_met labels body opened =
       let G = IsGood (demands_of_command body.0) in
-      ok-becomes (λ (p : List LabelUse × typed_command.Command). Pairs (HasLabel scope once) labels p.0 × G) _ _
+      ok-becomes (λ (p : List LabelUse × typed_command.Command). Pairs (HasLabel scope once types before known) labels p.0 × G) _ _
       (both every (judged_labels every scope.names opened labels) (judged_command every body.0 scope opened)) (λ p h. h)
-      (ok-both (Pairs (HasLabel scope once) labels) (λ _. G) (judged_labels every scope.names opened labels) (judged_command every body.0 scope opened)
-      (labels_width scope once opened labels) (body.1 opened))
+      (ok-both (Pairs (HasLabel scope once types before known) labels) (λ _. G) (judged_labels every scope.names opened labels) (judged_command every body.0 scope opened)
+      (labels_width scope once types before known opened labels) (body.1 opened))
 
   moved : {A D : Type 0} (P : D → A → Type 0) (x x' : Findings every A) (d d' : D) → x ≡ x' → d ≡ d' → IfOk x' (P d') → IfOk x (P d)
   moved P x x' d d' a b g = subst (λ z. IfOk z (P d)) (sym a) (subst (λ z. IfOk x' (P z)) (sym b) g)
@@ -573,7 +702,7 @@ module _ (scope : Scope) (once : Once scope.names) where
       (fold-roll-Arm _ _ _ _ _ demands_of_action demands_of_arm demands_of_case_arm demands_of_layer demands_of_guarded _)
       (arm_met y opened)))
       (λ x y is. subst (λ z. LabelledMet (roll-CaseArm z)) is (λ opened.
-      moved (λ ds made. ArmMet scope once ds made) _ _ _ _
+      moved (λ ds made. ArmMet scope once types before known ds made) _ _ _ _
       (ap (λ f. f scope opened) (fold-roll-CaseArm _ _ _ _ _ (action_layer every) (arm_layer every) (case_arm_layer every) (command_layer every) (guarded_layer every) _))
       (fold-roll-CaseArm _ _ _ _ _ demands_of_action demands_of_arm demands_of_case_arm demands_of_layer demands_of_guarded _)
       (labelled_met y.labels y.body opened)))
@@ -591,8 +720,11 @@ module _ (scope : Scope) (once : Once scope.names) where
 
 pub demands_met : DemandsAreMet
 demands_met d (qs, e) before p later split =
-    let here = in_accepted d qs e before p later split in
+    let k = knows d qs e before p later split in
+    let here = k.here in
     let scope = scope_inside every here.scope p in
     let once = (is_sound d before p here).once in
-    subst (λ ds. Every (IsMet ds) (demands_of_command p.body)) (all_visible d before p here)
-    (ok-is (λ _. Every (IsMet (map shown scope.names)) (demands_of_command p.body)) (judged_command every p.body scope []) here.judged.body here.judged.command (command_met scope once p.body []))
+    let known = known_inside d.types before here.scope p k.known in
+    subst (λ ds. Every (IsMet d.types before ds) (demands_of_command p.body)) (all_visible d before p here)
+    (ok-is (λ _. Every (IsMet d.types before (map shown scope.names)) (demands_of_command p.body)) (judged_command every p.body scope []) here.judged.body here.judged.command
+    (command_met scope once d.types before known p.body []))

@@ -1,6 +1,7 @@
 pub mod public
 mod Behind
 mod CallLemmas
+mod CalledPorts
 mod DeclarationLemmas
 mod DeclaredBefore
 mod DeclaredDistinct

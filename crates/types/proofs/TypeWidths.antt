@@ -1,10 +1,10 @@
 -- Each type of a port or local has one width.
-use Rattle.std.proofs.Common.{◌≡◌, inl, ℕ, List, [], ◌∷◌, ◌++◌, map, flat_map, Ok, refl, sym, subst}
+use Rattle.std.proofs.Common.{◌≡◌, inl, ℕ, List, [], ◌∷◌, map, flat_map, Ok, refl, sym, subst}
 use Rattle.types.specs.Declarations.{demanded, port_type, local_type, scope_inside}
 use Rattle.types.specs.Expressions.{declared_width, type_width}
 use Rattle.types.specs.Findings.{every}
 use Rattle.types.specs.Names.{VisibleNames}
-use Rattle.types.specs.Visible.{Declaration, type_widths, outside}
+use Rattle.types.specs.Visible.{Declaration, type_widths}
 use Rattle.types.specs.Widths.{TypeHasThisAlone, type_of_port, type_of_local, types_written, TypesHaveOneWidth}
 use Rattle.syntax.specs.Lists.{In, Every}
 use Rattle.syntax.specs.declared.declaration.Description.{Description}
@@ -24,8 +24,8 @@ use Rattle.types.proofs.Lookups.{shown, every-append, every-weaker}
 use Rattle.types.proofs.TypingLaws.{every-flat, is_sound}
 use Rattle.types.proofs.WidthRules.{in_single, type_from, type_into}
 
-alone : (ds : List Declaration) (type : TypeName) (w : ℕ) → type_widths ds type ≡ w ∷ [] → TypeHasThisAlone ds type w
-alone ds type w only =
+pub type_has : (ds : List Declaration) (type : TypeName) (w : ℕ) → type_widths ds type ≡ w ∷ [] → TypeHasThisAlone ds type w
+type_has ds type w only =
     (type_from ds type w (subst (In w) (sym only) (inl refl)), λ other has. in_single other w (subst (In other) only (type_into ds type other has)))
 
 module _ (d : Description) (before : List Procedure) (p : Procedure) (here : InAccepted d before p) where
@@ -41,13 +41,13 @@ module _ (d : Description) (before : List Procedure) (p : Procedure) (here : InA
   type_alone : (type : TypeName) → demanded (type_width inner [] type) ≡ Ok tt → HasOne type
   type_alone (Bits width) e =
       let right = demanded-ok (declared_width width) e in
-      (right.0, alone (map shown outer) (Bits width) right.0 (type_once outer here.once [] (Bits width) right.0 right.1).0)
+      (right.0, type_has (map shown outer) (Bits width) right.0 (type_once outer here.once [] (Bits width) right.0 right.1).0)
   type_alone (Named identifier) e =
       let n = identifier.name in
       let right = demanded-ok (type_width inner [] (Named identifier)) e in
       let found = (between d before p here).types n right.0 (type_found inner [] n identifier.span.start right.0 right.1) in
       let is : type_width outer [] (Named identifier) ≡ Ok right.0 = type_at outer n identifier.span.start right.0 found in
-      (right.0, alone (map shown outer) (Named identifier) right.0 (type_once outer here.once [] (Named identifier) right.0 is).0)
+      (right.0, type_has (map shown outer) (Named identifier) right.0 (type_once outer here.once [] (Named identifier) right.0 is).0)
 
   port_alone : (kind : PortKind) → port_type inner kind ≡ Ok tt → Every HasOne (type_of_port kind)
   port_alone (port_of.Input type) e = (type_alone type e, tt)

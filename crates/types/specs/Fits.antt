@@ -1,11 +1,12 @@
--- What commands ask of widths: a guard is one bit wide, and what is put somewhere has room there.
+-- What commands ask of widths: a guard is one bit wide, what is put somewhere has room there, and a call passes for each
+-- port a channel of its width.
 use Rattle.std.specs.Prelude.{◌≡◌, ℕ, ◌≤◌, List, [], ◌∷◌, ◌++◌, map, flat_map, Option, Some, None}
 use Rattle.value.specs.Word.{least_width_of}
 use Rattle.types.specs.Laws.{IsAccepted}
 use Rattle.types.specs.Parts.{Name}
-use Rattle.types.specs.Visible.{Declaration, visible_in}
-use Rattle.types.specs.Widths.{HasThisAlone, NameHasThisAlone}
-use Rattle.syntax.specs.Lists.{Every}
+use Rattle.types.specs.Visible.{Declaration, outside, visible_in}
+use Rattle.types.specs.Widths.{HasThisAlone, NameHasThisAlone, TypeHasThisAlone}
+use Rattle.syntax.specs.Lists.{In, Every}
 use Rattle.syntax.specs.declared.command.Action.TheFolds.{fold-Command}
 use Rattle.syntax.specs.declared.command.Action.TheOpen.{Action-F, Arm-F, CaseArm-F, Command-F, Guarded-F}
 use Rattle.syntax.specs.declared.command.Command.{Command}
@@ -13,8 +14,13 @@ use Rattle.syntax.specs.declared.command.Label.{Label}
 use Rattle.syntax.specs.declared.command.LabelValue.{LabelValue}
 use Rattle.syntax.specs.declared.command.LabelValue.TheVariants as label
 use Rattle.syntax.specs.declared.declaration.Description.{Description}
+use Rattle.syntax.specs.declared.declaration.Port.{Port}
+use Rattle.syntax.specs.declared.declaration.PortKind.{PortKind}
+use Rattle.syntax.specs.declared.declaration.PortKind.TheVariants as port_of
 use Rattle.syntax.specs.declared.declaration.Procedure.{Procedure}
+use Rattle.syntax.specs.declared.declaration.TypeDeclaration.{TypeDeclaration}
 use Rattle.syntax.specs.declared.expression.Expr.{Expr}
+use Rattle.syntax.specs.declared.name.Identifier.{Identifier}
 
 pub data Demand : Type 0 where
   -- the guard is one bit wide
@@ -25,6 +31,8 @@ pub data Demand : Type 0 where
   is_received : Name → Name → Demand
   -- the label has room in the expression
   may_match : Label → Expr → Demand
+  -- the procedure takes these, one for each of its ports
+  takes : Name → List Name → Demand
 
 -- ---- what a command demands
 
@@ -57,7 +65,7 @@ demands_of_action (Action-F.Assign x e) = has_room e x.name ∷ []
 demands_of_action (Action-F.Send c e) = has_room e c.name ∷ []
 demands_of_action (Action-F.Receive c x) = is_received c.name x.name ∷ []
 demands_of_action (Action-F.Input c body) = body
-demands_of_action (Action-F.Call p arguments) = []
+demands_of_action (Action-F.Call p arguments) = takes p.name (map (λ (a : Identifier). a.name) arguments) ∷ []
 demands_of_action (Action-F.Sequence children) = demands_of_each children
 demands_of_action (Action-F.Parallel children) = demands_of_each children
 
@@ -85,20 +93,46 @@ abbrev pub LabelHasThisAlone : List Declaration → LabelValue → ℕ → Type 
 LabelHasThisAlone visible (label.Number n) width = width ≡ least_width_of n
 LabelHasThisAlone visible (label.Name name) width = NameHasThisAlone visible name width
 
--- the widths that it speaks of are the only ones, and fit
-abbrev pub IsMet : List Declaration → Demand → Type 0
-IsMet visible (one_bit e) = HasThisAlone visible e 1
-IsMet visible (has_room e name) =
+-- what is of this name passes no data
+abbrev pub PassesNone : List Declaration → Name → Type 0
+PassesNone visible name = (d : Declaration) × In d visible × (d.name ≡ name) × (d.as_value ≡ [])
+
+-- the port, of a type that stands behind these types, takes what is of this name
+abbrev pub PortTakes : List Declaration → List Declaration → PortKind → Name → Type 0
+PortTakes types visible (port_of.Input type) name =
+    (width : ℕ) × TypeHasThisAlone types type width × NameHasThisAlone visible name width
+PortTakes types visible (port_of.Output type) name =
+    (width : ℕ) × TypeHasThisAlone types type width × NameHasThisAlone visible name width
+PortTakes types visible port_of.Sync name = PassesNone visible name
+
+abbrev pub PortsTake : List Declaration → List Declaration → List PortKind → List Name → Type 0
+PortsTake types visible [] [] = Unit {0}
+PortsTake types visible [] (name ∷ names) = ⊥
+PortsTake types visible (kind ∷ kinds) [] = ⊥
+PortsTake types visible (kind ∷ kinds) (name ∷ names) =
+    PortTakes types visible kind name × PortsTake types visible kinds names
+
+-- the kind of each port of a procedure, in order
+abbrev pub ports_in_order : Procedure → List PortKind
+ports_in_order p = flat_map (λ (d : Port). map (λ (name : Identifier). d.kind) d.names) p.ports
+
+-- the widths that it speaks of are the only ones, and fit, where these procedures stand before
+abbrev pub IsMet : List TypeDeclaration → List Procedure → List Declaration → Demand → Type 0
+IsMet types before visible (one_bit e) = HasThisAlone visible e 1
+IsMet types before visible (has_room e name) =
     (width : ℕ) × (room : ℕ) × HasThisAlone visible e width × NameHasThisAlone visible name room × (width ≤ room)
-IsMet visible (is_received channel variable) =
+IsMet types before visible (is_received channel variable) =
     (width : ℕ) × (room : ℕ) × NameHasThisAlone visible channel width × NameHasThisAlone visible variable room
     × (width ≤ room)
-IsMet visible (may_match l e) =
+IsMet types before visible (may_match l e) =
     (width : ℕ) × (room : ℕ) × LabelHasThisAlone visible l.value width × HasThisAlone visible e room × (width ≤ room)
+IsMet types before visible (takes name arguments) =
+    (first : List Procedure) × (p : Procedure) × (rest : List Procedure) × (before ≡ first ++ p ∷ rest)
+    × (p.name.name ≡ name) × PortsTake (outside types first) visible (ports_in_order p) arguments
 
 -- In an accepted description each demand is met.
 abbrev pub DemandsAreMet : Type 0
 DemandsAreMet =
     (d : Description) → IsAccepted d →
     (before : List Procedure) (p : Procedure) (behind : List Procedure) → d.procedures ≡ before ++ p ∷ behind →
-    Every (IsMet (visible_in d.types before p)) (demands_of_command p.body)
+    Every (IsMet d.types before (visible_in d.types before p)) (demands_of_command p.body)

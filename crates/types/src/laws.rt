@@ -26,7 +26,8 @@ pub fn expressions_have_one_width()
     ensures operands { OperandsHaveOneWidth }
 {}
 
-/// In an accepted description each guard is one bit wide, and what is assigned, sent, received or matched has room.
+/// In an accepted description each guard is one bit wide, what is assigned, sent, received or matched has room, and a call
+/// passes for each port a channel of its width.
 pub fn widths_fit()
     ensures { DemandsAreMet }
 {}
