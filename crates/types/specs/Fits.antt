@@ -1,5 +1,5 @@
--- What commands ask of widths: a guard is one bit wide, what is put somewhere has room there, and a call passes for each
--- port a channel of its width.
+-- What commands ask of widths: a guard is one bit wide, what is put somewhere has room there, and a call passes for
+-- each port a channel of its width.
 use Rattle.std.specs.Prelude.{◌≡◌, ℕ, ◌≤◌, List, [], ◌∷◌, ◌++◌, map, flat_map, Option, Some, None}
 use Rattle.value.specs.Word.{least_width_of}
 use Rattle.types.specs.Laws.{IsAccepted}

@@ -37,8 +37,8 @@ TypeHasWidth visible (Named identifier) width =
 TypeHasWidth visible (Bits declared) width = (width ≡ declared.bits) × (1 ≤ width) × (width ≤ most_bits)
 
 -- The operator gives a value of this width over operands of those: a sum is one bit wider than the wider of them, and
--- no wider than a number can be; a difference, or what is taken bit by bit, is as wide as the wider; a comparison is one
--- bit wide.
+-- no wider than a number can be; a difference, or what is taken bit by bit, is as wide as the wider; a comparison is
+-- one bit wide.
 abbrev pub OperatorGives : Operator → ℕ → ℕ → ℕ → Type 0
 OperatorGives Add left right width = (width ≡ max left right + 1) × (width ≤ most_bits)
 OperatorGives Subtract left right width = width ≡ max left right

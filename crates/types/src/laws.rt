@@ -18,16 +18,16 @@ pub fn declared_names_are_distinct()
     ensures distinct { DeclaredNamesAreDistinct }
 {}
 
-/// In an accepted description each type of a port or local, each expression and each operand in it has exactly one width
-/// by the rules of the language.
+/// In an accepted description each type of a port or local, each expression and each operand in it has exactly one
+/// width by the rules of the language.
 pub fn expressions_have_one_width()
     ensures types { TypesHaveOneWidth }
     ensures whole { ExpressionsHaveOneWidth }
     ensures operands { OperandsHaveOneWidth }
 {}
 
-/// In an accepted description each guard is one bit wide, what is assigned, sent, received or matched has room, and a call
-/// passes for each port a channel of its width.
+/// In an accepted description each guard is one bit wide, what is assigned, sent, received or matched has room, and a
+/// call passes for each port a channel of its width.
 pub fn widths_fit()
     ensures { DemandsAreMet }
 {}
