@@ -6,16 +6,17 @@ ghost use Rattle.std.specs.Prelude.{IfOk, IfErr, IfSome};
 ghost use Rattle.typed_source.specs.Source.{IsRefused, IsTyped};
 
 mod fault;
+mod judging;
 mod laws;
 mod part;
 
 pub use fault::Fault;
+use judging::{judge_next, judged_first};
 pub use laws::names_are_own;
 use lexer::{Lexing, lex};
 use parser::parse;
-use part::next_part;
 use std::alloc::Global;
-use types::{Typed, Typing, check_types};
+use types::{Typed, check_types};
 
 /// The source with its names, kinds and widths settled. All its tokens are made first, and then all its trees.
 fn typed_at_once(alloc: Global, source: &[u8]) -> Result<Typed, Fault>
@@ -34,18 +35,14 @@ fn typed_in_parts(alloc: Global, source: &[u8]) -> Result<Option<Typed>, Fault>
 {
     let mut lexing = Lexing::new(source);
     let mut tokens = Vec::new(alloc);
-    let Some(first) = next_part(alloc, &mut lexing, &mut tokens, true)? else {
+    let Some((mut typing, mut is_last)) = judged_first(alloc, &mut lexing, &mut tokens)? else {
         return Ok(None);
     };
-    let mut typing = Typing::new(alloc, first.description.types.as_slice())?;
-    typing.add(alloc, first.description.procedures.as_slice())?;
-    let mut is_last = first.is_last;
     while !is_last {
-        let Some(next) = next_part(alloc, &mut lexing, &mut tokens, false)? else {
+        let Some(is_end) = judge_next(alloc, &mut lexing, &mut tokens, &mut typing)? else {
             return Ok(None);
         };
-        typing.add(alloc, next.description.procedures.as_slice())?;
-        is_last = next.is_last;
+        is_last = is_end;
     }
     Ok(Some(typing.finish()?))
 }
