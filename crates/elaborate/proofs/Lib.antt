@@ -1,4 +1,5 @@
 mod Weights
+mod Parts
 mod Sizes
 mod Calls
 mod PlaceLemmas

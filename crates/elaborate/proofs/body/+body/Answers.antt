@@ -1,10 +1,18 @@
--- Each call has less to do: a part of the command, or a procedure before it.
-use Rattle.std.proofs.Common.{◌≤◌, length, arith, sym, ◌∙◌, ap}
+-- Each call has less to do: a part of the command, or a procedure before it. What is made of parts is what is made of all.
+use Rattle.std.proofs.Common.{◌≡◌, ◌≤◌, List, [], Option, length, map, arith, sym, ◌∙◌, ap}
+use Rattle.std.specs.Option.{option_map}
 use Rattle.std.proofs.lemmas.Bool.Decides.{nat_tests}
-use Rattle.elaborate.specs.internal.Makers.{WithMade}
+use Rattle.elaborate.specs.internal.BodyParts.{maker_of_guarded, maker_of_labelled, maker_of_arm}
+use Rattle.elaborate.specs.internal.Instances.{channel_use, expression_in}
+use Rattle.elaborate.specs.internal.Makers.{WithMade, all_onto, arms_and_last, maker_of, makers}
+use Rattle.system.specs.declared.command.Action.TheViews as action
+use Rattle.system.specs.declared.command.Arm as tree_arm
+use Rattle.system.specs.declared.command.Guarded as tree_guarded
+use Rattle.system.specs.declared.command.Labelled as tree_labelled
 use Rattle.system.specs.declared.command.Command.{Command}
 use Rattle.elaborate.proofs.Weights.{weight, entered_weight, item_weight, arm_item, guarded_item, labelled_item}
 use Rattle.elaborate.proofs.Calls.{goes_along, enters, ends}
+use Rattle.elaborate.proofs.Parts.{part_more, parts_made, guarded_of_parts, guarded_left, labelled_of_parts, labelled_left, arm_of_parts, arm_left, continue_makes, halt_makes, assign_makes, send_makes, receive_makes, sync_makes, loop_makes, while_makes, input_makes, select_makes, arbitrate_makes, sequence_makes, parallel_makes, if_makes, case_makes, with_last, both_are, made_around, answers_tree, answers_made}
 use Rattle.elaborate.proofs.body.+body.Goals as goal
 
 pub arms_of-command_of-requires : goal.arms_of-command_of-requires
@@ -72,3 +80,226 @@ called_body-command_of-requires t c =
     let found = c.in-Some.ensures.lookup in
     let less = entered_weight c.loop-procedure.earlier.now c.loop-procedure.called c.in-Some.procedure.now found.3.0 found.1 in
     omega (arith, less, c.loop-procedure.invariant.less, c.decreases)
+
+pub commands_of-loop-command-preserved : goal.commands_of-loop-command-preserved
+commands_of-loop-command-preserved t c =
+    part_more (maker_of (makers c.args.earlier.now)) c.args.commands.now c.loop-command.command-index c.args.instance.now c.command-item.result
+    c.loop-command.children c.push.new.self c.in_ok-command_of.field-0 c.loop-command.made c.command_of.new.made
+    c.loop-command-test.true c.command-item.is c.in_ok-command_of.ensures.tree c.in_ok-command_of.ensures.made c.in_ok-push.ensures.ok
+    ∙ c.loop-command.invariant
+
+pub commands_of-returns : goal.commands_of-returns
+commands_of-returns t c =
+    let all =
+    parts_made (maker_of (makers c.args.earlier.now)) c.args.commands.now c.loop-command.command-index c.args.instance.now c.loop-command.children c.loop-command.made _
+    c.loop-command-test.false c.loop-command.invariant in
+    record { tree = ap (λ (r : WithMade (List Command)). r.0) all; made = ap (λ (r : WithMade (List Command)). r.1) all }
+
+pub guarded_of-loop-arm-preserved : goal.guarded_of-loop-arm-preserved
+guarded_of-loop-arm-preserved t c =
+    let ps = makers c.args.earlier.now in
+    let instance = c.args.instance.now in
+    let made = c.loop-arm.made in
+    let arm = c.arm-item.result in
+    part_more (maker_of_guarded ps) c.args.arms.now c.loop-arm.arm-index instance arm
+    c.loop-arm.children c.push.new.self (record { guard = c.in_ok-guard.guard; body = c.in_ok-body.body }) made c.command_of.new.made
+    c.loop-arm-test.true c.arm-item.is
+    (guarded_of_parts ps instance made arm c.in_ok-guard.guard c.in_ok-body.body c.in_ok-guard.ensures c.in_ok-body.ensures.tree)
+    (guarded_left ps instance made arm c.command_of.new.made c.in_ok-body.ensures.made) c.in_ok-push.ensures.ok
+    ∙ c.loop-arm.invariant
+
+pub guarded_of-returns : goal.guarded_of-returns
+guarded_of-returns t c =
+    let all =
+    parts_made (maker_of_guarded (makers c.args.earlier.now)) c.args.arms.now c.loop-arm.arm-index c.args.instance.now c.loop-arm.children c.loop-arm.made _
+    c.loop-arm-test.false c.loop-arm.invariant in
+    record { tree = ap (λ (r : WithMade (List tree_guarded.Guarded)). r.0) all; made = ap (λ (r : WithMade (List tree_guarded.Guarded)). r.1) all }
+
+pub labelled_of-loop-arm-preserved : goal.labelled_of-loop-arm-preserved
+labelled_of-loop-arm-preserved t c =
+    let ps = makers c.args.earlier.now in
+    let instance = c.args.instance.now in
+    let made = c.loop-arm.made in
+    let arm = c.arm-item.result in
+    let labels : c.from_vec-labels.result ≡ arm.labels = c.from_vec-labels.ensures ∙ c.in_ok-from_slice.ensures.items ∙ c.as_slice.ensures in
+    part_more (maker_of_labelled ps) c.args.arms.now c.loop-arm.arm-index instance arm
+    c.loop-arm.children c.push.new.self (record { labels = c.from_vec-labels.result; body = c.in_ok-body.body }) made c.command_of.new.made
+    c.loop-arm-test.true c.arm-item.is
+    (labelled_of_parts ps instance made arm c.from_vec-labels.result c.in_ok-body.body labels c.in_ok-body.ensures.tree)
+    (labelled_left ps instance made arm c.command_of.new.made c.in_ok-body.ensures.made) c.in_ok-push.ensures.ok
+    ∙ c.loop-arm.invariant
+
+pub labelled_of-returns : goal.labelled_of-returns
+labelled_of-returns t c =
+    let all =
+    parts_made (maker_of_labelled (makers c.args.earlier.now)) c.args.arms.now c.loop-arm.arm-index c.args.instance.now c.loop-arm.children c.loop-arm.made _
+    c.loop-arm-test.false c.loop-arm.invariant in
+    record { tree = ap (λ (r : WithMade (List tree_labelled.Labelled)). r.0) all; made = ap (λ (r : WithMade (List tree_labelled.Labelled)). r.1) all }
+
+pub arms_of-loop-arm-preserved : goal.arms_of-loop-arm-preserved
+arms_of-loop-arm-preserved t c =
+    let ps = makers c.args.earlier.now in
+    let instance = c.args.instance.now in
+    let made = c.loop-arm.made in
+    let arm = c.arm-item.result in
+    part_more (maker_of_arm ps) c.args.arms.now c.loop-arm.arm-index instance arm
+    c.loop-arm.children c.push.new.self (record { channel = c.channel_use-channel.result; body = c.in_ok-body.body }) made c.command_of.new.made
+    c.loop-arm-test.true c.arm-item.is
+    (arm_of_parts ps instance made arm c.channel_use-channel.result c.in_ok-body.body c.channel_use-channel.ensures c.in_ok-body.ensures.tree)
+    (arm_left ps instance made arm c.command_of.new.made c.in_ok-body.ensures.made) c.in_ok-push.ensures.ok
+    ∙ c.loop-arm.invariant
+
+pub arms_of-returns : goal.arms_of-returns
+arms_of-returns t c =
+    let all =
+    parts_made (maker_of_arm (makers c.args.earlier.now)) c.args.arms.now c.loop-arm.arm-index c.args.instance.now c.loop-arm.children c.loop-arm.made _
+    c.loop-arm-test.false c.loop-arm.invariant in
+    record { tree = ap (λ (r : WithMade (List tree_arm.Arm)). r.0) all; made = ap (λ (r : WithMade (List tree_arm.Arm)). r.1) all }
+
+pub command_of-returns-in_ok-body-in-Loop : goal.command_of-returns-in_ok-body-in-Loop
+command_of-returns-in_ok-body-in-Loop t c =
+    let ps = makers c.args.earlier.now in
+    let command = c.args.command.now in
+    let instance = c.args.instance.now in
+    let made = c.args.made.now in
+    let is =
+    made_around command.line action.Loop c.in_ok-body-in-Loop.body c.command_of.new.made (maker_of ps c.in-Loop.body instance made) (maker_of ps command instance made)
+    (both_are c.in_ok-body-in-Loop.body c.command_of.new.made (maker_of ps c.in-Loop.body instance made) c.in_ok-body-in-Loop.ensures.tree c.in_ok-body-in-Loop.ensures.made)
+    (loop_makes ps command instance made c.in-Loop.body (sym c.get.ensures ∙ c.in-Loop.is)) in
+    record { tree = answers_tree c.loop_command.result _ _ _ is c.loop_command.ensures; made = answers_made c.loop_command.result _ _ _ is }
+
+pub command_of-returns-in_ok-body-in-While : goal.command_of-returns-in_ok-body-in-While
+command_of-returns-in_ok-body-in-While t c =
+    let ps = makers c.args.earlier.now in
+    let command = c.args.command.now in
+    let instance = c.args.instance.now in
+    let made = c.args.made.now in
+    let is =
+    made_around command.line (action.While (expression_in instance c.in-While.guard)) c.in_ok-body-in-While.body c.command_of-in-While.new.made (maker_of ps c.in-While.body instance made) (maker_of ps command instance made)
+    (both_are c.in_ok-body-in-While.body c.command_of-in-While.new.made (maker_of ps c.in-While.body instance made) c.in_ok-body-in-While.ensures.tree c.in_ok-body-in-While.ensures.made)
+    (while_makes ps command instance made c.in-While.guard c.in-While.body (sym c.get.ensures ∙ c.in-While.is)) in
+    record { tree = answers_tree c.while_command.result _ _ _ is c.while_command.ensures; made = answers_made c.while_command.result _ _ _ is }
+
+pub command_of-returns-in_ok-body-in-Input : goal.command_of-returns-in_ok-body-in-Input
+command_of-returns-in_ok-body-in-Input t c =
+    let ps = makers c.args.earlier.now in
+    let command = c.args.command.now in
+    let instance = c.args.instance.now in
+    let made = c.args.made.now in
+    let is =
+    made_around command.line (action.Input (channel_use instance c.in-Input.channel)) c.in_ok-body-in-Input.body c.command_of-in-Input.new.made (maker_of ps c.in-Input.body instance made) (maker_of ps command instance made)
+    (both_are c.in_ok-body-in-Input.body c.command_of-in-Input.new.made (maker_of ps c.in-Input.body instance made) c.in_ok-body-in-Input.ensures.tree c.in_ok-body-in-Input.ensures.made)
+    (input_makes ps command instance made c.in-Input.channel c.in-Input.body (sym c.get.ensures ∙ c.in-Input.is)) in
+    record { tree = answers_tree c.input_command.result _ _ _ is c.input_command.ensures; made = answers_made c.input_command.result _ _ _ is }
+
+pub command_of-returns-in_ok-arms-in-Select : goal.command_of-returns-in_ok-arms-in-Select
+command_of-returns-in_ok-arms-in-Select t c =
+    let ps = makers c.args.earlier.now in
+    let command = c.args.command.now in
+    let instance = c.args.instance.now in
+    let made = c.args.made.now in
+    let is =
+    made_around command.line action.Select c.in_ok-arms-in-Select.arms c.arms_of.new.made (all_onto [] (map (maker_of_arm ps) c.in-Select.arms) instance made) (maker_of ps command instance made)
+    (both_are c.in_ok-arms-in-Select.arms c.arms_of.new.made (all_onto [] (map (maker_of_arm ps) c.in-Select.arms) instance made) (rw c.as_slice-in-Select.ensures at c.in_ok-arms-in-Select.ensures.tree) (rw c.as_slice-in-Select.ensures at c.in_ok-arms-in-Select.ensures.made))
+    (select_makes ps command instance made c.in-Select.arms (sym c.get.ensures ∙ c.in-Select.is)) in
+    record { tree = answers_tree c.select_command.result _ _ _ is c.select_command.ensures; made = answers_made c.select_command.result _ _ _ is }
+
+pub command_of-returns-in_ok-arms-in-Arbitrate : goal.command_of-returns-in_ok-arms-in-Arbitrate
+command_of-returns-in_ok-arms-in-Arbitrate t c =
+    let ps = makers c.args.earlier.now in
+    let command = c.args.command.now in
+    let instance = c.args.instance.now in
+    let made = c.args.made.now in
+    let is =
+    made_around command.line action.Arbitrate c.in_ok-arms-in-Arbitrate.arms c.arms_of-in-Arbitrate.new.made (all_onto [] (map (maker_of_arm ps) c.in-Arbitrate.arms) instance made) (maker_of ps command instance made)
+    (both_are c.in_ok-arms-in-Arbitrate.arms c.arms_of-in-Arbitrate.new.made (all_onto [] (map (maker_of_arm ps) c.in-Arbitrate.arms) instance made) (rw c.as_slice-in-Arbitrate.ensures at c.in_ok-arms-in-Arbitrate.ensures.tree) (rw c.as_slice-in-Arbitrate.ensures at c.in_ok-arms-in-Arbitrate.ensures.made))
+    (arbitrate_makes ps command instance made c.in-Arbitrate.arms (sym c.get.ensures ∙ c.in-Arbitrate.is)) in
+    record { tree = answers_tree c.arbitrate_command.result _ _ _ is c.arbitrate_command.ensures; made = answers_made c.arbitrate_command.result _ _ _ is }
+
+pub command_of-returns-in_ok-children-in-Sequence : goal.command_of-returns-in_ok-children-in-Sequence
+command_of-returns-in_ok-children-in-Sequence t c =
+    let ps = makers c.args.earlier.now in
+    let command = c.args.command.now in
+    let instance = c.args.instance.now in
+    let made = c.args.made.now in
+    let is =
+    made_around command.line action.Sequence c.in_ok-children-in-Sequence.children c.commands_of.new.made (all_onto [] (map (maker_of ps) c.in-Sequence.children) instance made) (maker_of ps command instance made)
+    (both_are c.in_ok-children-in-Sequence.children c.commands_of.new.made (all_onto [] (map (maker_of ps) c.in-Sequence.children) instance made) (rw c.as_slice-in-Sequence.ensures at c.in_ok-children-in-Sequence.ensures.tree) (rw c.as_slice-in-Sequence.ensures at c.in_ok-children-in-Sequence.ensures.made))
+    (sequence_makes ps command instance made c.in-Sequence.children (sym c.get.ensures ∙ c.in-Sequence.is)) in
+    record { tree = answers_tree c.sequence_command.result _ _ _ is c.sequence_command.ensures; made = answers_made c.sequence_command.result _ _ _ is }
+
+pub command_of-returns-in_ok-children-in-Parallel : goal.command_of-returns-in_ok-children-in-Parallel
+command_of-returns-in_ok-children-in-Parallel t c =
+    let ps = makers c.args.earlier.now in
+    let command = c.args.command.now in
+    let instance = c.args.instance.now in
+    let made = c.args.made.now in
+    let is =
+    made_around command.line action.Parallel c.in_ok-children-in-Parallel.children c.commands_of-in-Parallel.new.made (all_onto [] (map (maker_of ps) c.in-Parallel.children) instance made) (maker_of ps command instance made)
+    (both_are c.in_ok-children-in-Parallel.children c.commands_of-in-Parallel.new.made (all_onto [] (map (maker_of ps) c.in-Parallel.children) instance made) (rw c.as_slice-in-Parallel.ensures at c.in_ok-children-in-Parallel.ensures.tree) (rw c.as_slice-in-Parallel.ensures at c.in_ok-children-in-Parallel.ensures.made))
+    (parallel_makes ps command instance made c.in-Parallel.children (sym c.get.ensures ∙ c.in-Parallel.is)) in
+    record { tree = answers_tree c.parallel_command.result _ _ _ is c.parallel_command.ensures; made = answers_made c.parallel_command.result _ _ _ is }
+
+pub command_of-returns-in_ok-last-in-If : goal.command_of-returns-in_ok-last-in-If
+command_of-returns-in_ok-last-in-If t c =
+    let ps = makers c.args.earlier.now in
+    let command = c.args.command.now in
+    let instance = c.args.instance.now in
+    let made = c.args.made.now in
+    let parts =
+    with_last (map (maker_of_guarded ps) c.in-If.arms) (option_map (maker_of ps) c.in-If.last) instance made c.guarded_of.new.made c.last_of.new.made
+    c.in_ok-arms-in-If.arms c.in_ok-last-in-If.last
+    (rw c.as_slice-in-If.ensures at c.in_ok-arms-in-If.ensures.tree) (rw c.as_slice-in-If.ensures at c.in_ok-arms-in-If.ensures.made)
+    c.in_ok-last-in-If.ensures.tree c.in_ok-last-in-If.ensures.made in
+    let is =
+    made_around {X = List tree_guarded.Guarded × Option Command} command.line (λ r. action.If r.0 r.1) (c.in_ok-arms-in-If.arms, c.in_ok-last-in-If.last) c.last_of.new.made
+    (arms_and_last (map (maker_of_guarded ps) c.in-If.arms) (option_map (maker_of ps) c.in-If.last) instance made) (maker_of ps command instance made) parts
+    (if_makes ps command instance made c.in-If.arms c.in-If.last (sym c.get.ensures ∙ c.in-If.is)) in
+    record { tree = answers_tree c.if_command.result _ _ _ is c.if_command.ensures; made = answers_made c.if_command.result _ _ _ is }
+
+pub command_of-returns-in_ok-last-in-Case : goal.command_of-returns-in_ok-last-in-Case
+command_of-returns-in_ok-last-in-Case t c =
+    let ps = makers c.args.earlier.now in
+    let command = c.args.command.now in
+    let instance = c.args.instance.now in
+    let made = c.args.made.now in
+    let parts =
+    with_last (map (maker_of_labelled ps) c.in-Case.arms) (option_map (maker_of ps) c.in-Case.last) instance made c.labelled_of.new.made c.last_of-in-Case.new.made
+    c.in_ok-arms-in-Case.arms c.in_ok-last-in-Case.last
+    (rw c.as_slice-in-Case.ensures at c.in_ok-arms-in-Case.ensures.tree) (rw c.as_slice-in-Case.ensures at c.in_ok-arms-in-Case.ensures.made)
+    c.in_ok-last-in-Case.ensures.tree c.in_ok-last-in-Case.ensures.made in
+    let is =
+    made_around {X = List tree_labelled.Labelled × Option Command} command.line (λ r. action.Case (expression_in instance c.in-Case.subject) r.0 r.1) (c.in_ok-arms-in-Case.arms, c.in_ok-last-in-Case.last) c.last_of-in-Case.new.made
+    (arms_and_last (map (maker_of_labelled ps) c.in-Case.arms) (option_map (maker_of ps) c.in-Case.last) instance made) (maker_of ps command instance made) parts
+    (case_makes ps command instance made c.in-Case.subject c.in-Case.arms c.in-Case.last (sym c.get.ensures ∙ c.in-Case.is)) in
+    record { tree = answers_tree c.case_command.result _ _ _ is c.case_command.ensures; made = answers_made c.case_command.result _ _ _ is }
+
+pub command_of-returns-in-Continue : goal.command_of-returns-in-Continue
+command_of-returns-in-Continue t c =
+    let is = continue_makes (makers c.args.earlier.now) c.args.command.now c.args.instance.now c.args.made.now (sym c.get.ensures ∙ c.in-Continue.is) in
+    record { tree = answers_tree c.continue_command.result _ _ _ is c.continue_command.ensures; made = answers_made c.continue_command.result _ _ _ is }
+
+pub command_of-returns-in-Halt : goal.command_of-returns-in-Halt
+command_of-returns-in-Halt t c =
+    let is = halt_makes (makers c.args.earlier.now) c.args.command.now c.args.instance.now c.args.made.now (sym c.get.ensures ∙ c.in-Halt.is) in
+    record { tree = answers_tree c.halt_command.result _ _ _ is c.halt_command.ensures; made = answers_made c.halt_command.result _ _ _ is }
+
+pub command_of-returns-in-Assign : goal.command_of-returns-in-Assign
+command_of-returns-in-Assign t c =
+    let is = assign_makes (makers c.args.earlier.now) c.args.command.now c.args.instance.now c.args.made.now c.in-Assign.variable c.in-Assign.width c.in-Assign.value (sym c.get.ensures ∙ c.in-Assign.is) in
+    record { tree = answers_tree c.assign_command.result _ _ _ is c.assign_command.ensures; made = answers_made c.assign_command.result _ _ _ is }
+
+pub command_of-returns-in-Send : goal.command_of-returns-in-Send
+command_of-returns-in-Send t c =
+    let is = send_makes (makers c.args.earlier.now) c.args.command.now c.args.instance.now c.args.made.now c.in-Send.channel c.in-Send.width c.in-Send.value (sym c.get.ensures ∙ c.in-Send.is) in
+    record { tree = answers_tree c.send_command.result _ _ _ is c.send_command.ensures; made = answers_made c.send_command.result _ _ _ is }
+
+pub command_of-returns-in-Receive : goal.command_of-returns-in-Receive
+command_of-returns-in-Receive t c =
+    let is = receive_makes (makers c.args.earlier.now) c.args.command.now c.args.instance.now c.args.made.now c.in-Receive.channel c.in-Receive.variable (sym c.get.ensures ∙ c.in-Receive.is) in
+    record { tree = answers_tree c.receive_command.result _ _ _ is c.receive_command.ensures; made = answers_made c.receive_command.result _ _ _ is }
+
+pub command_of-returns-in-Sync : goal.command_of-returns-in-Sync
+command_of-returns-in-Sync t c =
+    let is = sync_makes (makers c.args.earlier.now) c.args.command.now c.args.instance.now c.args.made.now c.in-Sync.channel (sym c.get.ensures ∙ c.in-Sync.is) in
+    record { tree = answers_tree c.sync_command.result _ _ _ is c.sync_command.ensures; made = answers_made c.sync_command.result _ _ _ is }
