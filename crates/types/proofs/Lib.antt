@@ -16,4 +16,5 @@ mod Owed
 mod PartsFound
 mod Staying
 mod StaysRight
+mod Turns
 mod TypingLaws

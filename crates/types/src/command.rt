@@ -370,10 +370,29 @@ fn settled_labelled(
         made.own ≡ owed.labels_owed width [] (Ok tt) (map (owed.labels_of (scope_of scope.now) opened.now) arms.now)) }
 {
     let mut seen = IndexSet::new(alloc);
+    labelled_behind(alloc, scope, opened, width, arms, &mut seen)
+}
+
+/// The same, where these values were seen before. (It only borrows them, so that no early end drops them.)
+#[cycle(settled_command)]
+fn labelled_behind(
+    alloc: Global,
+    scope: &Scope,
+    opened: &[Binding],
+    width: u8,
+    arms: &[syntax::CaseArm],
+    seen: &mut IndexSet<u64>,
+) -> Result<Arms<Labelled>, AllocError>
+    ensures arms { IfOk result (λ made.
+        made.arms ≡ findings.all least (map (owed.labelled_arm (scope_of scope.now) opened.now) arms.now)) }
+    ensures own { IfOk result (λ made.
+        made.own
+        ≡ owed.labels_owed width seen.old.keys (Ok tt) (map (owed.labels_of (scope_of scope.now) opened.now) arms.now)) }
+{
     let mut settled = Ok(Items::with_capacity(alloc, arms.len())?);
     let mut own = Ok(());
     for arm in arms {
-        let (next, owed) = settled_labelled_arm(alloc, scope, opened, width, arm, &mut seen)?;
+        let (next, owed) = settled_labelled_arm(alloc, scope, opened, width, arm, seen)?;
         settled = with_next(settled, next)?;
         own = and(own, owed);
     }

@@ -1,4 +1,4 @@
-use Rattle.std.proofs.Common.{◌≡◌, [], drop, map, Ok}
+use Rattle.std.proofs.Common.{◌≡◌, drop, map, Ok}
 use Rattle.types.specs.Commands.{judged_command, each}
 use Rattle.types.specs.Findings.{with_all, all, and_all, demands}
 use Rattle.types.specs.internal.CommandParts.{judged_arm}
@@ -23,12 +23,12 @@ invariant-settled_guarded-loop-arm l = record {
 }
 
 -- with the arms that are left, those so far are all, and so is what their labels owe
-abbrev pub invariant-settled_labelled-loop-arm : goal.invariant-settled_labelled-loop-arm
-invariant-settled_labelled-loop-arm l = record {
+abbrev pub invariant-labelled_behind-loop-arm : goal.invariant-labelled_behind-loop-arm
+invariant-labelled_behind-loop-arm l = record {
   arms : with_all least l.settled (map (labelled_arm (scope_of l.scope) l.opened) (drop l.arm-index l.arms))
       ≡ all least (map (labelled_arm (scope_of l.scope) l.opened) l.arms);
   own : labels_owed l.width l.seen.keys l.own (map (labels_of (scope_of l.scope) l.opened) (drop l.arm-index l.arms))
-      ≡ labels_owed l.width [] (Ok tt) (map (labels_of (scope_of l.scope) l.opened) l.arms);
+      ≡ labels_owed l.width l.fn.seen.keys (Ok tt) (map (labels_of (scope_of l.scope) l.opened) l.arms);
 }
 
 -- with the arms that are left, those so far are all
