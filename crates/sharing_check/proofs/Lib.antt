@@ -15,3 +15,4 @@ mod NoClash
 mod TableClashes
 mod TableSteps
 mod TouchTables
+mod Turns

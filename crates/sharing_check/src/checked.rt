@@ -57,6 +57,20 @@ impl Checked {
     }
 }
 
+/// Refuses a system that does not keep the rule on sharing.
+fn refuse(alloc: Global, system: &System) -> Result<(), Fault>
+    ensures accepted { OnOk result (Accepts system.now) }
+    ensures refused { IfErr result (λ fault. Refuses system.now fault) }
+{
+    if let Some(offset) = least_clash(alloc, system)? {
+        return Err(Fault::SharedVariable(offset));
+    }
+    if let Some(offset) = least_passing(alloc, system)? {
+        return Err(Fault::SharedChannel(offset));
+    }
+    Ok(())
+}
+
 /// The system, where it keeps the rule on sharing.
 ///
 /// # Errors
@@ -71,12 +85,7 @@ pub fn check_sharing(alloc: Global, system: System) -> Result<Checked, Fault>
     ensures accepted { OnOk result (Accepts system) }
     ensures refused { IfErr result (λ fault. Refuses system fault) }
 {
-    if let Some(offset) = least_clash(alloc, &system)? {
-        return Err(Fault::SharedVariable(offset));
-    }
-    if let Some(offset) = least_passing(alloc, &system)? {
-        return Err(Fault::SharedChannel(offset));
-    }
+    refuse(alloc, &system)?;
     let system = Arc::new(alloc, system)?;
     Ok(Checked { system })
 }

@@ -274,11 +274,28 @@ fn of_branches(alloc: Global, children: &[Command]) -> Result<Widths, AllocError
 {
     let mut widths = Widths::new(alloc);
     let mut branch = Widths::new(alloc);
-    for child in children {
-        put_command(alloc, child, &mut branch)?;
-        widths.merge(Together::InBranches, &mut branch)?;
-    }
+    add_branches(alloc, children, &mut widths, &mut branch)?;
     Ok(widths)
+}
+
+/// Adds the uses of the children of a parallel, each beside those before it, by way of a table that has none. (It only
+/// borrows both, so that no early end drops them.)
+#[cycle(widths)]
+fn add_branches(
+    alloc: Global,
+    children: &[Command],
+    widths: &mut Widths,
+    branch: &mut Widths,
+) -> Result<(), AllocError>
+    requires { model.table_of_widths branch.old ≡ model.nothing }
+    ensures { OnOk result (model.table_of_widths widths.new
+        ≡ model.side_by_side (model.table_of_widths widths.old) (map residual_of children.now)) }
+{
+    for child in children {
+        put_command(alloc, child, branch)?;
+        widths.merge(Together::InBranches, branch)?;
+    }
+    Ok(())
 }
 
 /// Puts the uses of a command into a table that has none.

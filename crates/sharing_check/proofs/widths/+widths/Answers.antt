@@ -12,8 +12,9 @@ use Rattle.system.specs.Residual as residual
 use Rattle.system.specs.Translation.{expression_of, residual_of, in_sequence, in_parallel, if_of, case_of, choose_of}
 use Rattle.system.specs.internal.ArmParts.{guarded_of, labelled_of, arm_of}
 use Rattle.sharing_check.specs.declared.widths.Together.TheVariants.{InOneBranch}
-use Rattle.sharing_check.specs.internal.Counting.{Table, nothing, table_of_widths, join, adding, in_turn, last_in_turn, arms_in_turn, side_by_side}
+use Rattle.sharing_check.specs.internal.Counting.{Table, nothing, table_of_widths, join, adding, in_turn, last_in_turn, arms_in_turn, receive, side_by_side, uses}
 use Rattle.sharing_check.proofs.CountParts.{used_by_send, used_by_receive, used_by_sync, adding_test, adding_input, adding_sequence, used_by_parallel, adding_done, adding_halted, adding_assign, adding_choose, used_by_loop, used_by_while}
+use Rattle.sharing_check.proofs.Turns.{counted_more, body_more, opened_more, branch_more, guarded_body, labelled_body, arm_body, arm_channel}
 use Rattle.sharing_check.proofs.widths.+widths.Goals as goal
 
 -- a command that uses no channel
@@ -143,3 +144,45 @@ add_command-returns-in_ok-branches-in-Parallel t c =
     ∙ (ap (λ cs. side_by_side nothing (map residual_of cs)) c.as_slice-in-Parallel.ensures ∙ sym (used_by_parallel 0 children)))
     ∙ sym (ap (λ r. adding before r) is))
     c.merge.ensures.merged
+
+pub add_commands-loop-command-preserved : goal.add_commands-loop-command-preserved
+add_commands-loop-command-preserved t c =
+    counted_more c.args.commands.now c.loop-command.command-index c.command-item.result c.loop-command-test.true c.command-item.is
+    residual_of (table_of_widths c.loop-command.widths) (table_of_widths c.add_command.new.widths) c.in_ok-add_command.ensures
+    ∙ c.loop-command.invariant
+
+pub add_guarded-loop-arm-preserved : goal.add_guarded-loop-arm-preserved
+add_guarded-loop-arm-preserved t c =
+    let before = table_of_widths c.loop-arm.widths in
+    body_more c.args.arms.now c.loop-arm.arm-index c.arm-item.result c.loop-arm-test.true c.arm-item.is
+    guarded_of (λ a. a.body) before (table_of_widths c.add_command.new.widths)
+    (c.in_ok-add_command.ensures ∙ ap (adding before) (guarded_body c.arm-item.result))
+    ∙ c.loop-arm.invariant
+
+pub add_labelled-loop-arm-preserved : goal.add_labelled-loop-arm-preserved
+add_labelled-loop-arm-preserved t c =
+    let before = table_of_widths c.loop-arm.widths in
+    body_more c.args.arms.now c.loop-arm.arm-index c.arm-item.result c.loop-arm-test.true c.arm-item.is
+    labelled_of (λ a. a.body) before (table_of_widths c.add_command.new.widths)
+    (c.in_ok-add_command.ensures ∙ ap (adding before) (labelled_body c.arm-item.result))
+    ∙ c.loop-arm.invariant
+
+pub add_arms-loop-arm-preserved : goal.add_arms-loop-arm-preserved
+add_arms-loop-arm-preserved t c =
+    let before = table_of_widths c.loop-arm.widths in
+    let opened = table_of_widths c.add.new.self in
+    opened_more c.args.arms.now c.loop-arm.arm-index c.arm-item.result c.loop-arm-test.true c.arm-item.is
+    arm_of before opened (table_of_widths c.add_command.new.widths)
+    (c.in_ok-add.ensures ∙ ap (λ channel. join InOneBranch before (uses channel receive)) (arm_channel c.arm-item.result))
+    (c.in_ok-add_command.ensures ∙ ap (adding opened) (arm_body c.arm-item.result))
+    ∙ c.loop-arm.invariant
+
+pub add_branches-loop-child-preserved : goal.add_branches-loop-child-preserved
+add_branches-loop-child-preserved t c = record {
+  both =
+      branch_more c.args.children.now c.loop-child.child-index c.child-item.result c.loop-child-test.true c.child-item.is
+      residual_of (table_of_widths c.loop-child.widths) (table_of_widths c.put_command.new.widths) (table_of_widths c.merge.new.self)
+      c.in_ok-put_command.ensures c.in_ok-merge.ensures.merged
+      ∙ c.loop-child.invariant.both;
+  empty = c.in_ok-merge.ensures.emptied;
+}

@@ -23,8 +23,9 @@ abbrev pub invariant-add_arms-loop-arm : goal.invariant-add_arms-loop-arm
 invariant-add_arms-loop-arm l =
     arms_in_turn (table_of_widths l.widths) (map arm_of (drop l.arm-index l.arms)) ≡ arms_in_turn (table_of_widths l.initial.widths) (map arm_of l.arms)
 
-abbrev pub invariant-of_branches-loop-child : goal.invariant-of_branches-loop-child
-invariant-of_branches-loop-child l = record {
-  both : side_by_side (table_of_widths l.widths) (map residual_of (drop l.child-index l.children)) ≡ side_by_side nothing (map residual_of l.children);
+abbrev pub invariant-add_branches-loop-child : goal.invariant-add_branches-loop-child
+invariant-add_branches-loop-child l = record {
+  both : side_by_side (table_of_widths l.widths) (map residual_of (drop l.child-index l.children))
+      ≡ side_by_side (table_of_widths l.initial.widths) (map residual_of l.children);
   empty : table_of_widths l.branch ≡ nothing;
 }
