@@ -147,3 +147,6 @@ done-as f p v x told e h = on_ok_weaker told (λ g. g ∙ sym (ap f e)) h
 
 pub told-as : {T E : Type 0} (f : Proc → T) (p v : Proc) (told : Result T E) → p ≡ v → IfOk told (λ x. x ≡ f v) → IfOk told (λ x. x ≡ f p)
 told-as f p v told e h = IfOk-weaker told _ _ (λ x g. g ∙ sym (ap f e)) h
+
+pub so-as : {T E : Type 0} (P : Proc → Type 0) (p v : Proc) (told : Result T E) → p ≡ v → OnOk told (P v) → OnOk told (P p)
+so-as P p v told e h = on_ok_weaker told (λ g. subst P (sym e) g) h
