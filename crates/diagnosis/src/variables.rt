@@ -179,26 +179,65 @@ fn help_for(kind: Kind) -> &'static str {
 
 /// What is wrong with the name of a variable that a system does not have.
 pub fn find(name: &str, source: &[u8], finding: &mut Finding) -> Result<(), AllocError> {
-    let alloc = finding.alloc;
-    let own = own_name(name);
-    let Some(description) = described_by(alloc, source)? else {
-        return finding.say(&["no variable is called `", name, "`"]);
-    };
-    let same = names_with(alloc, source, &description, own)?;
-    if !same.names.is_empty() {
-        finding.say(&["no variable is called `", name, "`"])?;
-        return advise_names(same.names.as_slice(), finding);
+    match described_by(finding.alloc, source)? {
+        Some(description) => find_in(name, source, &description, finding),
+        None => say_unknown(name, finding),
     }
-    if let Some(kind) = other_kind(alloc, source, &description, name)? {
+}
+
+/// The same of the system that a description makes.
+fn find_in(
+    name: &str,
+    source: &[u8],
+    description: &Description,
+    finding: &mut Finding,
+) -> Result<(), AllocError> {
+    let same = names_with(finding.alloc, source, description, own_name(name))?;
+    if same.names.is_empty() {
+        find_other(name, source, description, finding)
+    } else {
+        find_same(name, same.names.as_slice(), finding)
+    }
+}
+
+fn say_unknown(name: &str, finding: &mut Finding) -> Result<(), AllocError> {
+    finding.say(&["no variable is called `", name, "`"])
+}
+
+/// A name that other names of variables end with.
+fn find_same(name: &str, same: &[String], finding: &mut Finding) -> Result<(), AllocError> {
+    say_unknown(name, finding)?;
+    advise_names(same, finding)
+}
+
+/// A name that no name of a variable ends with.
+fn find_other(
+    name: &str,
+    source: &[u8],
+    description: &Description,
+    finding: &mut Finding,
+) -> Result<(), AllocError> {
+    let alloc = finding.alloc;
+    if let Some(kind) = other_kind(alloc, source, description, name)? {
         finding.say(&["`", name, "` is "])?;
         finding.say(&[kind_text(kind), ", and no variable"])?;
         return finding.advise(&[help_for(kind)]);
     }
-    finding.say(&["no variable is called `", name, "`"])?;
-    let Some(near) = nearest_of(alloc, source, &description, own)? else {
-        return finding.advise(&["`balsadbg outline FILE` lists the variables"]);
-    };
-    let names = names_with(alloc, source, &description, near)?;
+    say_unknown(name, finding)?;
+    match nearest_of(alloc, source, description, own_name(name))? {
+        Some(near) => advise_near(near, source, description, finding),
+        None => finding.advise(&["`balsadbg outline FILE` lists the variables"]),
+    }
+}
+
+/// The names that end with the nearest one.
+fn advise_near(
+    near: &str,
+    source: &[u8],
+    description: &Description,
+    finding: &mut Finding,
+) -> Result<(), AllocError> {
+    let names = names_with(finding.alloc, source, description, near)?;
     advise_names(names.names.as_slice(), finding)
 }
 

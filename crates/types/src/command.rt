@@ -387,7 +387,8 @@ fn labelled_behind(
         made.arms ≡ findings.all least (map (owed.labelled_arm (scope_of scope.now) opened.now) arms.now)) }
     ensures own { IfOk result (λ made.
         made.own
-        ≡ owed.labels_owed width seen.old.keys (Ok tt) (map (owed.labels_of (scope_of scope.now) opened.now) arms.now)) }
+        ≡ owed.labels_owed width seen.old.keys (Ok tt)
+        (map (owed.labels_of (scope_of scope.now) opened.now) arms.now)) }
 {
     let mut settled = Ok(Items::with_capacity(alloc, arms.len())?);
     let mut own = Ok(());
