@@ -1,10 +1,13 @@
 -- What is found down along a place.
-use Rattle.std.proofs.Common.{◌≡◌, ◌∙◌, min, length, map, false, true, sym, rules, arith}
+use Rattle.std.proofs.Common.{◌≡◌, ◌∙◌, min, length, map, false, true, refl, sym, rules, arith}
 use Rattle.std.proofs.lemmas.Result.{on_ok_weaker}
 use Rattle.address.specs.declared.Entry.TheVariants.{Ordered}
 use Rattle.process_tree.specs.Proc.{started}
 use Rattle.process_tree.specs.Tidy.{last_moved}
-use Rattle.process_tree.specs.View.{code_view, proc_view, procs_of, repeat_view, decide_view}
+use Rattle.process_tree.specs.View.{code_view, proc_view, procs_of, repeat_view, decide_view, await_view}
+use Rattle.process_tree.proofs.public.Forms.{loop-seen, test-seen, arms-seen, sequence-seen, parallel-seen, turn-seen, opened-seen, so-as}
+use Rattle.local_actions.specs.internal.At.{SameBelow}
+use Rattle.local_actions.specs.internal.Walk.{lists}
 use Rattle.local_actions.proofs.public.Begun.{begun-row, row-at}
 use Rattle.local_actions.proofs.public.Endings.{row-past-at, fresh-got, fresh-none}
 use Rattle.local_actions.proofs.public.GoingDown.{inside, turn-inside, turn-outside, took-inside, took-outside, arm-inside, arm-outside, sequence-inside, sequence-nowhere, sequence-elsewhere, sequence-beside, parallel-inside, parallel-nowhere, parallel-beside, procs-at, procs-end}
@@ -94,3 +97,38 @@ pub turn_down-returns : goal.turn_down-returns
 turn_down-returns t c =
     turn-outside c.args.values.now c.args.cursor.now c.args.place.now c.in_ok-number.number c.args.turn (repeat_view c.args.repeat.now).0 (repeat_view c.args.repeat.now).1 (proc_view c.args.body.now) c.args.over
     c.is_over.result c.requires c.if-over.false c.in_ok-number.ensures.number c.in_default.ensures (c.is_over.ensures.walked c.args.values.now c.args.cursor.now.received) c.if-is_over.false
+
+pub list_down-returns-in-Loop : goal.list_down-returns-in-Loop
+list_down-returns-in-Loop t c =
+    so-as (λ p. SameBelow c.args.cursor.now.place c.args.place.now c.loop_down.new.cursor (lists c.args.values.now p c.args.cursor.now))
+    _ _ c.loop_down.result (loop-seen c.args.proc.now _ c.get.result.now _ _ c.in-Loop.is c.get.ensures refl) c.loop_down.ensures
+
+pub list_down-returns-in-Test : goal.list_down-returns-in-Test
+list_down-returns-in-Test t c =
+    so-as (λ p. SameBelow c.args.cursor.now.place c.args.place.now c.test_down.new.cursor (lists c.args.values.now p c.args.cursor.now))
+    _ _ c.test_down.result (test-seen c.args.proc.now _ c.get-in-Test.result.now _ _ c.in-Test.is c.get-in-Test.ensures refl) c.test_down.ensures
+
+pub list_down-returns-in-Arms : goal.list_down-returns-in-Arms
+list_down-returns-in-Arms t c =
+    so-as (λ p. SameBelow c.args.cursor.now.place c.args.place.now c.arms_down.new.cursor (lists c.args.values.now p c.args.cursor.now))
+    _ _ c.arms_down.result (arms-seen c.args.proc.now _ c.get-in-Arms.result.now _ _ c.in-Arms.is c.get-in-Arms.ensures refl) c.arms_down.ensures
+
+pub list_down-returns-in-Sequence : goal.list_down-returns-in-Sequence
+list_down-returns-in-Sequence t c =
+    so-as (λ p. SameBelow c.args.cursor.now.place c.args.place.now c.sequence_down.new.cursor (lists c.args.values.now p c.args.cursor.now))
+    _ _ c.sequence_down.result (sequence-seen c.args.proc.now _ c.get-in-Sequence.result.now _ c.as_slice.result.now c.in-Sequence.is c.get-in-Sequence.ensures c.as_slice.ensures.value) c.sequence_down.ensures
+
+pub list_down-returns-in-Parallel : goal.list_down-returns-in-Parallel
+list_down-returns-in-Parallel t c =
+    so-as (λ p. SameBelow c.args.cursor.now.place c.args.place.now c.parallel_down.new.cursor (lists c.args.values.now p c.args.cursor.now))
+    _ _ c.parallel_down.result (parallel-seen c.args.proc.now _ c.as_slice-in-Parallel.result.now c.in-Parallel.is c.as_slice-in-Parallel.ensures.value) c.parallel_down.ensures
+
+pub loop_down-returns-in-Turn : goal.loop_down-returns-in-Turn
+loop_down-returns-in-Turn t c =
+    so-as (λ p. SameBelow c.args.cursor.now.place c.args.place.now c.turn_down.new.cursor (lists c.args.values.now p c.args.cursor.now))
+    _ _ c.turn_down.result (turn-seen (repeat_view c.args.repeat.now).0 (repeat_view c.args.repeat.now).1 c.args.turns.now _ _ _ c.deref.result.now c.in-Turn.is c.deref.ensures) c.turn_down.ensures
+
+pub arms_down-returns-in-Opened : goal.arms_down-returns-in-Opened
+arms_down-returns-in-Opened t c =
+    so-as (λ p. SameBelow c.args.cursor.now.place c.args.place.now c.opened_down.new.cursor (lists c.args.values.now p c.args.cursor.now))
+    _ _ c.opened_down.result (opened-seen (await_view c.args.waiting.now).0 (await_view c.args.waiting.now).1 c.args.gate.now _ _ _ _ c.deref.result.now c.in-Opened.is c.deref.ensures) (c.opened_down.ensures (await_view c.args.waiting.now).0 (await_view c.args.waiting.now).1)

@@ -6,8 +6,10 @@ use Rattle.process_tree.specs.Tidy.{last_moved}
 use Rattle.process_tree.specs.Translation.{row_of}
 use Rattle.process_tree.specs.internal.Received.{puts_guard}
 use Rattle.process_tree.specs.View.{code_view, proc_view, procs_of, repeat_view, decide_view, await_view}
-use Rattle.local_actions.specs.internal.Listed.{Listing, again_at, listed_sequence, listed_parallel}
+use Rattle.local_actions.specs.internal.Listed.{Listing, again_at, listed, listed_sequence, listed_parallel}
 use Rattle.local_actions.specs.Walk.{Walk, added}
+use Rattle.local_actions.specs.internal.Walk.{lists}
+use Rattle.process_tree.proofs.public.Forms.{once-seen, sender-seen, loop-seen, test-seen, arms-seen, sequence-seen, parallel-seen, turn-seen, opened-seen, done-as, told-as}
 use Rattle.local_actions.proofs.public.Begun.{begun-row, row-at, row-past}
 use Rattle.local_actions.proofs.public.Passing.{onwards, at-work, beside, one-open, one-over, proc-next, taken-actions, opened-over, turn-again, arm-close, repeat-guard}
 use Rattle.local_actions.proofs.list.+list.Goals as goal
@@ -96,3 +98,71 @@ pub list_opened-returns-in_ok-list_close-clause-actions : goal.list_opened-retur
 list_opened-returns-in_ok-list_close-clause-actions t c = λ ds cs.
     arm-close c.args.values.now c.args.cursor.now c.list_arm.new.cursor c.list_close.new.cursor ds cs c.args.channel c.args.value (proc_view c.args.body.now) c.args.over
     c.in_ok-list_arm.field-0 c.if-over.false c.in_ok-list_arm.ensures.actions c.in_ok-list_arm.ensures.over c.if-branch.true c.in_ok-list_close.ensures
+
+pub list-returns-in-Once-clause-actions : goal.list-returns-in-Once-clause-actions
+list-returns-in-Once-clause-actions t c =
+    done-as (λ p. lists c.args.values.now p c.args.cursor.now) _ _ _ c.list_unmade.result (once-seen c.args.proc.now _ c.get.result.now _ c.in-Once.is c.get.ensures) c.list_unmade.ensures.actions
+
+pub list-returns-in-Once-clause-over : goal.list-returns-in-Once-clause-over
+list-returns-in-Once-clause-over t c =
+    told-as (λ p. (listed c.args.values.now c.args.cursor.now.received p).over) _ _ c.list_unmade.result (once-seen c.args.proc.now _ c.get.result.now _ c.in-Once.is c.get.ensures) c.list_unmade.ensures.over
+
+pub list-returns-in-Sender-clause-actions : goal.list-returns-in-Sender-clause-actions
+list-returns-in-Sender-clause-actions t c =
+    done-as (λ p. lists c.args.values.now p c.args.cursor.now) _ _ _ c.list_phase.result (sender-seen c.args.proc.now _ c.get-in-Sender.result.now _ c.in-Sender.is c.get-in-Sender.ensures) c.list_phase.ensures.actions
+
+pub list-returns-in-Sender-clause-over : goal.list-returns-in-Sender-clause-over
+list-returns-in-Sender-clause-over t c =
+    told-as (λ p. (listed c.args.values.now c.args.cursor.now.received p).over) _ _ c.list_phase.result (sender-seen c.args.proc.now _ c.get-in-Sender.result.now _ c.in-Sender.is c.get-in-Sender.ensures) c.list_phase.ensures.over
+
+pub list-returns-in-Loop-clause-actions : goal.list-returns-in-Loop-clause-actions
+list-returns-in-Loop-clause-actions t c =
+    done-as (λ p. lists c.args.values.now p c.args.cursor.now) _ _ _ c.list_loop.result (loop-seen c.args.proc.now _ c.get-in-Loop.result.now _ _ c.in-Loop.is c.get-in-Loop.ensures refl) c.list_loop.ensures.actions
+
+pub list-returns-in-Loop-clause-over : goal.list-returns-in-Loop-clause-over
+list-returns-in-Loop-clause-over t c =
+    told-as (λ p. (listed c.args.values.now c.args.cursor.now.received p).over) _ _ c.list_loop.result (loop-seen c.args.proc.now _ c.get-in-Loop.result.now _ _ c.in-Loop.is c.get-in-Loop.ensures refl) c.list_loop.ensures.over
+
+pub list-returns-in-Test-clause-actions : goal.list-returns-in-Test-clause-actions
+list-returns-in-Test-clause-actions t c =
+    done-as (λ p. lists c.args.values.now p c.args.cursor.now) _ _ _ c.list_tested.result (test-seen c.args.proc.now _ c.get-in-Test.result.now _ _ c.in-Test.is c.get-in-Test.ensures refl) c.list_tested.ensures.actions
+
+pub list-returns-in-Test-clause-over : goal.list-returns-in-Test-clause-over
+list-returns-in-Test-clause-over t c =
+    told-as (λ p. (listed c.args.values.now c.args.cursor.now.received p).over) _ _ c.list_tested.result (test-seen c.args.proc.now _ c.get-in-Test.result.now _ _ c.in-Test.is c.get-in-Test.ensures refl) c.list_tested.ensures.over
+
+pub list-returns-in-Arms-clause-actions : goal.list-returns-in-Arms-clause-actions
+list-returns-in-Arms-clause-actions t c =
+    done-as (λ p. lists c.args.values.now p c.args.cursor.now) _ _ _ c.list_gate.result (arms-seen c.args.proc.now _ c.get-in-Arms.result.now _ _ c.in-Arms.is c.get-in-Arms.ensures refl) c.list_gate.ensures.actions
+
+pub list-returns-in-Arms-clause-over : goal.list-returns-in-Arms-clause-over
+list-returns-in-Arms-clause-over t c =
+    told-as (λ p. (listed c.args.values.now c.args.cursor.now.received p).over) _ _ c.list_gate.result (arms-seen c.args.proc.now _ c.get-in-Arms.result.now _ _ c.in-Arms.is c.get-in-Arms.ensures refl) c.list_gate.ensures.over
+
+pub list-returns-in-Sequence-clause-actions : goal.list-returns-in-Sequence-clause-actions
+list-returns-in-Sequence-clause-actions t c =
+    done-as (λ p. lists c.args.values.now p c.args.cursor.now) _ _ _ c.list_sequence.result (sequence-seen c.args.proc.now _ c.get-in-Sequence.result.now _ c.as_slice.result.now c.in-Sequence.is c.get-in-Sequence.ensures c.as_slice.ensures.value) c.list_sequence.ensures.actions
+
+pub list-returns-in-Sequence-clause-over : goal.list-returns-in-Sequence-clause-over
+list-returns-in-Sequence-clause-over t c =
+    told-as (λ p. (listed c.args.values.now c.args.cursor.now.received p).over) _ _ c.list_sequence.result (sequence-seen c.args.proc.now _ c.get-in-Sequence.result.now _ c.as_slice.result.now c.in-Sequence.is c.get-in-Sequence.ensures c.as_slice.ensures.value) c.list_sequence.ensures.over
+
+pub list-returns-in-Parallel-clause-actions : goal.list-returns-in-Parallel-clause-actions
+list-returns-in-Parallel-clause-actions t c =
+    done-as (λ p. lists c.args.values.now p c.args.cursor.now) _ _ _ c.list_parallel.result (parallel-seen c.args.proc.now _ c.as_slice-in-Parallel.result.now c.in-Parallel.is c.as_slice-in-Parallel.ensures.value) c.list_parallel.ensures.actions
+
+pub list-returns-in-Parallel-clause-over : goal.list-returns-in-Parallel-clause-over
+list-returns-in-Parallel-clause-over t c =
+    told-as (λ p. (listed c.args.values.now c.args.cursor.now.received p).over) _ _ c.list_parallel.result (parallel-seen c.args.proc.now _ c.as_slice-in-Parallel.result.now c.in-Parallel.is c.as_slice-in-Parallel.ensures.value) c.list_parallel.ensures.over
+
+pub list_loop-returns-in-Turn-clause-actions : goal.list_loop-returns-in-Turn-clause-actions
+list_loop-returns-in-Turn-clause-actions t c =
+    done-as (λ p. lists c.args.values.now p c.args.cursor.now) _ _ _ c.list_turn.result (turn-seen (repeat_view c.args.repeat.now).0 (repeat_view c.args.repeat.now).1 c.args.turns.now _ _ _ c.deref.result.now c.in-Turn.is c.deref.ensures) c.list_turn.ensures.actions
+
+pub list_loop-returns-in-Turn-clause-over : goal.list_loop-returns-in-Turn-clause-over
+list_loop-returns-in-Turn-clause-over t c =
+    told-as (λ p. (listed c.args.values.now c.args.cursor.now.received p).over) _ _ c.list_turn.result (turn-seen (repeat_view c.args.repeat.now).0 (repeat_view c.args.repeat.now).1 c.args.turns.now _ _ _ c.deref.result.now c.in-Turn.is c.deref.ensures) c.list_turn.ensures.over
+
+pub list_gate-returns-in-Opened-clause-actions : goal.list_gate-returns-in-Opened-clause-actions
+list_gate-returns-in-Opened-clause-actions t c =
+    done-as (λ p. lists c.args.values.now p c.args.cursor.now) _ _ _ c.list_opened.result (opened-seen (await_view c.args.waiting.now).0 (await_view c.args.waiting.now).1 c.args.gate.now _ _ _ _ c.deref.result.now c.in-Opened.is c.deref.ensures) (c.list_opened.ensures.actions (await_view c.args.waiting.now).0 (await_view c.args.waiting.now).1)
