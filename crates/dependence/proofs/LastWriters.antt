@@ -14,7 +14,7 @@ use Rattle.dependence.proofs.public.ListPlaces.{in-at, index-in, at-one}
 use Rattle.dependence.proofs.public.Standing.{index-rises}
 
 -- the entry at the last index has the greatest ticket
-last-is-greatest : (l : Live) (t : ℕ) (e : Event) → IsRising l → slice_get l (length l - 1) ≡ Some (t, e) → (u : ℕ) (f : Event) → LiveAt l u f → u ≤ t
+pub last-is-greatest : (l : Live) (t : ℕ) (e : Event) → IsRising l → slice_get l (length l - 1) ≡ Some (t, e) → (u : ℕ) (f : Event) → LiveAt l u f → u ≤ t
 last-is-greatest l t e r at u f i =
     let there = index-in l (u, f) i in
     let inside : there.0 < length l = slice_get_within l there.0 (u, f) there.1 in

@@ -9,6 +9,7 @@ mod FromIndex
 mod Keeping
 mod LastWriters
 mod ListedLaws
+mod NoMarks
 mod ShownStates
 mod Sweeps
 mod TakenMarked

@@ -60,7 +60,7 @@ impl Live {
             alloc,
             list: LiveList::new(alloc),
             marks: Vec::new(alloc),
-            first_marked: 0,
+            first_marked: u64::MAX,
             tables: Tables::new(alloc),
         }
     }
@@ -254,7 +254,13 @@ impl Live {
         ensures live { WithoutTickets (λ t. t ≡ ticket) self.old.live self.new.live }
         ensures marked { Without (λ t. t ≡ ticket) self.old.marked self.new.marked }
     {
-        take_event(&mut self.list, &mut self.marks, &mut self.tables, ticket)
+        take_event(
+            &mut self.list,
+            &mut self.marks,
+            &mut self.tables,
+            self.first_marked,
+            ticket,
+        )
     }
 
     /// Takes out what stands beside a marked event, of items that stand beside the live events at the same indexes.
@@ -277,6 +283,7 @@ impl Live {
             &mut self.list,
             &mut self.marks,
             &mut self.tables,
-        )
+        );
+        self.first_marked = u64::MAX;
     }
 }

@@ -1,5 +1,6 @@
 // Marks on the events that depend on one.
 ghost use Rattle.std.specs.Prelude.{◌≡◌, ◌+◌, ◌<◌, ◌≤◌, ◌⊎◌, ◌↔◌, ℕ, [], length, drop, true, false, Some, slice_get, MatchOption, IfOk};
+ghost use Rattle.std.specs.List.{remove};
 ghost use Rattle.syntax.specs.Lists.{In};
 ghost use Rattle.system.specs.Expression.{is_in};
 ghost use Rattle.runs.specs.Live.{ConsequencesList, IsLive};
@@ -118,6 +119,19 @@ fn mark_all(list: &LiveList, base: usize, marks: &mut [bool], tickets: &[u64])
     for ticket in tickets {
         let index = list.index_of_live(*ticket) - base;
         marks[index] = true;
+    }
+}
+
+/// Takes out the mark at this index. Where none is set that is as good as to take out the last, and no mark moves.
+pub(crate) fn remove_mark(marks: &mut Vec<bool>, index: usize, unmarked: bool)
+    requires within { index < length marks.old.items }
+    requires none { unmarked ≡ true → UnmarkedTo marks.old.items (length marks.old.items) }
+    ensures { marks.new.items ≡ remove marks.old.items index }
+{
+    if unmarked {
+        marks.pop();
+    } else {
+        marks.remove(index);
     }
 }
 

@@ -1,11 +1,12 @@
 // The tables as one: what is asked of them, an event more, an event less.
-ghost use Rattle.std.specs.Prelude.{◌≡◌, ◌<◌, ◌++◌, ◌∷◌, [], ℕ, vec_len, MatchOption, IfOk, IfErr, OnOk, OnErr};
+ghost use Rattle.std.specs.Prelude.{◌≡◌, ◌<◌, ◌++◌, ◌∷◌, [], ℕ, true, vec_len, MatchOption, IfOk, IfErr, OnOk, OnErr};
 ghost use Rattle.std.specs.Vec.{vec_capacity};
 ghost use Rattle.runs.specs.Dependence.{Without};
 ghost use Rattle.runs.specs.Live.{Rising, LiveAt, NoDependent, FirstDependent, WithoutTickets, IsLive, LastWriter, NoWriter};
 ghost use Rattle.dependence.specs.Behind.{ComesBehind};
 ghost use Rattle.dependence.specs.Followers.{ListsFollowers, ListsLeads};
 ghost use Rattle.dependence.specs.Shown.{tickets_marked};
+ghost use Rattle.dependence.specs.internal.Marking.{NoneLess};
 ghost use Rattle.dependence.specs.internal.Tables.{IsRising, Linked};
 ghost use Rattle.dependence.specs.internal.Tabled.{IsTabled, TablesOf, MoreTables};
 ghost use Rattle.dependence.specs.internal.Whole.{IsWhole, IsEntered};
@@ -14,6 +15,7 @@ use crate::accesses::NewEvent;
 use crate::entries::{leads_of, make_room, push_event, take_out};
 use crate::links::link_all;
 use crate::live_list::LiveList;
+use crate::marks::remove_mark;
 use crate::puts::put_places;
 use crate::tables::Tables;
 use runs::{Event, writes};
@@ -135,14 +137,17 @@ fn enter(
     Ok(leads)
 }
 
-/// Takes out the live event of this ticket, on which no other live event depends, with its mark.
+/// Takes out the live event of this ticket, on which no other live event depends, with its mark. No event of a ticket
+/// less than `first` is marked.
 pub(crate) fn take_event(
     list: &mut LiveList,
     marks: &mut Vec<bool>,
     tables: &mut Tables,
+    first: u64,
     ticket: u64,
 ) -> Event
     requires whole { IsWhole list.old.live list.old.links marks.old.items }
+    requires lower { NoneLess list.old.live marks.old.items first }
     requires tabled { IsTabled list.old.live tables.old }
     requires live { IsLive list.old.live ticket }
     requires alone { NoDependent list.old.live ticket }
@@ -154,8 +159,20 @@ pub(crate) fn take_event(
         (λ t. t
         ≡ ticket) (tickets_marked list.old.live marks.old.items) (tickets_marked list.new.live marks.new.items) }
 {
+    let unmarked = are_lesser(list, first);
     let (index, event) = take_out(list, ticket);
     tables.remove(ticket, &event);
-    marks.remove(index);
+    remove_mark(marks, index, unmarked);
     event
+}
+
+/// Whether all live events are of lesser tickets.
+fn are_lesser(list: &LiveList, ticket: u64) -> bool
+    requires { IsRising list.now.live }
+    ensures { result ≡ true → (t : ℕ) (e : Event) → LiveAt list.now.live t e → t < ticket }
+{
+    match list.last() {
+        Some((last, _)) => last < ticket,
+        None => true,
+    }
 }

@@ -8,6 +8,7 @@ use Rattle.dependence.proofs.live.Live.take.Goals as goal
 pub take_event-requires : goal.take_event-requires
 take_event-requires c = record {
   whole = c.self.invariant.0;
+  lower = c.self.invariant.2;
   tabled = c.self.invariant.1;
   live = subst (λ (s : Shown). IsLive s.live c.args.ticket) (sym c.self.view_is) c.requires.live;
   alone = subst (λ (s : Shown). NoDependent s.live c.args.ticket) (sym c.self.view_is) c.requires.alone;
