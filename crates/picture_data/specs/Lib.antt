@@ -1,4 +1,5 @@
 pub mod Lines
+pub mod Prefix
 pub mod Shown
 pub mod Spots
 pub mod Wanted
