@@ -1,5 +1,4 @@
 pub mod Lines
-pub mod Prefix
 pub mod Shown
 pub mod Spots
 pub mod Wanted
