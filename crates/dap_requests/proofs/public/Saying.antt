@@ -173,19 +173,19 @@ pub says_end : (a m b : Answer) (before ms : Members) (code : ℕ) → Puts befo
     b.lacks ≡ false → SaysEnd code b
 says_end a m b before ms code put h whole k full = elim k.events [
   | inl ended ↦
-    let kept : m.lacks ≡ false = sym ended.1 ∙ full in
-    elim h.events [
-      | inl exited ↦ (
-        a.notes.items,
-        m.notes.items,
-        object (members_view ms.made.entries),
-        exited.0,
-        ended.0,
-        ap (λ (found : Option Data). option_and_then as_u64 (option_and_then as_number found))
-            (has_put before ms (codes "exitCode") (number (unsigned code)) put (whole kept)),
-      )
-      | inr none ↦ let no : true ≡ false = sym none.1 ∙ kept in absurd (cc)
-    ]
+      let kept : m.lacks ≡ false = sym ended.1 ∙ full in
+      elim h.events [
+        | inl exited ↦ (
+          a.notes.items,
+          m.notes.items,
+          object (members_view ms.made.entries),
+          exited.0,
+          ended.0,
+          ap (λ (found : Option Data). option_and_then as_u64 (option_and_then as_number found))
+              (has_put before ms (codes "exitCode") (number (unsigned code)) put (whole kept)),
+        )
+        | inr none ↦ let no : true ≡ false = sym none.1 ∙ kept in absurd (cc)
+      ]
   | inr none ↦ let no : true ≡ false = sym none.1 ∙ full in absurd (cc)
 ]
 
