@@ -3,9 +3,8 @@ ghost use Rattle.std.specs.Prelude.{ℕ, ◌≡◌, ◌⊎◌, true, false};
 ghost use Rattle.dap_messages.specs.Notes.{IsRefusal};
 ghost use Rattle.dap_moves.specs.Led.{Led};
 ghost use Rattle.dap_messages.specs.declared.told.Stop.{Stop as Stopped};
-ghost use Rattle.dap_requests.specs.Forth.{RunsFree};
-ghost use Rattle.dap_requests.specs.Said.{TellsEnd, TellsStop};
-ghost use Rattle.dap.specs.Begins.{Begins, Starts, begun};
+ghost use Rattle.dap_requests.specs.Said.{SaysEnd, TellsEnd, TellsStop};
+ghost use Rattle.dap.specs.Begins.{Begins, RunsToEnd, Starts, begun, exit_code};
 
 use crate::launch::Launched;
 use dap_messages::{Answer, Members, Stop, Told};
@@ -85,7 +84,7 @@ fn entry_text(machine: &Machine) -> &'static str {
 /// Runs to the end, and tells that it is over.
 fn begin_free(alloc: Global, desk: &mut Desk, program: &Program, answer: &mut Answer)
     ensures led { Led desk.old desk.new }
-    ensures runs { RunsFree program.now.launch.most desk.old desk.new }
+    ensures runs { RunsToEnd program.now desk.old desk.new answer.new }
     ensures ends { TellsEnd answer.old answer.new }
 {
     let is_well = run_free(alloc, desk, program, answer);
@@ -93,13 +92,16 @@ fn begin_free(alloc: Global, desk: &mut Desk, program: &Program, answer: &mut An
 }
 
 /// The code with which a run ends that nobody debugs.
-fn exit_code(is_well: bool) -> u64 {
+fn exit_code(is_well: bool) -> u64
+    ensures { result ≡ exit_code is_well }
+{
     if is_well { 0 } else { 1 }
 }
 
 /// Tells that it is over, with this code.
 fn tell_end(alloc: Global, code: u64, answer: &mut Answer)
-    ensures { TellsEnd answer.old answer.new }
+    ensures ends { TellsEnd answer.old answer.new }
+    ensures says { answer.new.lacks ≡ false → SaysEnd code answer.new }
 {
     let mut body = Members::new(alloc);
     body.number("exitCode", code);

@@ -20,7 +20,13 @@ Puts before name d after =
     after.lacks ≡ false →
     (before.lacks ≡ false) × (members_view after.made.entries ≡ put name d (members_view before.made.entries))
 
--- an object is put behind the items of a list, where there was memory for all
+-- an item is put behind those of a list, where there was memory for all
+abbrev pub PushesItem : Listed → Data → Listed → Type 0
+PushesItem before d after =
+    after.lacks ≡ false →
+    (before.lacks ≡ false) × (map view after.made.items ≡ map view before.made.items ++ d ∷ [])
+
+-- so is an object
 abbrev pub Pushes : Listed → Members → Listed → Type 0
 Pushes before ms after =
     after.lacks ≡ false →

@@ -106,6 +106,7 @@ impl Answer {
     pub fn refuse(&mut self, number: u64, words: &str)
         ensures says { Refuses self.old number words.now self.new }
         ensures refused { IsRefusal self.new.outcome }
+        ensures effect { self.new.effect ≡ self.old.effect }
         ensures same { self.new.notes ≡ self.old.notes }
         ensures lacks { self.new.lacks ≡ false → self.old.lacks ≡ false }
     {

@@ -1,12 +1,12 @@
 // Objects and lists of JSON that are being made. Where there is no memory for a part this is kept in mind, and told at
 // the end: so whoever makes a message need not ask after each part.
-ghost use Rattle.std.specs.Prelude.{◌≡◌, [], false, true, IfSome};
+ghost use Rattle.std.specs.Prelude.{◌≡◌, ◌==◌, [], false, length, true, MatchOption};
 ghost use Rattle.std.specs.Option.{option_map};
 ghost use Rattle.serde_json.specs.Data.{array, boolean, no_members, object, string, unsigned};
 ghost use Rattle.serde_json.specs.Data as json;
 ghost use Rattle.serde_json.specs.View.{items_view, members_view, view};
 ghost use Rattle.dap_messages.specs.Arguments.{given, number_named, part_named, text_named};
-ghost use Rattle.dap_messages.specs.Written.{Puts, Pushes};
+ghost use Rattle.dap_messages.specs.Written.{Puts, Pushes, PushesItem};
 
 use serde_json::{Map, Value, push, put};
 use std::alloc::Global;
@@ -96,7 +96,7 @@ impl Members {
 
     /// The object; `None` where there was no memory for a part.
     pub fn into_value(self) -> Option<Value>
-        ensures { IfSome result (λ value. (self.lacks ≡ false)
+        ensures { MatchOption result (self.lacks ≡ true) (λ value. (self.lacks ≡ false)
             × (view value ≡ object (members_view self.made.entries))) }
     {
         let Members {
@@ -144,7 +144,9 @@ impl Listed {
     }
 
     /// Adds a text behind the others.
-    pub fn push_text(&mut self, alloc: Global, text: &str) {
+    pub fn push_text(&mut self, alloc: Global, text: &str)
+        ensures { PushesItem self.old (string text.now) self.new }
+    {
         let added = match Value::try_from_str(alloc, text) {
             Ok(value) => push(&mut self.made, value).is_ok(),
             Err(_) => false,
@@ -162,18 +164,23 @@ impl Listed {
     }
 
     /// How many items there are.
-    pub fn len(&self) -> usize {
+    pub fn len(&self) -> usize
+        ensures { result ≡ length self.now.made.items }
+    {
         self.made.len()
     }
 
     /// Whether there is no item.
-    pub fn is_empty(&self) -> bool {
+    pub fn is_empty(&self) -> bool
+        ensures { result ≡ (length self.now.made.items == 0) }
+    {
         self.made.is_empty()
     }
 
     /// The list; `None` where there was no memory for a part.
     pub fn into_value(self) -> Option<Value>
-        ensures { IfSome result (λ value. (self.lacks ≡ false) × (view value ≡ array (items_view self.made.items))) }
+        ensures { MatchOption result (self.lacks ≡ true) (λ value. (self.lacks ≡ false)
+            × (view value ≡ array (items_view self.made.items))) }
     {
         match self.into_items() {
             Some(items) => Some(Value::Array(items)),
@@ -183,7 +190,7 @@ impl Listed {
 
     /// The items; `None` where there was no memory for a part.
     pub fn into_items(self) -> Option<Vec<Value>>
-        ensures { IfSome result (λ items. (self.lacks ≡ false) × (items ≡ self.made)) }
+        ensures { MatchOption result (self.lacks ≡ true) (λ items. (self.lacks ≡ false) × (items ≡ self.made)) }
     {
         let Listed { made, lacks } = self;
         if lacks { None } else { Some(made) }

@@ -3,7 +3,7 @@ ghost use Rattle.std.specs.Option.{option_map};
 ghost use Rattle.serde_json.specs.Data.{depth, items_depth, members_depth, null};
 ghost use Rattle.serde_json.specs.Find.{get_member};
 ghost use Rattle.serde_json.specs.View.{items_view, members_view, view};
-ghost use Rattle.dap_messages.specs.Arguments.{flag_named, number_named, part_named, text_named};
+ghost use Rattle.dap_messages.specs.Arguments.{flag_named, list_named, number_named, part_named, text_named};
 ghost use Rattle.dap_messages.specs.Requests.{HasHead, HasNoHead, IsOf, IsReadAs, arguments_in, is_request_type};
 
 use crate::kind::{Kind, kind_of};
@@ -82,7 +82,9 @@ impl Request {
     }
 
     /// The argument of this name, where it is a list.
-    pub fn items(&self, name: &str) -> Option<&[Value]> {
+    pub fn items(&self, name: &str) -> Option<&[Value]>
+        ensures { option_map (λ xs. items_view xs.now) result ≡ list_named name.now (view self.now.arguments) }
+    {
         match field(&self.arguments, name)?.as_array() {
             Some(list) => Some(list.as_slice()),
             None => None,

@@ -36,7 +36,7 @@ use Rattle.dap_moves.specs.declared.taken_back.Rewound.{Rewound}
 use Rattle.dap_threads.specs.Threads.{branch_named}
 use Rattle.dap_views.specs.declared.program.Program.{Program}
 use Rattle.dap_requests.specs.Back.{Reverses, ReversesFor, ReversesIn, SeenBehind, StandsBack, stands_behind, stop_back, stop_behind}
-use Rattle.dap_requests.specs.Forth.{AreSeen, Going, IsPlanned, RunsBy, RunsFree, SeenAfter, SeesStep, StepsForth, Takes, alone, stands_at, stop_at, stop_of, target_of}
+use Rattle.dap_requests.specs.Forth.{AreSeen, Going, IsPlanned, RunsBy, RunsFree, SeenAfter, SeesStep, StepsForth, Takes, alone, ends_well, stands_at, stop_at, stop_of, target_of}
 use Rattle.dap_requests.specs.Said.{Runs, TellsOutputs, TellsStop}
 use Rattle.dap_requests.proofs.public.Saying.{runs_on, stops_on}
 
@@ -189,9 +189,10 @@ run_told going k d d' before after a m b ended outputs stops h =
     let there = stands_at k ended in (stop, there, stops_on a m b stop there outputs stops, h)
 
 -- a run that nothing stops
-pub runs_free : (most : ℕ) (d d' : AtDesk) (plan : Plan) (seen kept : List Choice) (ended : Ended) → plan.first ≡ 0 → plan.only ≡ None → plan.lines.now ≡ [] →
-    plan.watched.now ≡ [] → seen ≡ [] → plan.most ≡ most → RunsFrom plan seen d d' ended kept → RunsFree most d d'
-runs_free most d d' plan seen kept ended first only lines watched none within h = record {
+pub runs_free : (most : ℕ) (d d' : AtDesk) (well : Bool) (plan : Plan) (seen kept : List Choice) (ended : Ended) → plan.first ≡ 0 → plan.only ≡ None →
+    plan.lines.now ≡ [] → plan.watched.now ≡ [] → seen ≡ [] → plan.most ≡ most → well ≡ ends_well ended → RunsFrom plan seen d d' ended kept →
+    RunsFree most d d' well
+runs_free most d d' well plan seen kept ended first only lines watched none within ends h = record {
   plan = plan;
   ended = ended;
   first = first;
@@ -201,6 +202,7 @@ runs_free most d d' plan seen kept ended first only lines watched none within h 
   within = within;
   kept = kept;
   runs = subst (λ (cs : List Choice). RunsFrom plan cs d d' ended kept) none h;
+  ends = ends;
 }
 
 -- a body before it

@@ -137,9 +137,14 @@ RunsBy going k d before stop branch d' after =
     GoesFrom going k d before stop branch d' after
     ⊎ ((stop ≡ Stop.Refused 1 going.excepts) × (branch ≡ unwrap_or k 0) × (d' ≡ d) × (after ≡ before))
 
+-- whether no step of a run was refused that ended so
+abbrev pub ends_well : Ended → Bool
+ends_well (Ended.Refused branch why) = false
+ends_well _ = true
+
 -- a run that nobody debugs, from d to d': it begins with the first branch, of all, takes no more steps than these, and
--- neither lines nor what is watched stop it
-pub record RunsFree (most : ℕ) (d d' : AtDesk) : Type 0 where
+-- neither lines nor what is watched stop it; it ends well where no step was refused
+pub record RunsFree (most : ℕ) (d d' : AtDesk) (well : Bool) : Type 0 where
   pub plan : Plan
   pub ended : Ended
   pub first : plan.first ≡ 0
@@ -149,3 +154,4 @@ pub record RunsFree (most : ℕ) (d d' : AtDesk) : Type 0 where
   pub within : plan.most ≡ most
   pub kept : List Choice
   pub runs : RunsFrom plan [] d d' ended kept
+  pub ends : well ≡ ends_well ended

@@ -1,5 +1,5 @@
 -- What an answer tells behind its response.
-use Rattle.std.specs.Prelude.{ℕ, ◌≡◌, ◌+◌, ◌++◌, ◌⊎◌, List, [], ◌∷◌, Some, codes, false}
+use Rattle.std.specs.Prelude.{ℕ, ◌≡◌, ◌+◌, ◌++◌, ◌⊎◌, List, [], ◌∷◌, None, Some, codes, false}
 use Rattle.serde_json.specs.Data.{Data, number, string, unsigned}
 use Rattle.syntax.specs.Lists.{Every}
 use Rattle.runs.specs.declared.event.Choice.{Choice}
@@ -64,6 +64,12 @@ abbrev pub Runs : Answer → Answer → AtDesk → AtDesk → List Choice → Li
 Runs a b d d' before after goes =
     (IsRefusal b.outcome × (b.notes ≡ a.notes) × (d' ≡ d) × (after ≡ before))
     ⊎ ((stop : Stop) × (branch : ℕ) × TellsStop a stop branch b × goes stop branch)
+
+-- the last two events are that the run has ended, with this code, and that there is nothing more to debug
+abbrev pub SaysEnd : ℕ → Answer → Type 0
+SaysEnd code b =
+    (before : List Note) × (exited : List Note) × (body : Data) × IsBehind before Told.Exited (Some body) exited
+    × IsBehind exited Told.Terminated None b.notes.items × (number_named (codes "exitCode") body ≡ Some code)
 
 -- texts are told, and that the run has ended and there is nothing more to debug
 pub record TellsEnd (a b : Answer) : Type 0 where

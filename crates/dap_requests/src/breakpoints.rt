@@ -732,6 +732,7 @@ fn tell_each(alloc: Global, shown: Vec<Value>, answer: &mut Answer)
 pub fn set_exceptions(program: &mut Program, request: &Request, answer: &mut Answer)
     ensures sets { SetsExcepts (view request.now.arguments) program.old program.new }
     ensures answers { AnswersFilters (filters_refused (view request.now.arguments)) answer.old answer.new }
+    ensures quiet { answer.new.notes ≡ answer.old.notes }
 {
     match asks_for_refusals(request, answer) {
         Some(excepts) => program.excepts = excepts,
@@ -743,6 +744,7 @@ pub fn set_exceptions(program: &mut Program, request: &Request, answer: &mut Ans
 pub fn asks_for_refusals(request: &Request, answer: &mut Answer) -> Option<bool>
     ensures refusals { result ≡ filters_refused (view request.now.arguments) }
     ensures answers { AnswersFilters result answer.old answer.new }
+    ensures quiet { answer.new.notes ≡ answer.old.notes }
 {
     match items_in(request, "filters", answer) {
         Some(filters) => {

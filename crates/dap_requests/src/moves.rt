@@ -14,7 +14,7 @@ ghost use Rattle.dap_messages.specs.Notes.{IsDone, IsRefusal};
 ghost use Rattle.dap_messages.specs.declared.kind.Kind as asks;
 ghost use Rattle.dap_messages.specs.declared.told.Stop.{Stop as Stopped};
 ghost use Rattle.dap_requests.specs.Denied.{NamesNoStep};
-ghost use Rattle.dap_requests.specs.Forth.{AreSeen, RunsBy, RunsFree, SeenAfter, StepsForth, Takes, alone, going_of, stands_at, stop_at, stop_of, target_in};
+ghost use Rattle.dap_requests.specs.Forth.{AreSeen, RunsBy, RunsFree, SeenAfter, StepsForth, Takes, alone, ends_well, going_of, stands_at, stop_at, stop_of, target_in};
 ghost use Rattle.dap_requests.specs.Said.{Runs, TellsOutputs, TellsStop};
 
 use crate::said::{stop, stop_at_line, tell, tell_outputs, tell_refused, tell_step, words_of};
@@ -379,7 +379,7 @@ fn run_on(
 pub fn run_free(alloc: Global, desk: &mut Desk, program: &Program, answer: &mut Answer) -> bool
     ensures led { Led desk.old desk.new }
     ensures system { desk.new.machine.checked ≡ desk.old.machine.checked }
-    ensures runs { RunsFree program.now.launch.most desk.old desk.new }
+    ensures runs { RunsFree program.now.launch.most desk.old desk.new result }
     ensures tells { TellsOutputs answer.old answer.new }
 {
     let before = desk.machine().live_events().len();
@@ -394,7 +394,17 @@ pub fn run_free(alloc: Global, desk: &mut Desk, program: &Program, answer: &mut 
     let ended = go_on(alloc, desk, &plan, &mut seen);
     tell_outputs(alloc, desk.machine(), before, answer);
     tell_free_end(alloc, desk.machine(), ended, answer);
-    !matches!(ended, Ended::Refused(_, _))
+    ends_well(ended)
+}
+
+/// Whether no step of a run was refused that ended so.
+fn ends_well(ended: Ended) -> bool
+    ensures { result ≡ ends_well ended }
+{
+    match ended {
+        Ended::Refused(_, _) => false,
+        _ => true,
+    }
 }
 
 /// Tells why a run ended that nobody debugs.

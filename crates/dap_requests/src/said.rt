@@ -1,8 +1,9 @@
 // What is told behind a response: texts, and that nothing moves.
-ghost use Rattle.std.specs.Prelude.{◌≡◌, ℕ};
+ghost use Rattle.std.specs.Prelude.{◌≡◌, [], ◌∷◌, ℕ};
 ghost use Rattle.runs.specs.Refusals.{refusal_number};
 ghost use Rattle.dap_messages.specs.declared.told.Stop.{Stop as Stopped};
-ghost use Rattle.dap_requests.specs.Said.{GivesStop, TellsOutputs, TellsStop};
+ghost use Rattle.dap_messages.specs.declared.told.Told.{Told as Notes};
+ghost use Rattle.dap_requests.specs.Said.{GivesStop, Tells, TellsOutputs, TellsStop};
 
 use dap_messages::{Answer, Members, Stop, Told};
 use dap_moves::Machine;
@@ -86,7 +87,8 @@ fn hits_of(alloc: Global, program: &Program, line: u64) -> Result<Vec<Value>, Al
 /// Tells a line of text.
 #[tactic(auto, using(crate::proofs::public::Saying::says_one))]
 pub fn tell(alloc: Global, line: &str, category: &str, answer: &mut Answer)
-    ensures { TellsOutputs answer.old answer.new }
+    ensures tells { TellsOutputs answer.old answer.new }
+    ensures one { Tells answer.old (Notes.Output ∷ []) answer.new }
 {
     let mut words = Words::of(alloc, line);
     words.add("\n");

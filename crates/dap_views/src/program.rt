@@ -1,5 +1,5 @@
 // What is launched.
-ghost use Rattle.std.specs.Prelude.{◌≡◌, [], string_bytes};
+ghost use Rattle.std.specs.Prelude.{◌≡◌, [], None, string_bytes};
 ghost use Rattle.dap_views.specs.Counted.{meant_line, shown_line};
 ghost use Rattle.dap_views.specs.Files.{same_file};
 
@@ -62,7 +62,8 @@ pub struct Memo {
 impl Memo {
     /// Nothing has moved.
     pub fn new(alloc: Global) -> Memo
-        ensures { result.seen.items ≡ [] }
+        ensures seen { result.seen.items ≡ [] }
+        ensures refused { result.refused ≡ None }
     {
         Memo {
             seen: Vec::new(alloc),

@@ -1,5 +1,5 @@
 -- What is told behind one another.
-use Rattle.std.proofs.Common.{◌≡◌, ◌+◌, ℕ, List, [], ◌∷◌, ◌++◌, false, true, Option, Some, inl, inr, refl, sym, ◌∙◌, ap, subst, append_assoc, bytes_eq, codes}
+use Rattle.std.proofs.Common.{◌≡◌, ◌+◌, ℕ, List, [], ◌∷◌, ◌++◌, false, true, Option, None, Some, inl, inr, refl, sym, ◌∙◌, ap, subst, append_assoc, bytes_eq, codes}
 use Rattle.std.specs.Prelude.{option_and_then}
 use Rattle.serde_json.specs.Data.{Data, number, object, string, unsigned}
 use Rattle.serde_json.specs.Find.{as_number, as_str, as_u64}
@@ -18,7 +18,7 @@ use Rattle.dap_messages.specs.declared.answer.Outcome.{Outcome}
 use Rattle.dap_messages.specs.declared.told.Stop.{Stop}
 use Rattle.dap_messages.specs.declared.told.Told.{Told}
 use Rattle.locked_execution.specs.AtDesk.{AtDesk}
-use Rattle.dap_requests.specs.Said.{GivesStop, Tells, AreOutputs, TellsEnd, TellsOutputs, TellsStop, Runs}
+use Rattle.dap_requests.specs.Said.{GivesStop, SaysEnd, Tells, AreOutputs, TellsEnd, TellsOutputs, TellsStop, Runs}
 
 both-outputs : (ts us : List Told) → AreOutputs ts → AreOutputs us → AreOutputs (ts ++ us)
 both-outputs [] us h k = k
@@ -166,6 +166,28 @@ ends_now a m b exit end h k = record {
   done = λ done. done_same m.outcome b.outcome k.outcome (done_same a.outcome m.outcome h.outcome done);
   effect = k.effect;
 }
+
+-- with this code
+pub says_end : (a m b : Answer) (before ms : Members) (code : ℕ) → Puts before (codes "exitCode") (number (unsigned code)) ms →
+    Adds a Told.Exited (Some (object (members_view ms.made.entries))) m → (m.lacks ≡ false → ms.lacks ≡ false) → Adds m Told.Terminated None b →
+    b.lacks ≡ false → SaysEnd code b
+says_end a m b before ms code put h whole k full = elim k.events [
+  | inl ended ↦
+      let kept : m.lacks ≡ false = sym ended.1 ∙ full in
+      elim h.events [
+        | inl exited ↦ (
+          a.notes.items,
+          m.notes.items,
+          object (members_view ms.made.entries),
+          exited.0,
+          ended.0,
+          ap (λ (found : Option Data). option_and_then as_u64 (option_and_then as_number found))
+              (has_put before ms (codes "exitCode") (number (unsigned code)) put (whole kept)),
+        )
+        | inr none ↦ let no : true ≡ false = sym none.1 ∙ kept in absurd (cc)
+      ]
+  | inr none ↦ let no : true ≡ false = sym none.1 ∙ full in absurd (cc)
+]
 
 -- texts, and then that it has ended
 pub ends_on : (a m b : Answer) → TellsOutputs a m → TellsEnd m b → TellsEnd a b

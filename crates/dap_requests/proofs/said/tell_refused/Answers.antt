@@ -10,7 +10,7 @@ returns-clause-stops c =
     let stop : Stop = Stop.Refused c.from.result c.args.program.now.excepts in
     subst (λ (n : ℕ). TellsStop c.args.answer.now (Stop.Refused n c.args.program.now.excepts) c.args.branch c.note.new.self) (c.from.ensures ∙ c.number.ensures)
     (stops_on c.args.answer.now c.keep_refusal.new.answer c.note.new.self stop c.args.branch c.keep_refusal.ensures.tells
-    (stops_on c.keep_refusal.new.answer c.tell.new.answer c.note.new.self stop c.args.branch c.tell.ensures
+    (stops_on c.keep_refusal.new.answer c.tell.new.answer c.note.new.self stop c.args.branch c.tell.ensures.tells
     (stops_now c.tell.new.answer c.note.new.self stop c.args.branch c.text.new.self
     (stop_stays c.stopped-body.result c.text.new.self stop c.args.branch (codes "description") (string c.as_str-2.result.now) refl refl c.text.ensures
     c.stopped-body.ensures) c.note.ensures.adds c.note.ensures.whole)))
