@@ -2,9 +2,10 @@
 tried on. scripts/kept.sh says what stands beside each."""
 
 import os
+import shutil
 import signal
 import subprocess
-import sys
+from contextlib import suppress
 from pathlib import Path
 
 TOP = Path(__file__).resolve().parent.parent
@@ -63,6 +64,20 @@ def write(file: Path, text: str) -> None:
     new.replace(file)
 
 
+def toolchain() -> Path | None:
+    """The folder of the toolchain on the PATH."""
+    rt = shutil.which("rt")
+    return Path(rt).resolve().parent.parent if rt else None
+
+
+def lines_of(texts: str) -> str:
+    """The lines that stand beside what is made of the texts by the toolchain on the PATH."""
+    folder, known_by = toolchain(), ""
+    with suppress(OSError):
+        known_by = (folder / "KIT-ID").read_text().strip() if folder else ""
+    return f"{texts}\n{known_by}\n"
+
+
 def texts_now() -> str:
     """The sum of the texts, as scripts/kept.sh has it."""
     words = ["bash", "-euc", ". scripts/kept.sh; texts"]
@@ -70,7 +85,7 @@ def texts_now() -> str:
 
 
 def is_of(file: Path, of: str) -> bool:
-    """Whether the file names these texts and this toolchain."""
+    """Whether the file has the lines of these texts and this toolchain."""
     try:
         return file.read_text() == of
     except OSError:
