@@ -1,5 +1,5 @@
-"""What scripts/keep_trial and scripts/keep_quick share: the programs that are kept in out/, what they are made of, and what they are
-tried on. scripts/kept.sh says what stands beside each."""
+"""What scripts/keep_trial and scripts/keep_quick share: the programs that are kept in out/, what they are made of, and what
+they are tried on. scripts/kept.sh says what stands beside each."""
 
 import os
 import shutil
@@ -97,8 +97,8 @@ def is_kept(program: Path, of: str) -> bool:
 
 
 def keep(new: Path, program: Path, of: str, stale: tuple[str, ...]) -> None:
-    """Keeps the new program, which was made of what `of` names, and takes away what was said of the one before. At no time does one
-    stand beside the texts of another."""
+    """Keeps the new program, which was made of what `of` names, and takes away what was said of the one before. At no time
+    does one stand beside the texts of another."""
     for ending in (".texts", *stale):
         beside(program, ending).unlink(missing_ok=True)
     new.replace(program)

@@ -33,8 +33,8 @@ def stop(number: int, _) -> None:
 
 @dataclass
 class Part:
-    """A command that tests something. Where its words come from a function, it needs the trial program, and waits until that stands:
-    only then it is known what there is to be tested."""
+    """A command that tests something. Where its words come from a function, it needs the trial program, and waits until that
+    stands: only then it is known what there is to be tested."""
 
     name: str
     words: list[str] | Callable[[], list[str]]
