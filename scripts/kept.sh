@@ -1,10 +1,16 @@
 # The programs that are kept in out/, for ./balsadbg, ./build and ./test. To be sourced at the top of the repository.
 #
-# out/balsadbg is the proved program, out/balsadbg-trial the trial program, which the toolchain compiled without proof. Beside
-# each stands NAME.texts: a line for the texts that it was made of, and a line for the toolchain that made it.
+# out/balsadbg is the proved program, out/balsadbg-trial the trial program, which the toolchain compiled without proof, and
+# out/balsadbg-quick the quick program: the same as that, compiled once more, optimized and without the checker of memory.
+# Beside each stands NAME.texts: a line for the texts that it was made of, and a line for the toolchain that made it.
+#
+# Beside the last two stand NAME.lock, held by who makes it, and NAME.none, with the lines of NAME.texts, where it cannot be
+# made; balsadbg-trial.told, where a terminal was told that this is a build without proof; balsadbg-quick.log, and while it
+# is made balsadbg-quick.room.
 
 kept=out/balsadbg
 kept_trial=out/balsadbg-trial
+kept_quick=out/balsadbg-quick
 # As README.md says.
 build_takes="one to two hours on 4 processors"
 

@@ -10,6 +10,7 @@ import subprocess
 import sys
 import tempfile
 import time
+from collections.abc import Callable
 from contextlib import suppress
 from dataclasses import dataclass
 from pathlib import Path
@@ -18,7 +19,7 @@ TOP = Path(__file__).resolve().parent.parent
 LOOK_EVERY = 0.2
 STOP_SECONDS = 5
 COUNTS = re.compile(r"^(\d+) passed, (\d+) failed$")
-# The part that makes the trial program. It counts as one test.
+# The part that makes the trial program, and where it can the quick one. It counts as one test.
 TRIAL = "trial program"
 
 
@@ -32,21 +33,26 @@ def stop(number: int, _) -> None:
 
 @dataclass
 class Part:
-    """A command that tests something. Those that need the trial program wait until it stands."""
+    """A command that tests something. Where its words come from a function, it needs the trial program, and waits until that
+    stands: only then it is known what there is to be tested."""
 
     name: str
-    words: list[str]
-    needs_trial: bool = False
+    words: list[str] | Callable[[], list[str]]
     began: float = 0.0
     output: Path | None = None
     process: subprocess.Popen | None = None
 
+    @property
+    def needs_trial(self) -> bool:
+        return callable(self.words)
+
     def begin(self, room: Path, limits: dict[str, str]) -> None:
         self.began = time.monotonic()
         self.output = room / self.name.replace("/", "-")
+        words = self.words() if callable(self.words) else self.words
         with open(self.output, "wb") as file:
             how = {"cwd": TOP, "stdin": subprocess.DEVNULL, "stdout": file, "stderr": subprocess.STDOUT}
-            self.process = subprocess.Popen(self.words, env={**os.environ, **limits}, process_group=0, **how)
+            self.process = subprocess.Popen(words, env={**os.environ, **limits}, process_group=0, **how)
 
     def end(self) -> None:
         """Stops it, with what it has started. It gets some time to take away its files."""
