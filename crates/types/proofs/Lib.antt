@@ -15,12 +15,17 @@ mod LeastDescriptions
 mod LeavingOut
 mod LocalsLeftOut
 mod Lookups
+mod Meanings
 mod NameLemmas
 mod OneName
 mod Order
 mod Owed
 mod PartsFound
 mod PortsLeftOut
+mod SameForms
+mod SameNames
+mod SamePorts
+mod SameProcedures
 mod StandingApart
 mod Staying
 mod StaysRight
