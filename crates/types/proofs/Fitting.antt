@@ -122,7 +122,7 @@ named_width es once n m w is ways =
     )
 
 -- what a use finds has the width that the use says
-use_width : {A : Type 0} (es : VisibleNames) → Once es → (opened : List Binding) (n : Name) (use_of : Found → Verdict A) (width : A → ℕ)
+pub use_width : {A : Type 0} (es : VisibleNames) → Once es → (opened : List Binding) (n : Name) (use_of : Found → Verdict A) (width : A → ℕ)
     → IfOk (use_of Nothing) (λ _. ⊥) → ((m : Meaning) → IfOk (use_of (found_as opened m (channel_of m))) (λ r. value_ways m ≡ width r ∷ []))
     → IfOk (use_of (find es opened n)) (λ r. NameHasThisAlone (map shown es) n (width r))
 unfolding find
@@ -144,7 +144,7 @@ module _ (opened : List Binding) (offset : ℕ) where
   abbrev TargetWay : Meaning → Found → Type 0
   TargetWay m f = IfOk (target_use f offset) (λ r. value_ways m ≡ r.1 ∷ [])
 
-  target_way : (m : Meaning) → TargetWay m (found_as opened m (channel_of m))
+  pub target_way : (m : Meaning) → TargetWay m (found_as opened m (channel_of m))
   unfolding target_use
   target_way (meaning.Variable l w) = refl
   target_way (meaning.TypeName w) = tt

@@ -8,6 +8,7 @@ mod DeclaredDistinct
 mod DeclaredOnce
 mod ExpressionWays
 mod Fitting
+mod FittingIsAccepted
 mod LastElement
 mod Least
 mod LeastCommands
@@ -19,6 +20,7 @@ mod Meanings
 mod NameLemmas
 mod OneName
 mod Order
+mod OtherBodies
 mod Owed
 mod PartsFound
 mod PortsLeftOut

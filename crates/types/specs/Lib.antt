@@ -14,5 +14,6 @@ pub mod Nearest
 pub mod Widths
 pub mod Fits
 pub mod SameTree
+pub mod WhatFits
 pub mod LeavingOut
 pub mod internal

@@ -4,6 +4,7 @@ ghost use Rattle.types.specs.Laws.{DeclaredNamesAreDistinct, DeclaredNamesStay, 
 ghost use Rattle.types.specs.LeavingOut.{LastElementMayBeLeftOut, LocalsMayStandApart, OneLocalMayBeLeftOut, OnePortMayBeLeftOut, PortsMayBeLeftOut, PortsMayStandApart};
 ghost use Rattle.types.specs.Nearest.{NamesAreDeclaredBefore};
 ghost use Rattle.types.specs.SameTree.{TreeStaysTheSame};
+ghost use Rattle.types.specs.WhatFits.{LabelsThatFitAreAccepted, ValuesThatFitAreAccepted};
 ghost use Rattle.types.specs.Widths.{OperandsHaveOneWidth, TypesHaveOneWidth};
 
 /// In an accepted description each name that a procedure uses has one declaration among those that are visible there,
@@ -60,4 +61,11 @@ pub fn unused_name_may_be_left_out()
 /// lines and offsets.
 pub fn tree_stays_the_same()
     ensures { TreeStaysTheSame }
+{}
+
+/// A `case` with any number as its label that is no wider than its expression is accepted where it is with another
+/// label, and an assignment of any value that is no wider than its variable, where both are accepted in assignments.
+pub fn what_fits_is_accepted()
+    ensures labels { LabelsThatFitAreAccepted }
+    ensures values { ValuesThatFitAreAccepted }
 {}
