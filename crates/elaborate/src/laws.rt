@@ -2,7 +2,7 @@
 ghost use Rattle.elaborate.specs.Laws.{NamesAreDistinct, BranchesAreInPortOrder, CallsAddNoPlace, WithoutCallsIsItself, KeepsItsShape, NodesAreOfTheSystem};
 
 /// The variables and channels of an accepted system have names of their own, where each procedure declares distinct
-/// names without `:`, as every typed description does.
+/// names without `:`, as those of a typed source are.
 pub fn name_law()
     ensures { NamesAreDistinct }
 {}

@@ -59,7 +59,7 @@ module _ (outer inner : VisibleNames) (once : Once outer) (between : Inner outer
   abbrev Same : PortKind → tree_port_kind.PortKind → Type 0
   Same = SameKind (map shown outer)
 
-  type_settled : (so_far : VisibleNames) → Inner outer so_far → (type : TypeName) → demanded (type_width inner [] type) ≡ Ok tt
+  pub type_settled : (so_far : VisibleNames) → Inner outer so_far → (type : TypeName) → demanded (type_width inner [] type) ≡ Ok tt
       → type_widths (map shown outer) type ≡ type_width_or_one so_far type ∷ []
   type_settled so_far front type e = own type e ∙ ap (λ w. w ∷ []) (sym (type_alike outer inner between outer so_far (inner-none outer) front type e))
     where

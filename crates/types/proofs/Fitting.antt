@@ -70,29 +70,29 @@ pub ok-is : {A E : Type 0} (P : A → Type 0) (r : Result A E) (a : A) → r ≡
 ok-is P (Ok b) a e h = let same : b ≡ a = cc in subst P same h
 ok-is P (Err f) a e h = absurd cc
 
-ok-by : {A E : Type 0} (P : A → Type 0) (r : Result A E) → ((a : A) → r ≡ Ok a → P a) → IfOk r P
+pub ok-by : {A E : Type 0} (P : A → Type 0) (r : Result A E) → ((a : A) → r ≡ Ok a → P a) → IfOk r P
 ok-by P (Ok a) f = f a refl
 ok-by P (Err e) f = tt
 
-ok-weaker : {A E : Type 0} (P Q : A → Type 0) (r : Result A E) → ((a : A) → P a → Q a) → IfOk r P → IfOk r Q
+pub ok-weaker : {A E : Type 0} (P Q : A → Type 0) (r : Result A E) → ((a : A) → P a → Q a) → IfOk r P → IfOk r Q
 ok-weaker P Q (Ok a) f p = f a p
 ok-weaker P Q (Err e) f p = tt
 
-ok-becomes : {A B E : Type 0} (P : A → Type 0) (Q : B → Type 0) (f : A → B) (r : Result A E) → ((a : A) → P a → Q (f a)) → IfOk r P → IfOk (becomes f r) Q
+pub ok-becomes : {A B E : Type 0} (P : A → Type 0) (Q : B → Type 0) (f : A → B) (r : Result A E) → ((a : A) → P a → Q (f a)) → IfOk r P → IfOk (becomes f r) Q
 ok-becomes P Q f (Ok a) g p = g a p
 ok-becomes P Q f (Err e) g p = tt
 
-ok-both : {A B : Type 0} (P : A → Type 0) (Q : B → Type 0) (x : Findings every A) (y : Findings every B) → IfOk x P → IfOk y Q → IfOk (both every x y) (λ p. P p.0 × Q p.1)
+pub ok-both : {A B : Type 0} (P : A → Type 0) (Q : B → Type 0) (x : Findings every A) (y : Findings every B) → IfOk x P → IfOk y Q → IfOk (both every x y) (λ p. P p.0 × Q p.1)
 ok-both P Q (Ok a) (Ok b) p q = (p, q)
 ok-both P Q (Ok a) (Err fs) p q = tt
 ok-both P Q (Err fs) (Ok b) p q = tt
 ok-both P Q (Err fs) (Err gs) p q = tt
 
-ok-if_right : {A B E : Type 0} (P : A → Type 0) (Q : B → Type 0) (r : Result A E) (next : A → Result B E) → ((a : A) → P a → IfOk (next a) Q) → IfOk r P → IfOk (if_right r next) Q
+pub ok-if_right : {A B E : Type 0} (P : A → Type 0) (Q : B → Type 0) (r : Result A E) (next : A → Result B E) → ((a : A) → P a → IfOk (next a) Q) → IfOk r P → IfOk (if_right r next) Q
 ok-if_right P Q (Ok a) next f p = f a p
 ok-if_right P Q (Err e) next f p = tt
 
-ok-alone : {A : Type 0} (P : A → Type 0) (v : Verdict A) → IfOk v P → IfOk (one_fault v) P
+pub ok-alone : {A : Type 0} (P : A → Type 0) (v : Verdict A) → IfOk v P → IfOk (one_fault v) P
 ok-alone P (Ok a) p = p
 ok-alone P (Err e) p = tt
 
@@ -122,7 +122,7 @@ named_width es once n m w is ways =
     )
 
 -- what a use finds has the width that the use says
-use_width : {A : Type 0} (es : VisibleNames) → Once es → (opened : List Binding) (n : Name) (use_of : Found → Verdict A) (width : A → ℕ)
+pub use_width : {A : Type 0} (es : VisibleNames) → Once es → (opened : List Binding) (n : Name) (use_of : Found → Verdict A) (width : A → ℕ)
     → IfOk (use_of Nothing) (λ _. ⊥) → ((m : Meaning) → IfOk (use_of (found_as opened m (channel_of m))) (λ r. value_ways m ≡ width r ∷ []))
     → IfOk (use_of (find es opened n)) (λ r. NameHasThisAlone (map shown es) n (width r))
 unfolding find
@@ -144,7 +144,7 @@ module _ (opened : List Binding) (offset : ℕ) where
   abbrev TargetWay : Meaning → Found → Type 0
   TargetWay m f = IfOk (target_use f offset) (λ r. value_ways m ≡ r.1 ∷ [])
 
-  target_way : (m : Meaning) → TargetWay m (found_as opened m (channel_of m))
+  pub target_way : (m : Meaning) → TargetWay m (found_as opened m (channel_of m))
   unfolding target_use
   target_way (meaning.Variable l w) = refl
   target_way (meaning.TypeName w) = tt

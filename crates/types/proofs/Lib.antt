@@ -8,6 +8,7 @@ mod DeclaredDistinct
 mod DeclaredOnce
 mod ExpressionWays
 mod Fitting
+mod FittingIsAccepted
 mod LastElement
 mod Least
 mod LeastCommands
@@ -15,12 +16,18 @@ mod LeastDescriptions
 mod LeavingOut
 mod LocalsLeftOut
 mod Lookups
+mod Meanings
 mod NameLemmas
 mod OneName
 mod Order
+mod OtherBodies
 mod Owed
 mod PartsFound
 mod PortsLeftOut
+mod SameForms
+mod SameNames
+mod SamePorts
+mod SameProcedures
 mod StandingApart
 mod Staying
 mod StaysRight

@@ -1,5 +1,6 @@
 -- What commands ask of widths: a guard is one bit wide, what is put somewhere has room there, and a call passes for
--- each port a channel of its width.
+-- each port what is as wide. (That what is assigned to is a variable, and what is sent on or passed a channel of the
+-- right kind, `SameTree.antt` says.)
 use Rattle.std.specs.Prelude.{◌≡◌, ℕ, ◌≤◌, List, [], ◌∷◌, ◌++◌, map, flat_map, Option, Some, None}
 use Rattle.value.specs.Word.{least_width_of}
 use Rattle.types.specs.Laws.{IsAccepted}
@@ -25,9 +26,9 @@ use Rattle.syntax.specs.declared.name.Identifier.{Identifier}
 pub data Demand : Type 0 where
   -- the guard is one bit wide
   one_bit : Expr → Demand
-  -- the value has room in what the name names: a variable that it is assigned to, a channel that it is sent on
+  -- the value has room in what the name names: what it is assigned to, or what it is sent on
   has_room : Expr → Name → Demand
-  -- what comes over the channel has room in the variable
+  -- what comes over what the first names has room in what the second names
   is_received : Name → Name → Demand
   -- the label has room in the expression
   may_match : Label → Expr → Demand
@@ -93,11 +94,11 @@ abbrev pub LabelHasThisAlone : List Declaration → LabelValue → ℕ → Type 
 LabelHasThisAlone visible (label.Number n) width = width ≡ least_width_of n
 LabelHasThisAlone visible (label.Name name) width = NameHasThisAlone visible name width
 
--- what is of this name passes no data
+-- of this name is something that has no value: what passes no data
 abbrev pub PassesNone : List Declaration → Name → Type 0
 PassesNone visible name = (d : Declaration) × In d visible × (d.name ≡ name) × (d.as_value ≡ [])
 
--- the port, of a type that stands behind these types, takes what is of this name
+-- the port, of a type that stands behind these types, is as wide as what is of this name
 abbrev pub PortTakes : List Declaration → List Declaration → PortKind → Name → Type 0
 PortTakes types visible (port_of.Input type) name =
     (width : ℕ) × TypeHasThisAlone types type width × NameHasThisAlone visible name width

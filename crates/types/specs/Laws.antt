@@ -1,4 +1,4 @@
--- The laws of typing. `tests/runs/names_and_types.toml` has worked examples of each.
+-- The laws of typing on names and widths, and on what may be left out.
 use Rattle.std.specs.Prelude.{◌≡◌, ℕ, List, [], ◌∷◌, ◌++◌, map, flat_map, Ok}
 use Rattle.types.specs.Declarations.{found_description}
 use Rattle.types.specs.Parts.{Name, names_used, expressions_in}
@@ -28,8 +28,8 @@ pub record OnlyOne {X : Type 0} (Is : X → Type 0) (xs : List X) : Type 0 where
   pub none_before : Every (λ x. ¬ Is x) before
   pub none_behind : Every (λ x. ¬ Is x) behind
 
--- In an accepted description each name that a procedure uses has exactly one declaration among all that are visible
--- there. So it is the nearest before the use, and no other one can be meant.
+-- In an accepted description each name that a procedure uses has exactly one declaration among all that are visible in
+-- it, and no other one can be meant. (`Nearest.antt` says that it stands before the use.)
 abbrev pub NamesAreDeclaredOnce : Type 0
 NamesAreDeclaredOnce =
     (d : Description) → IsAccepted d →

@@ -13,5 +13,7 @@ pub mod Visible
 pub mod Nearest
 pub mod Widths
 pub mod Fits
+pub mod SameTree
+pub mod WhatFits
 pub mod LeavingOut
 pub mod internal

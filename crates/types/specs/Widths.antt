@@ -25,7 +25,8 @@ use Rattle.syntax.specs.declared.expression.TypeName.TheVariants.{Named, Bits}
 abbrev pub shape_of : Expr → Shape-F Shape Expr
 shape_of e = out-Shape (out-Expr e).shape
 
--- the name is that of a value of this width
+-- the name is that of a value of this width, or of what passes such values on (as a value it stands inside an arm on it
+-- alone: `received` in `SameTree.antt`)
 abbrev pub NameHasWidth : List Declaration → Name → ℕ → Type 0
 NameHasWidth visible name width =
     (d : Declaration) × In d visible × (d.name ≡ name) × In width d.as_value

@@ -3,6 +3,8 @@ ghost use Rattle.types.specs.Fits.{DemandsAreMet};
 ghost use Rattle.types.specs.Laws.{DeclaredNamesAreDistinct, DeclaredNamesStay, ExpressionsHaveOneWidth, LocalsMayBeLeftOut, NamesAreDeclaredOnce, ProceduresMayBeLeftOut, TypesMayBeLeftOut};
 ghost use Rattle.types.specs.LeavingOut.{LastElementMayBeLeftOut, LocalsMayStandApart, OneLocalMayBeLeftOut, OnePortMayBeLeftOut, PortsMayBeLeftOut, PortsMayStandApart};
 ghost use Rattle.types.specs.Nearest.{NamesAreDeclaredBefore};
+ghost use Rattle.types.specs.SameTree.{TreeStaysTheSame};
+ghost use Rattle.types.specs.WhatFits.{LabelsThatFitAreAccepted, ValuesThatFitAreAccepted};
 ghost use Rattle.types.specs.Widths.{OperandsHaveOneWidth, TypesHaveOneWidth};
 
 /// In an accepted description each name that a procedure uses has one declaration among those that are visible there,
@@ -27,7 +29,7 @@ pub fn expressions_have_one_width()
 {}
 
 /// In an accepted description each guard is one bit wide, what is assigned, sent, received or matched has room, and a
-/// call passes for each port a channel of its width.
+/// call passes for each port what is as wide. (What is a variable and what a channel, `tree_stays_the_same` says.)
 pub fn widths_fit()
     ensures { DemandsAreMet }
 {}
@@ -53,4 +55,17 @@ pub fn unused_name_may_be_left_out()
     ensures local { OneLocalMayBeLeftOut }
     ensures port { OnePortMayBeLeftOut }
     ensures element { LastElementMayBeLeftOut }
+{}
+
+/// What an accepted description becomes is the description as it is written, form by form: commands, names, widths,
+/// lines and offsets.
+pub fn tree_stays_the_same()
+    ensures { TreeStaysTheSame }
+{}
+
+/// A `case` with any number as its label that is no wider than its expression is accepted where it is with another
+/// label, and an assignment of any value that is no wider than its variable, where both are accepted in assignments.
+pub fn what_fits_is_accepted()
+    ensures labels { LabelsThatFitAreAccepted }
+    ensures values { ValuesThatFitAreAccepted }
 {}

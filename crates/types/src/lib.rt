@@ -20,7 +20,8 @@ mod verdict;
 
 pub use laws::{
     declared_names_are_distinct, expressions_have_one_width, names_are_declared_once,
-    names_may_stand_apart, unused_may_be_left_out, unused_name_may_be_left_out, widths_fit,
+    names_may_stand_apart, tree_stays_the_same, unused_may_be_left_out,
+    unused_name_may_be_left_out, what_fits_is_accepted, widths_fit,
 };
 pub use refusals::types::Fault;
 use std::alloc::Global;
