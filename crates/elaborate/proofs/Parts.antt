@@ -200,3 +200,14 @@ pub answers_made : {E : Type 0} (answer : Result tree_command.Command E) (tree :
     → ◌≡◌ {A = WithMade tree_command.Command} (tree, made) whole → OnOk answer (made ≡ whole.1)
 answers_made (Ok t) tree made whole is = ap (λ (r : WithMade tree_command.Command). r.1) is
 answers_made (Err e) tree made whole is = tt
+
+-- what is answered for a form is what is answered for the command
+pub told_tree : {E : Type 0} (answer : Result tree_command.Command E) (r whole : WithMade tree_command.Command)
+    → ◌≡◌ {A = WithMade tree_command.Command} r whole → IfOk answer (λ t. t ≡ r.0) → IfOk answer (λ t. t ≡ whole.0)
+told_tree (Ok t) r whole is same = same ∙ ap (λ (x : WithMade tree_command.Command). x.0) is
+told_tree (Err e) r whole is same = tt
+
+pub told_made : {E : Type 0} (answer : Result tree_command.Command E) (made : Made) (r whole : WithMade tree_command.Command)
+    → ◌≡◌ {A = WithMade tree_command.Command} r whole → OnOk answer (made ≡ r.1) → OnOk answer (made ≡ whole.1)
+told_made (Ok t) made r whole is same = same ∙ ap (λ (x : WithMade tree_command.Command). x.1) is
+told_made (Err e) made r whole is same = tt

@@ -1,8 +1,10 @@
 // The body of a procedure with its calls replaced and its names by numbers.
 ghost use Rattle.std.specs.Prelude.{◌≡◌, [], map, IfOk, OnOk};
 ghost use Rattle.std.specs.Option.{option_map};
+ghost use Rattle.elaborate.specs.internal.Instances.{channel_use, expression_in};
 ghost use Rattle.elaborate.specs.internal.Makers as body;
 ghost use Rattle.elaborate.specs.internal.BodyParts.{maker_of_guarded, maker_of_labelled, maker_of_arm};
+ghost use Rattle.system.specs.declared.command.Action.TheViews as action;
 
 use crate::forms::{
     arbitrate_command, continue_command, halt_command, if_command, loop_command, parallel_command,
@@ -13,7 +15,7 @@ use crate::made::Made;
 use std::alloc::{AllocError, Global};
 use syntax::Items;
 use system::{Action, Arm, Command, Guarded, Labelled};
-use typed::Procedure;
+use typed::{ChannelUse, Procedure};
 
 /// The command with numbers for its names and bodies for its calls. `earlier` has the procedures that it may call.
 #[cycle(body)]
@@ -43,30 +45,23 @@ fn command_of(
             loop_command(alloc, line, body)
         }
         typed::Action::While(guard, body) => {
-            let body = command_of(alloc, body, instance, earlier, made)?;
-            instance.while_command(alloc, line, guard, body)
+            while_of(alloc, body, line, guard, instance, earlier, made)
         }
         typed::Action::If(arms, last) => {
-            let arms = guarded_of(alloc, arms.as_slice(), instance, earlier, made)?;
-            let last = last_of(alloc, last, instance, earlier, made)?;
-            if_command(alloc, line, arms, last)
+            if_of(alloc, arms.as_slice(), last, line, instance, earlier, made)
         }
         typed::Action::Case(subject, arms, last) => {
-            let arms = labelled_of(alloc, arms.as_slice(), instance, earlier, made)?;
-            let last = last_of(alloc, last, instance, earlier, made)?;
-            instance.case_command(alloc, line, subject, arms, last)
+            let arms = arms.as_slice();
+            case_of(alloc, arms, last, line, subject, instance, earlier, made)
         }
         typed::Action::Input(channel, body) => {
-            let body = command_of(alloc, body, instance, earlier, made)?;
-            instance.input_command(alloc, line, *channel, body)
+            input_of(alloc, body, line, *channel, instance, earlier, made)
         }
         typed::Action::Select(arms) => {
-            let arms = arms_of(alloc, arms.as_slice(), instance, earlier, made)?;
-            select_command(alloc, line, arms)
+            select_of(alloc, arms.as_slice(), line, instance, earlier, made)
         }
         typed::Action::Arbitrate(arms) => {
-            let arms = arms_of(alloc, arms.as_slice(), instance, earlier, made)?;
-            arbitrate_command(alloc, line, arms)
+            arbitrate_of(alloc, arms.as_slice(), line, instance, earlier, made)
         }
         typed::Action::Sequence(children) => {
             let children = commands_of(alloc, children.as_slice(), instance, earlier, made)?;
@@ -89,6 +84,150 @@ fn command_of(
         }
         typed::Action::Sync(channel) => instance.sync_command(alloc, line, *channel),
     }
+}
+
+/// A `loop` that ends where the guard is 0. This and the forms below are functions of their own, so that the recursion
+/// takes little stack where a command has another form.
+#[cycle(body)]
+#[inline(never)]
+fn while_of(
+    alloc: Global,
+    inside: &typed::Command,
+    line: u64,
+    guard: &typed::Expression,
+    instance: &Instance,
+    earlier: &[Procedure],
+    made: &mut Made,
+) -> Result<Command, AllocError>
+    ensures tree { IfOk result (λ tree.
+        tree
+        ≡ (body.around line (action.While (expression_in instance.now guard.now))
+        (body.maker_of (body.makers earlier.now) inside.now instance.now made.old)).0) }
+    ensures made { OnOk result (made.new
+        ≡ (body.maker_of (body.makers earlier.now) inside.now instance.now made.old).1) }
+{
+    let inside = command_of(alloc, inside, instance, earlier, made)?;
+    instance.while_command(alloc, line, guard, inside)
+}
+
+/// An `if`.
+#[cycle(body)]
+#[inline(never)]
+fn if_of(
+    alloc: Global,
+    arms: &[typed::Guarded],
+    last: &Option<typed::Command>,
+    line: u64,
+    instance: &Instance,
+    earlier: &[Procedure],
+    made: &mut Made,
+) -> Result<Command, AllocError>
+    ensures tree { IfOk result (λ tree.
+        tree
+        ≡ (body.around line (λ r. action.If r.0 r.1)
+        (body.arms_and_last (map (maker_of_guarded (body.makers earlier.now)) arms.now)
+        (option_map (body.maker_of (body.makers earlier.now)) last.now) instance.now made.old)).0) }
+    ensures made { OnOk result (made.new
+        ≡ (body.arms_and_last (map (maker_of_guarded (body.makers earlier.now)) arms.now)
+        (option_map (body.maker_of (body.makers earlier.now)) last.now) instance.now made.old).1) }
+{
+    let arms = guarded_of(alloc, arms, instance, earlier, made)?;
+    let last = last_of(alloc, last, instance, earlier, made)?;
+    if_command(alloc, line, arms, last)
+}
+
+/// A `case`.
+#[cycle(body)]
+#[inline(never)]
+fn case_of(
+    alloc: Global,
+    arms: &[typed::Labelled],
+    last: &Option<typed::Command>,
+    line: u64,
+    subject: &typed::Expression,
+    instance: &Instance,
+    earlier: &[Procedure],
+    made: &mut Made,
+) -> Result<Command, AllocError>
+    ensures tree { IfOk result (λ tree.
+        tree
+        ≡ (body.around line (λ r. action.Case (expression_in instance.now subject.now) r.0 r.1)
+        (body.arms_and_last (map (maker_of_labelled (body.makers earlier.now)) arms.now)
+        (option_map (body.maker_of (body.makers earlier.now)) last.now) instance.now made.old)).0) }
+    ensures made { OnOk result (made.new
+        ≡ (body.arms_and_last (map (maker_of_labelled (body.makers earlier.now)) arms.now)
+        (option_map (body.maker_of (body.makers earlier.now)) last.now) instance.now made.old).1) }
+{
+    let arms = labelled_of(alloc, arms, instance, earlier, made)?;
+    let last = last_of(alloc, last, instance, earlier, made)?;
+    instance.case_command(alloc, line, subject, arms, last)
+}
+
+/// An input on the channel that encloses a command.
+#[cycle(body)]
+#[inline(never)]
+fn input_of(
+    alloc: Global,
+    inside: &typed::Command,
+    line: u64,
+    channel: ChannelUse,
+    instance: &Instance,
+    earlier: &[Procedure],
+    made: &mut Made,
+) -> Result<Command, AllocError>
+    ensures tree { IfOk result (λ tree.
+        tree
+        ≡ (body.around line (action.Input (channel_use instance.now channel))
+        (body.maker_of (body.makers earlier.now) inside.now instance.now made.old)).0) }
+    ensures made { OnOk result (made.new
+        ≡ (body.maker_of (body.makers earlier.now) inside.now instance.now made.old).1) }
+{
+    let inside = command_of(alloc, inside, instance, earlier, made)?;
+    instance.input_command(alloc, line, channel, inside)
+}
+
+/// A `select`.
+#[cycle(body)]
+#[inline(never)]
+fn select_of(
+    alloc: Global,
+    arms: &[typed::Arm],
+    line: u64,
+    instance: &Instance,
+    earlier: &[Procedure],
+    made: &mut Made,
+) -> Result<Command, AllocError>
+    ensures tree { IfOk result (λ tree.
+        tree
+        ≡ (body.around line action.Select
+        (body.all_onto [] (map (maker_of_arm (body.makers earlier.now)) arms.now) instance.now made.old)).0) }
+    ensures made { OnOk result (made.new
+        ≡ (body.all_onto [] (map (maker_of_arm (body.makers earlier.now)) arms.now) instance.now made.old).1) }
+{
+    let arms = arms_of(alloc, arms, instance, earlier, made)?;
+    select_command(alloc, line, arms)
+}
+
+/// An `arbitrate`.
+#[cycle(body)]
+#[inline(never)]
+fn arbitrate_of(
+    alloc: Global,
+    arms: &[typed::Arm],
+    line: u64,
+    instance: &Instance,
+    earlier: &[Procedure],
+    made: &mut Made,
+) -> Result<Command, AllocError>
+    ensures tree { IfOk result (λ tree.
+        tree
+        ≡ (body.around line action.Arbitrate
+        (body.all_onto [] (map (maker_of_arm (body.makers earlier.now)) arms.now) instance.now made.old)).0) }
+    ensures made { OnOk result (made.new
+        ≡ (body.all_onto [] (map (maker_of_arm (body.makers earlier.now)) arms.now) instance.now made.old).1) }
+{
+    let arms = arms_of(alloc, arms, instance, earlier, made)?;
+    arbitrate_command(alloc, line, arms)
 }
 
 /// The commands in order.

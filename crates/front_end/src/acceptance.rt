@@ -1,20 +1,26 @@
-ghost use Rattle.std.specs.Prelude.{IfOk, IfErr};
-ghost use Rattle.front_end.specs.Accepting.{Makes, AcceptedAs, IsRefused};
+ghost use Rattle.std.specs.Prelude.{ℕ, List, IfOk, IfErr};
+ghost use Rattle.front_end.specs.Accepting.{AcceptedAs, IsRefused};
+ghost use Rattle.typed_source.specs.Source.{IsTyped};
 
 use crate::Fault;
 use crate::make::make_system;
 use sharing_check::{Checked, check_sharing};
 use std::alloc::Global;
-use system::System;
+use typed::Typed;
 use typed_source::typed_source;
 
-/// The system that source and stimulus make, whether or not it keeps the rule on sharing.
-fn made(alloc: Global, source: &[u8], stimulus: &[u8]) -> Result<System, Fault>
-    ensures system { IfOk result (λ system. Makes source.now stimulus.now system) }
-    ensures fault { IfErr result (λ fault. IsRefused source.now stimulus.now fault) }
+/// The system that a typed source and the stimulus describe, or why they describe none. (It only borrows the typed
+/// source, whose nodes are dropped when all else is made: what is freed before makes each large block dear.)
+fn checked(alloc: Global, typed: &Typed, stimulus: &[u8]) -> Result<Checked, Fault>
+    ensures system { (source : List ℕ) → IsTyped source typed.now →
+        IfOk result (λ checked. AcceptedAs source stimulus.now checked) }
+    ensures fault { (source : List ℕ) → IsTyped source typed.now →
+        IfErr result (λ fault. IsRefused source stimulus.now fault) }
 {
-    let typed = typed_source(alloc, source)?;
-    Ok(make_system(alloc, &typed, stimulus)?)
+    match make_system(alloc, typed, stimulus) {
+        Ok(system) => Ok(check_sharing(alloc, system)?),
+        Err(fault) => Err(Fault::from(fault)),
+    }
 }
 
 /// The system that the source and the stimulus describe, or the first fault of the first pass that refuses them: the
@@ -24,8 +30,6 @@ pub fn accept(alloc: Global, source: &[u8], stimulus: &[u8]) -> Result<Checked, 
     ensures system { IfOk result (λ checked. AcceptedAs source.now stimulus.now checked) }
     ensures fault { IfErr result (λ fault. IsRefused source.now stimulus.now fault) }
 {
-    match made(alloc, source, stimulus) {
-        Ok(system) => Ok(check_sharing(alloc, system)?),
-        Err(fault) => Err(fault),
-    }
+    let typed = typed_source(alloc, source)?;
+    checked(alloc, &typed, stimulus)
 }

@@ -73,12 +73,26 @@ fn add_command(
             add_arms(alloc, variables, arms.as_slice(), found)
         }
         Action::Sequence(children) => { add_sequence(alloc, variables, children.as_slice(), found) }
-        Action::Parallel(children) => {
-            let around = found.take_touches(alloc);
-            add_branches(alloc, variables, children.as_slice(), found)?;
-            found.put_back(around)
-        }
+        Action::Parallel(children) => { add_parallel(alloc, variables, children.as_slice(), found) }
     }
+}
+
+/// Adds the children of a parallel, alone, and then what was touched before. It is a function of its own, so that the
+/// recursion takes little stack where a command has another form.
+#[cycle(gathering)]
+#[inline(never)]
+fn add_parallel(
+    alloc: Global,
+    variables: &[Variable],
+    children: &[Command],
+    found: &mut Found,
+) -> Result<(), AllocError>
+    ensures { IfOk result (λ _.
+        found.new ≡ model.side_by_side variables.now (map (model.gathering variables.now) children.now) found.old) }
+{
+    let around = found.take_touches(alloc);
+    add_branches(alloc, variables, children, found)?;
+    found.put_back(around)
 }
 
 /// Adds the children of a sequence.

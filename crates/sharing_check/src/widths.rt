@@ -7,6 +7,7 @@ ghost use Rattle.std.specs.Option.{option_map};
 ghost use Rattle.indexmap.specs.IndexMap.{IsUnique};
 ghost use Rattle.system.specs.Translation.{residual_of};
 ghost use Rattle.system.specs.internal.ArmParts.{guarded_of, labelled_of, arm_of};
+ghost use Rattle.sharing_check.specs.declared.widths.Together.TheVariants.{InOneBranch};
 ghost use Rattle.sharing_check.specs.internal.Counting as model;
 ghost use Rattle.sharing_check.specs.Rule.{is_sync};
 ghost use Rattle.sharing_check.specs.Refusal.{PassesAt, Least};
@@ -198,11 +199,21 @@ fn add_command(alloc: Global, command: &Command, widths: &mut Widths) -> Result<
         }
         Action::Select(arms) | Action::Arbitrate(arms) => add_arms(alloc, arms.as_slice(), widths),
         Action::Sequence(children) => add_commands(alloc, children.as_slice(), widths),
-        Action::Parallel(children) => {
-            let mut branches = of_branches(alloc, children.as_slice())?;
-            widths.merge(one, &mut branches)
-        }
+        Action::Parallel(children) => add_parallel(alloc, children.as_slice(), widths),
     }
+}
+
+/// Adds the uses of the children of a parallel, side by side. It is a function of its own, so that the recursion takes
+/// little stack where a command has another form.
+#[cycle(widths)]
+#[inline(never)]
+fn add_parallel(alloc: Global, children: &[Command], widths: &mut Widths) -> Result<(), AllocError>
+    ensures { OnOk result (model.table_of_widths widths.new
+        ≡ model.join InOneBranch (model.table_of_widths widths.old)
+        (model.side_by_side model.nothing (map residual_of children.now))) }
+{
+    let mut branches = of_branches(alloc, children)?;
+    widths.merge(Together::InOneBranch, &mut branches)
 }
 
 /// Adds the uses of commands in one branch.

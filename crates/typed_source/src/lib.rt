@@ -15,6 +15,7 @@ use judging::{judge_next, judged_first};
 pub use laws::names_are_own;
 use lexer::{Lexing, lex};
 use parser::parse;
+use part::try_room;
 use std::alloc::Global;
 use types::{Typed, check_types};
 
@@ -33,6 +34,7 @@ fn typed_in_parts(alloc: Global, source: &[u8]) -> Result<Option<Typed>, Fault>
     ensures typed { IfOk result (λ found. IfSome found (λ typed. IsTyped source.now typed)) }
     ensures fault { IfErr result (λ fault. IsRefused source.now fault) }
 {
+    try_room(alloc, source.len());
     let mut lexing = Lexing::new(source);
     let mut tokens = Vec::new(alloc);
     let Some((mut typing, mut is_last)) = judged_first(alloc, &mut lexing, &mut tokens)? else {

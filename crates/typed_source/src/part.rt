@@ -10,7 +10,7 @@ ghost use Rattle.typed_source.specs.internal.InParts.{IsNext, ReadsOn, ReadsPart
 use crate::Fault;
 use lexer::{Kind, Lexing, Stop, Token};
 use parser::{parse, refusal_within};
-use std::alloc::Global;
+use std::alloc::{AllocError, Global};
 use syntax::Description;
 
 /// How many tokens of a part are made before the parser is asked whether a description goes on with them.
@@ -114,9 +114,25 @@ fn refuse_with_next<'a>(
     )
 }
 
+/// The most tokens whose room is kept for the next part.
+const KEPT_TOKENS: usize = 2_048;
+
+/// The most bytes of a source for which room is tried: a longer one has many procedures, or too many nodes.
+const MOST_BYTES: usize = 4 * FIRST_TOKENS;
+
+/// Asks for the room of the first tokens of a source of so many bytes, and gives it back. An allocator may take large
+/// blocks from the system alone, and from its heap once one of that size came back, as that of glibc does. Then the
+/// trees can have the room that tokens leave.
+pub(crate) fn try_room(alloc: Global, bytes: usize) {
+    if bytes <= MOST_BYTES {
+        let most = bytes.min(FIRST_TOKENS);
+        let _room: Result<Vec<Token<'_>>, AllocError> = Vec::with_capacity(alloc, most);
+    }
+}
+
 /// Gives back the room of many tokens: what is made of their tree next takes as much.
 fn give_back(alloc: Global, tokens: &mut Vec<Token<'_>>) {
-    if tokens.capacity() > FIRST_TOKENS {
+    if tokens.capacity() > KEPT_TOKENS {
         *tokens = Vec::new(alloc);
     }
 }

@@ -1,10 +1,10 @@
 -- Each call has less to do: a part of the command, or a procedure before it. What is made of parts is what is made of all.
-use Rattle.std.proofs.Common.{◌≡◌, ◌≤◌, List, [], Option, length, map, arith, sym, ◌∙◌, ap}
+use Rattle.std.proofs.Common.{◌≡◌, ◌≤◌, List, [], Option, length, map, arith, refl, sym, ◌∙◌, ap}
 use Rattle.std.specs.Option.{option_map}
 use Rattle.std.proofs.lemmas.Bool.Decides.{nat_tests}
 use Rattle.elaborate.specs.internal.BodyParts.{maker_of_guarded, maker_of_labelled, maker_of_arm}
 use Rattle.elaborate.specs.internal.Instances.{channel_use, expression_in}
-use Rattle.elaborate.specs.internal.Makers.{WithMade, all_onto, arms_and_last, maker_of, makers}
+use Rattle.elaborate.specs.internal.Makers.{WithMade, all_onto, around, arms_and_last, maker_of, makers}
 use Rattle.system.specs.declared.command.Action.TheViews as action
 use Rattle.system.specs.declared.command.Arm as tree_arm
 use Rattle.system.specs.declared.command.Guarded as tree_guarded
@@ -12,7 +12,7 @@ use Rattle.system.specs.declared.command.Labelled as tree_labelled
 use Rattle.system.specs.declared.command.Command.{Command}
 use Rattle.elaborate.proofs.Weights.{weight, entered_weight, item_weight, arm_item, guarded_item, labelled_item}
 use Rattle.elaborate.proofs.Calls.{goes_along, enters, ends}
-use Rattle.elaborate.proofs.Parts.{part_more, parts_made, guarded_of_parts, guarded_left, labelled_of_parts, labelled_left, arm_of_parts, arm_left, continue_makes, halt_makes, assign_makes, send_makes, receive_makes, sync_makes, loop_makes, while_makes, input_makes, select_makes, arbitrate_makes, sequence_makes, parallel_makes, if_makes, case_makes, with_last, both_are, made_around, answers_tree, answers_made}
+use Rattle.elaborate.proofs.Parts.{part_more, parts_made, guarded_of_parts, guarded_left, labelled_of_parts, labelled_left, arm_of_parts, arm_left, continue_makes, halt_makes, assign_makes, send_makes, receive_makes, sync_makes, loop_makes, while_makes, input_makes, select_makes, arbitrate_makes, sequence_makes, parallel_makes, if_makes, case_makes, with_last, both_are, made_around, answers_tree, answers_made, told_tree, told_made}
 use Rattle.elaborate.proofs.body.+body.Goals as goal
 
 pub arms_of-command_of-requires : goal.arms_of-command_of-requires
@@ -168,54 +168,6 @@ command_of-returns-in_ok-body-in-Loop t c =
     (loop_makes ps command instance made c.in-Loop.body (sym c.get.ensures ∙ c.in-Loop.is)) in
     record { tree = answers_tree c.loop_command.result _ _ _ is c.loop_command.ensures; made = answers_made c.loop_command.result _ _ _ is }
 
-pub command_of-returns-in_ok-body-in-While : goal.command_of-returns-in_ok-body-in-While
-command_of-returns-in_ok-body-in-While t c =
-    let ps = makers c.args.earlier.now in
-    let command = c.args.command.now in
-    let instance = c.args.instance.now in
-    let made = c.args.made.now in
-    let is =
-    made_around command.line (action.While (expression_in instance c.in-While.guard)) c.in_ok-body-in-While.body c.command_of-in-While.new.made (maker_of ps c.in-While.body instance made) (maker_of ps command instance made)
-    (both_are c.in_ok-body-in-While.body c.command_of-in-While.new.made (maker_of ps c.in-While.body instance made) c.in_ok-body-in-While.ensures.tree c.in_ok-body-in-While.ensures.made)
-    (while_makes ps command instance made c.in-While.guard c.in-While.body (sym c.get.ensures ∙ c.in-While.is)) in
-    record { tree = answers_tree c.while_command.result _ _ _ is c.while_command.ensures; made = answers_made c.while_command.result _ _ _ is }
-
-pub command_of-returns-in_ok-body-in-Input : goal.command_of-returns-in_ok-body-in-Input
-command_of-returns-in_ok-body-in-Input t c =
-    let ps = makers c.args.earlier.now in
-    let command = c.args.command.now in
-    let instance = c.args.instance.now in
-    let made = c.args.made.now in
-    let is =
-    made_around command.line (action.Input (channel_use instance c.in-Input.channel)) c.in_ok-body-in-Input.body c.command_of-in-Input.new.made (maker_of ps c.in-Input.body instance made) (maker_of ps command instance made)
-    (both_are c.in_ok-body-in-Input.body c.command_of-in-Input.new.made (maker_of ps c.in-Input.body instance made) c.in_ok-body-in-Input.ensures.tree c.in_ok-body-in-Input.ensures.made)
-    (input_makes ps command instance made c.in-Input.channel c.in-Input.body (sym c.get.ensures ∙ c.in-Input.is)) in
-    record { tree = answers_tree c.input_command.result _ _ _ is c.input_command.ensures; made = answers_made c.input_command.result _ _ _ is }
-
-pub command_of-returns-in_ok-arms-in-Select : goal.command_of-returns-in_ok-arms-in-Select
-command_of-returns-in_ok-arms-in-Select t c =
-    let ps = makers c.args.earlier.now in
-    let command = c.args.command.now in
-    let instance = c.args.instance.now in
-    let made = c.args.made.now in
-    let is =
-    made_around command.line action.Select c.in_ok-arms-in-Select.arms c.arms_of.new.made (all_onto [] (map (maker_of_arm ps) c.in-Select.arms) instance made) (maker_of ps command instance made)
-    (both_are c.in_ok-arms-in-Select.arms c.arms_of.new.made (all_onto [] (map (maker_of_arm ps) c.in-Select.arms) instance made) (rw c.as_slice-in-Select.ensures at c.in_ok-arms-in-Select.ensures.tree) (rw c.as_slice-in-Select.ensures at c.in_ok-arms-in-Select.ensures.made))
-    (select_makes ps command instance made c.in-Select.arms (sym c.get.ensures ∙ c.in-Select.is)) in
-    record { tree = answers_tree c.select_command.result _ _ _ is c.select_command.ensures; made = answers_made c.select_command.result _ _ _ is }
-
-pub command_of-returns-in_ok-arms-in-Arbitrate : goal.command_of-returns-in_ok-arms-in-Arbitrate
-command_of-returns-in_ok-arms-in-Arbitrate t c =
-    let ps = makers c.args.earlier.now in
-    let command = c.args.command.now in
-    let instance = c.args.instance.now in
-    let made = c.args.made.now in
-    let is =
-    made_around command.line action.Arbitrate c.in_ok-arms-in-Arbitrate.arms c.arms_of-in-Arbitrate.new.made (all_onto [] (map (maker_of_arm ps) c.in-Arbitrate.arms) instance made) (maker_of ps command instance made)
-    (both_are c.in_ok-arms-in-Arbitrate.arms c.arms_of-in-Arbitrate.new.made (all_onto [] (map (maker_of_arm ps) c.in-Arbitrate.arms) instance made) (rw c.as_slice-in-Arbitrate.ensures at c.in_ok-arms-in-Arbitrate.ensures.tree) (rw c.as_slice-in-Arbitrate.ensures at c.in_ok-arms-in-Arbitrate.ensures.made))
-    (arbitrate_makes ps command instance made c.in-Arbitrate.arms (sym c.get.ensures ∙ c.in-Arbitrate.is)) in
-    record { tree = answers_tree c.arbitrate_command.result _ _ _ is c.arbitrate_command.ensures; made = answers_made c.arbitrate_command.result _ _ _ is }
-
 pub command_of-returns-in_ok-children-in-Sequence : goal.command_of-returns-in_ok-children-in-Sequence
 command_of-returns-in_ok-children-in-Sequence t c =
     let ps = makers c.args.earlier.now in
@@ -240,39 +192,97 @@ command_of-returns-in_ok-children-in-Parallel t c =
     (parallel_makes ps command instance made c.in-Parallel.children (sym c.get.ensures ∙ c.in-Parallel.is)) in
     record { tree = answers_tree c.parallel_command.result _ _ _ is c.parallel_command.ensures; made = answers_made c.parallel_command.result _ _ _ is }
 
-pub command_of-returns-in_ok-last-in-If : goal.command_of-returns-in_ok-last-in-If
-command_of-returns-in_ok-last-in-If t c =
-    let ps = makers c.args.earlier.now in
-    let command = c.args.command.now in
-    let instance = c.args.instance.now in
-    let made = c.args.made.now in
-    let parts =
-    with_last (map (maker_of_guarded ps) c.in-If.arms) (option_map (maker_of ps) c.in-If.last) instance made c.guarded_of.new.made c.last_of.new.made
-    c.in_ok-arms-in-If.arms c.in_ok-last-in-If.last
-    (rw c.as_slice-in-If.ensures at c.in_ok-arms-in-If.ensures.tree) (rw c.as_slice-in-If.ensures at c.in_ok-arms-in-If.ensures.made)
-    c.in_ok-last-in-If.ensures.tree c.in_ok-last-in-If.ensures.made in
+pub while_of-returns : goal.while_of-returns
+while_of-returns t c =
+    let r = maker_of (makers c.args.earlier.now) c.args.inside.now c.args.instance.now c.args.made.now in
+    let f = action.While (expression_in c.args.instance.now c.args.guard.now) in
     let is =
-    made_around {X = List tree_guarded.Guarded × Option Command} command.line (λ r. action.If r.0 r.1) (c.in_ok-arms-in-If.arms, c.in_ok-last-in-If.last) c.last_of.new.made
-    (arms_and_last (map (maker_of_guarded ps) c.in-If.arms) (option_map (maker_of ps) c.in-If.last) instance made) (maker_of ps command instance made) parts
-    (if_makes ps command instance made c.in-If.arms c.in-If.last (sym c.get.ensures ∙ c.in-If.is)) in
+    made_around c.args.line f c.in_ok-inside.inside c.command_of.new.made r (around c.args.line f r)
+    (both_are c.in_ok-inside.inside c.command_of.new.made r c.in_ok-inside.ensures.tree c.in_ok-inside.ensures.made) refl in
+    record { tree = answers_tree c.while_command.result _ _ _ is c.while_command.ensures; made = answers_made c.while_command.result _ _ _ is }
+
+pub input_of-returns : goal.input_of-returns
+input_of-returns t c =
+    let r = maker_of (makers c.args.earlier.now) c.args.inside.now c.args.instance.now c.args.made.now in
+    let f = action.Input (channel_use c.args.instance.now c.args.channel) in
+    let is =
+    made_around c.args.line f c.in_ok-inside.inside c.command_of.new.made r (around c.args.line f r)
+    (both_are c.in_ok-inside.inside c.command_of.new.made r c.in_ok-inside.ensures.tree c.in_ok-inside.ensures.made) refl in
+    record { tree = answers_tree c.input_command.result _ _ _ is c.input_command.ensures; made = answers_made c.input_command.result _ _ _ is }
+
+pub select_of-returns : goal.select_of-returns
+select_of-returns t c =
+    let r = all_onto [] (map (maker_of_arm (makers c.args.earlier.now)) c.args.arms.now) c.args.instance.now c.args.made.now in
+    let is =
+    made_around c.args.line action.Select c.in_ok-arms.arms c.arms_of.new.made r (around c.args.line action.Select r)
+    (both_are c.in_ok-arms.arms c.arms_of.new.made r c.in_ok-arms.ensures.tree c.in_ok-arms.ensures.made) refl in
+    record { tree = answers_tree c.select_command.result _ _ _ is c.select_command.ensures; made = answers_made c.select_command.result _ _ _ is }
+
+pub arbitrate_of-returns : goal.arbitrate_of-returns
+arbitrate_of-returns t c =
+    let r = all_onto [] (map (maker_of_arm (makers c.args.earlier.now)) c.args.arms.now) c.args.instance.now c.args.made.now in
+    let is =
+    made_around c.args.line action.Arbitrate c.in_ok-arms.arms c.arms_of.new.made r (around c.args.line action.Arbitrate r)
+    (both_are c.in_ok-arms.arms c.arms_of.new.made r c.in_ok-arms.ensures.tree c.in_ok-arms.ensures.made) refl in
+    record { tree = answers_tree c.arbitrate_command.result _ _ _ is c.arbitrate_command.ensures; made = answers_made c.arbitrate_command.result _ _ _ is }
+
+pub if_of-returns : goal.if_of-returns
+if_of-returns t c =
+    let ps = makers c.args.earlier.now in
+    let arms = map (maker_of_guarded ps) c.args.arms.now in
+    let last = option_map (maker_of ps) c.args.last.now in
+    let r = arms_and_last arms last c.args.instance.now c.args.made.now in
+    let parts =
+    with_last arms last c.args.instance.now c.args.made.now c.guarded_of.new.made c.last_of.new.made c.in_ok-arms.arms c.in_ok-last.last
+    c.in_ok-arms.ensures.tree c.in_ok-arms.ensures.made c.in_ok-last.ensures.tree c.in_ok-last.ensures.made in
+    let is =
+    made_around {X = List tree_guarded.Guarded × Option Command} c.args.line (λ r. action.If r.0 r.1) (c.in_ok-arms.arms, c.in_ok-last.last) c.last_of.new.made
+    r (around c.args.line (λ r. action.If r.0 r.1) r) parts refl in
     record { tree = answers_tree c.if_command.result _ _ _ is c.if_command.ensures; made = answers_made c.if_command.result _ _ _ is }
 
-pub command_of-returns-in_ok-last-in-Case : goal.command_of-returns-in_ok-last-in-Case
-command_of-returns-in_ok-last-in-Case t c =
+pub case_of-returns : goal.case_of-returns
+case_of-returns t c =
     let ps = makers c.args.earlier.now in
-    let command = c.args.command.now in
-    let instance = c.args.instance.now in
-    let made = c.args.made.now in
+    let arms = map (maker_of_labelled ps) c.args.arms.now in
+    let last = option_map (maker_of ps) c.args.last.now in
+    let r = arms_and_last arms last c.args.instance.now c.args.made.now in
     let parts =
-    with_last (map (maker_of_labelled ps) c.in-Case.arms) (option_map (maker_of ps) c.in-Case.last) instance made c.labelled_of.new.made c.last_of-in-Case.new.made
-    c.in_ok-arms-in-Case.arms c.in_ok-last-in-Case.last
-    (rw c.as_slice-in-Case.ensures at c.in_ok-arms-in-Case.ensures.tree) (rw c.as_slice-in-Case.ensures at c.in_ok-arms-in-Case.ensures.made)
-    c.in_ok-last-in-Case.ensures.tree c.in_ok-last-in-Case.ensures.made in
+    with_last arms last c.args.instance.now c.args.made.now c.labelled_of.new.made c.last_of.new.made c.in_ok-arms.arms c.in_ok-last.last
+    c.in_ok-arms.ensures.tree c.in_ok-arms.ensures.made c.in_ok-last.ensures.tree c.in_ok-last.ensures.made in
     let is =
-    made_around {X = List tree_labelled.Labelled × Option Command} command.line (λ r. action.Case (expression_in instance c.in-Case.subject) r.0 r.1) (c.in_ok-arms-in-Case.arms, c.in_ok-last-in-Case.last) c.last_of-in-Case.new.made
-    (arms_and_last (map (maker_of_labelled ps) c.in-Case.arms) (option_map (maker_of ps) c.in-Case.last) instance made) (maker_of ps command instance made) parts
-    (case_makes ps command instance made c.in-Case.subject c.in-Case.arms c.in-Case.last (sym c.get.ensures ∙ c.in-Case.is)) in
+    made_around {X = List tree_labelled.Labelled × Option Command} c.args.line (λ r. action.Case (expression_in c.args.instance.now c.args.subject.now) r.0 r.1) (c.in_ok-arms.arms, c.in_ok-last.last) c.last_of.new.made
+    r (around c.args.line (λ r. action.Case (expression_in c.args.instance.now c.args.subject.now) r.0 r.1) r) parts refl in
     record { tree = answers_tree c.case_command.result _ _ _ is c.case_command.ensures; made = answers_made c.case_command.result _ _ _ is }
+
+pub command_of-returns-in-While : goal.command_of-returns-in-While
+command_of-returns-in-While t c =
+    let is = while_makes (makers c.args.earlier.now) c.args.command.now c.args.instance.now c.args.made.now c.in-While.guard c.in-While.body (sym c.get.ensures ∙ c.in-While.is) in
+    record { tree = told_tree c.while_of.result _ _ is c.while_of.ensures.tree; made = told_made c.while_of.result c.while_of.new.made _ _ is c.while_of.ensures.made }
+
+pub command_of-returns-in-Input : goal.command_of-returns-in-Input
+command_of-returns-in-Input t c =
+    let is = input_makes (makers c.args.earlier.now) c.args.command.now c.args.instance.now c.args.made.now c.in-Input.channel c.in-Input.body (sym c.get.ensures ∙ c.in-Input.is) in
+    record { tree = told_tree c.input_of.result _ _ is c.input_of.ensures.tree; made = told_made c.input_of.result c.input_of.new.made _ _ is c.input_of.ensures.made }
+
+pub command_of-returns-in-Select : goal.command_of-returns-in-Select
+command_of-returns-in-Select t c =
+    let is = select_makes (makers c.args.earlier.now) c.args.command.now c.args.instance.now c.args.made.now c.in-Select.arms (sym c.get.ensures ∙ c.in-Select.is) in
+    record { tree = told_tree c.select_of.result _ _ is (rw c.as_slice-in-Select.ensures at c.select_of.ensures.tree); made = told_made c.select_of.result c.select_of.new.made _ _ is (rw c.as_slice-in-Select.ensures at c.select_of.ensures.made) }
+
+pub command_of-returns-in-Arbitrate : goal.command_of-returns-in-Arbitrate
+command_of-returns-in-Arbitrate t c =
+    let is = arbitrate_makes (makers c.args.earlier.now) c.args.command.now c.args.instance.now c.args.made.now c.in-Arbitrate.arms (sym c.get.ensures ∙ c.in-Arbitrate.is) in
+    record { tree = told_tree c.arbitrate_of.result _ _ is (rw c.as_slice-in-Arbitrate.ensures at c.arbitrate_of.ensures.tree); made = told_made c.arbitrate_of.result c.arbitrate_of.new.made _ _ is (rw c.as_slice-in-Arbitrate.ensures at c.arbitrate_of.ensures.made) }
+
+pub command_of-returns-in-If : goal.command_of-returns-in-If
+command_of-returns-in-If t c =
+    let is = if_makes (makers c.args.earlier.now) c.args.command.now c.args.instance.now c.args.made.now c.in-If.arms c.in-If.last (sym c.get.ensures ∙ c.in-If.is) in
+    record { tree = told_tree c.if_of.result _ _ is (rw c.as_slice-in-If.ensures at c.if_of.ensures.tree); made = told_made c.if_of.result c.if_of.new.made _ _ is (rw c.as_slice-in-If.ensures at c.if_of.ensures.made) }
+
+pub command_of-returns-in-Case : goal.command_of-returns-in-Case
+command_of-returns-in-Case t c =
+    let is = case_makes (makers c.args.earlier.now) c.args.command.now c.args.instance.now c.args.made.now c.in-Case.subject c.in-Case.arms c.in-Case.last (sym c.get.ensures ∙ c.in-Case.is) in
+    record { tree = told_tree c.case_of.result _ _ is (rw c.as_slice-arms.ensures at c.case_of.ensures.tree); made = told_made c.case_of.result c.case_of.new.made _ _ is (rw c.as_slice-arms.ensures at c.case_of.ensures.made) }
 
 pub command_of-returns-in-Continue : goal.command_of-returns-in-Continue
 command_of-returns-in-Continue t c =

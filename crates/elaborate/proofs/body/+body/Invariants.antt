@@ -8,6 +8,24 @@ use Rattle.elaborate.proofs.body.+body.Given as goal
 abbrev pub decreases-command_of : goal.decreases-command_of
 decreases-command_of l = weight l.command.now + weights l.earlier.now
 
+abbrev pub decreases-while_of : goal.decreases-while_of
+decreases-while_of l = weight l.inside.now + weights l.earlier.now + 1
+
+abbrev pub decreases-if_of : goal.decreases-if_of
+decreases-if_of l = total (map weight_of_guarded l.arms.now) + last_weight (option_map weight l.last.now) + weights l.earlier.now + 2
+
+abbrev pub decreases-case_of : goal.decreases-case_of
+decreases-case_of l = total (map weight_of_labelled l.arms.now) + last_weight (option_map weight l.last.now) + weights l.earlier.now + 2
+
+abbrev pub decreases-input_of : goal.decreases-input_of
+decreases-input_of l = weight l.inside.now + weights l.earlier.now + 1
+
+abbrev pub decreases-select_of : goal.decreases-select_of
+decreases-select_of l = total (map weight_of_arm l.arms.now) + weights l.earlier.now + 2
+
+abbrev pub decreases-arbitrate_of : goal.decreases-arbitrate_of
+decreases-arbitrate_of l = total (map weight_of_arm l.arms.now) + weights l.earlier.now + 2
+
 abbrev pub decreases-commands_of : goal.decreases-commands_of
 decreases-commands_of l = total (map weight l.commands.now) + weights l.earlier.now + 1
 

@@ -1,11 +1,4 @@
-use Rattle.front_end.specs.Accepting.{IsRefused}
-use Rattle.front_end.specs.Wrapping.{of_sharing}
-use Rattle.front_end.proofs.AcceptLemmas.{unshared, told}
 use Rattle.front_end.proofs.acceptance.accept.Goals as goal
 
-pub returns-in_err-check_sharing-in-Ok-clause-fault : goal.returns-in_err-check_sharing-in-Ok-clause-fault
-returns-in_err-check_sharing-in-Ok-clause-fault c =
-    told c.from_residual.result (of_sharing c.in_err-check_sharing-in-Ok.field-0.0)
-    (λ fault. IsRefused c.args.source.now c.args.stimulus.now fault) c.from_residual.ensures.1
-    (unshared c.args.source.now c.args.stimulus.now c.in-Ok.system c.in_err-check_sharing-in-Ok.field-0.0 c.in-Ok.ensures.system
-    c.in_err-check_sharing-in-Ok.ensures.refused)
+pub returns-clause-fault : goal.returns-clause-fault
+returns-clause-fault c = c.checked.ensures.fault c.args.source.now c.in_ok-typed.ensures.typed

@@ -133,16 +133,21 @@ add_command-returns-in-Sequence t c =
     ∙ sym (ap (λ r. adding before r) is ∙ adding_sequence before 0 children))
     c.add_commands.ensures
 
-pub add_command-returns-in_ok-branches-in-Parallel : goal.add_command-returns-in_ok-branches-in-Parallel
-add_command-returns-in_ok-branches-in-Parallel t c =
+pub add_command-returns-in-Parallel : goal.add_command-returns-in-Parallel
+add_command-returns-in-Parallel t c =
     let before = table_of_widths c.args.widths.now in
     let children = map residual_of c.in-Parallel.children in
     let is : residual_of c.args.command.now ≡ in_parallel 0 children = search (rules, the_lemmas) in
-    subst (λ t. OnOk c.merge.result (table_of_widths c.merge.new.self ≡ t))
+    subst (λ t. OnOk c.add_parallel.result (table_of_widths c.add_parallel.new.widths ≡ t))
     (ap (join InOneBranch before)
-    (c.in_ok-branches-in-Parallel.ensures
-    ∙ (ap (λ cs. side_by_side nothing (map residual_of cs)) c.as_slice-in-Parallel.ensures ∙ sym (used_by_parallel 0 children)))
+    (ap (λ cs. side_by_side nothing (map residual_of cs)) c.as_slice-in-Parallel.ensures ∙ sym (used_by_parallel 0 children))
     ∙ sym (ap (λ r. adding before r) is))
+    c.add_parallel.ensures
+
+pub add_parallel-returns : goal.add_parallel-returns
+add_parallel-returns t c =
+    subst (λ t. OnOk c.merge.result (table_of_widths c.merge.new.self ≡ t))
+    (ap (join InOneBranch (table_of_widths c.args.widths.now)) c.in_ok-branches.ensures)
     c.merge.ensures.merged
 
 pub add_commands-loop-command-preserved : goal.add_commands-loop-command-preserved
