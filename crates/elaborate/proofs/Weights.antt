@@ -32,8 +32,8 @@ action_weight (Action-F.Case e arms last) = total arms + last_weight last + 3
 action_weight (Action-F.Input c body) = body + 3
 action_weight (Action-F.Select arms) = total arms + 3
 action_weight (Action-F.Arbitrate arms) = total arms + 3
-action_weight (Action-F.Sequence children) = total children + 2
-action_weight (Action-F.Parallel children) = total children + 2
+action_weight (Action-F.Sequence children) = total children + 3
+action_weight (Action-F.Parallel children) = total children + 3
 action_weight (Action-F.Call p arguments) = 2
 
 abbrev pub arm_weight : Arm-F ℕ ℕ ℕ ℕ ℕ → ℕ

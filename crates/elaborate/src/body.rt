@@ -40,10 +40,7 @@ fn command_of(
             made.calls = call;
             Ok(body)
         }
-        typed::Action::Loop(body) => {
-            let body = command_of(alloc, body, instance, earlier, made)?;
-            loop_command(alloc, line, body)
-        }
+        typed::Action::Loop(body) => loop_of(alloc, body, line, instance, earlier, made),
         typed::Action::While(guard, body) => {
             while_of(alloc, body, line, guard, instance, earlier, made)
         }
@@ -64,12 +61,10 @@ fn command_of(
             arbitrate_of(alloc, arms.as_slice(), line, instance, earlier, made)
         }
         typed::Action::Sequence(children) => {
-            let children = commands_of(alloc, children.as_slice(), instance, earlier, made)?;
-            sequence_command(alloc, line, children)
+            sequence_of(alloc, children.as_slice(), line, instance, earlier, made)
         }
         typed::Action::Parallel(children) => {
-            let children = commands_of(alloc, children.as_slice(), instance, earlier, made)?;
-            parallel_command(alloc, line, children)
+            parallel_of(alloc, children.as_slice(), line, instance, earlier, made)
         }
         typed::Action::Continue => continue_command(alloc, line),
         typed::Action::Halt => halt_command(alloc, line),
@@ -86,8 +81,29 @@ fn command_of(
     }
 }
 
-/// A `loop` that ends where the guard is 0. This and the forms below are functions of their own, so that the recursion
-/// takes little stack where a command has another form.
+/// A `loop`. This and the forms below are functions of their own, so that the recursion takes little stack where a
+/// command has another form.
+#[cycle(body)]
+#[inline(never)]
+fn loop_of(
+    alloc: Global,
+    inside: &typed::Command,
+    line: u64,
+    instance: &Instance,
+    earlier: &[Procedure],
+    made: &mut Made,
+) -> Result<Command, AllocError>
+    ensures tree { IfOk result (λ tree.
+        tree
+        ≡ (body.around line action.Loop (body.maker_of (body.makers earlier.now) inside.now instance.now made.old)).0) }
+    ensures made { OnOk result (made.new
+        ≡ (body.maker_of (body.makers earlier.now) inside.now instance.now made.old).1) }
+{
+    let inside = command_of(alloc, inside, instance, earlier, made)?;
+    loop_command(alloc, line, inside)
+}
+
+/// A `loop` that ends where the guard is 0.
 #[cycle(body)]
 #[inline(never)]
 fn while_of(
@@ -228,6 +244,50 @@ fn arbitrate_of(
 {
     let arms = arms_of(alloc, arms, instance, earlier, made)?;
     arbitrate_command(alloc, line, arms)
+}
+
+/// Commands one after the other.
+#[cycle(body)]
+#[inline(never)]
+fn sequence_of(
+    alloc: Global,
+    children: &[typed::Command],
+    line: u64,
+    instance: &Instance,
+    earlier: &[Procedure],
+    made: &mut Made,
+) -> Result<Command, AllocError>
+    ensures tree { IfOk result (λ tree.
+        tree
+        ≡ (body.around line action.Sequence
+        (body.all_onto [] (map (body.maker_of (body.makers earlier.now)) children.now) instance.now made.old)).0) }
+    ensures made { OnOk result (made.new
+        ≡ (body.all_onto [] (map (body.maker_of (body.makers earlier.now)) children.now) instance.now made.old).1) }
+{
+    let children = commands_of(alloc, children, instance, earlier, made)?;
+    sequence_command(alloc, line, children)
+}
+
+/// Commands side by side.
+#[cycle(body)]
+#[inline(never)]
+fn parallel_of(
+    alloc: Global,
+    children: &[typed::Command],
+    line: u64,
+    instance: &Instance,
+    earlier: &[Procedure],
+    made: &mut Made,
+) -> Result<Command, AllocError>
+    ensures tree { IfOk result (λ tree.
+        tree
+        ≡ (body.around line action.Parallel
+        (body.all_onto [] (map (body.maker_of (body.makers earlier.now)) children.now) instance.now made.old)).0) }
+    ensures made { OnOk result (made.new
+        ≡ (body.all_onto [] (map (body.maker_of (body.makers earlier.now)) children.now) instance.now made.old).1) }
+{
+    let children = commands_of(alloc, children, instance, earlier, made)?;
+    parallel_command(alloc, line, children)
 }
 
 /// The commands in order.

@@ -156,41 +156,44 @@ arms_of-returns t c =
     c.loop-arm-test.false c.loop-arm.invariant in
     record { tree = ap (λ (r : WithMade (List tree_arm.Arm)). r.0) all; made = ap (λ (r : WithMade (List tree_arm.Arm)). r.1) all }
 
-pub command_of-returns-in_ok-body-in-Loop : goal.command_of-returns-in_ok-body-in-Loop
-command_of-returns-in_ok-body-in-Loop t c =
-    let ps = makers c.args.earlier.now in
-    let command = c.args.command.now in
-    let instance = c.args.instance.now in
-    let made = c.args.made.now in
+pub loop_of-returns : goal.loop_of-returns
+loop_of-returns t c =
+    let r = maker_of (makers c.args.earlier.now) c.args.inside.now c.args.instance.now c.args.made.now in
     let is =
-    made_around command.line action.Loop c.in_ok-body-in-Loop.body c.command_of.new.made (maker_of ps c.in-Loop.body instance made) (maker_of ps command instance made)
-    (both_are c.in_ok-body-in-Loop.body c.command_of.new.made (maker_of ps c.in-Loop.body instance made) c.in_ok-body-in-Loop.ensures.tree c.in_ok-body-in-Loop.ensures.made)
-    (loop_makes ps command instance made c.in-Loop.body (sym c.get.ensures ∙ c.in-Loop.is)) in
+    made_around c.args.line action.Loop c.in_ok-inside.inside c.command_of.new.made r (around c.args.line action.Loop r)
+    (both_are c.in_ok-inside.inside c.command_of.new.made r c.in_ok-inside.ensures.tree c.in_ok-inside.ensures.made) refl in
     record { tree = answers_tree c.loop_command.result _ _ _ is c.loop_command.ensures; made = answers_made c.loop_command.result _ _ _ is }
 
-pub command_of-returns-in_ok-children-in-Sequence : goal.command_of-returns-in_ok-children-in-Sequence
-command_of-returns-in_ok-children-in-Sequence t c =
-    let ps = makers c.args.earlier.now in
-    let command = c.args.command.now in
-    let instance = c.args.instance.now in
-    let made = c.args.made.now in
+pub sequence_of-returns : goal.sequence_of-returns
+sequence_of-returns t c =
+    let r = all_onto [] (map (maker_of (makers c.args.earlier.now)) c.args.children.now) c.args.instance.now c.args.made.now in
     let is =
-    made_around command.line action.Sequence c.in_ok-children-in-Sequence.children c.commands_of.new.made (all_onto [] (map (maker_of ps) c.in-Sequence.children) instance made) (maker_of ps command instance made)
-    (both_are c.in_ok-children-in-Sequence.children c.commands_of.new.made (all_onto [] (map (maker_of ps) c.in-Sequence.children) instance made) (rw c.as_slice-in-Sequence.ensures at c.in_ok-children-in-Sequence.ensures.tree) (rw c.as_slice-in-Sequence.ensures at c.in_ok-children-in-Sequence.ensures.made))
-    (sequence_makes ps command instance made c.in-Sequence.children (sym c.get.ensures ∙ c.in-Sequence.is)) in
+    made_around c.args.line action.Sequence c.in_ok-children.children c.commands_of.new.made r (around c.args.line action.Sequence r)
+    (both_are c.in_ok-children.children c.commands_of.new.made r c.in_ok-children.ensures.tree c.in_ok-children.ensures.made) refl in
     record { tree = answers_tree c.sequence_command.result _ _ _ is c.sequence_command.ensures; made = answers_made c.sequence_command.result _ _ _ is }
 
-pub command_of-returns-in_ok-children-in-Parallel : goal.command_of-returns-in_ok-children-in-Parallel
-command_of-returns-in_ok-children-in-Parallel t c =
-    let ps = makers c.args.earlier.now in
-    let command = c.args.command.now in
-    let instance = c.args.instance.now in
-    let made = c.args.made.now in
+pub parallel_of-returns : goal.parallel_of-returns
+parallel_of-returns t c =
+    let r = all_onto [] (map (maker_of (makers c.args.earlier.now)) c.args.children.now) c.args.instance.now c.args.made.now in
     let is =
-    made_around command.line action.Parallel c.in_ok-children-in-Parallel.children c.commands_of-in-Parallel.new.made (all_onto [] (map (maker_of ps) c.in-Parallel.children) instance made) (maker_of ps command instance made)
-    (both_are c.in_ok-children-in-Parallel.children c.commands_of-in-Parallel.new.made (all_onto [] (map (maker_of ps) c.in-Parallel.children) instance made) (rw c.as_slice-in-Parallel.ensures at c.in_ok-children-in-Parallel.ensures.tree) (rw c.as_slice-in-Parallel.ensures at c.in_ok-children-in-Parallel.ensures.made))
-    (parallel_makes ps command instance made c.in-Parallel.children (sym c.get.ensures ∙ c.in-Parallel.is)) in
+    made_around c.args.line action.Parallel c.in_ok-children.children c.commands_of.new.made r (around c.args.line action.Parallel r)
+    (both_are c.in_ok-children.children c.commands_of.new.made r c.in_ok-children.ensures.tree c.in_ok-children.ensures.made) refl in
     record { tree = answers_tree c.parallel_command.result _ _ _ is c.parallel_command.ensures; made = answers_made c.parallel_command.result _ _ _ is }
+
+pub command_of-returns-in-Loop : goal.command_of-returns-in-Loop
+command_of-returns-in-Loop t c =
+    let is = loop_makes (makers c.args.earlier.now) c.args.command.now c.args.instance.now c.args.made.now c.in-Loop.body (sym c.get.ensures ∙ c.in-Loop.is) in
+    record { tree = told_tree c.loop_of.result _ _ is c.loop_of.ensures.tree; made = told_made c.loop_of.result c.loop_of.new.made _ _ is c.loop_of.ensures.made }
+
+pub command_of-returns-in-Sequence : goal.command_of-returns-in-Sequence
+command_of-returns-in-Sequence t c =
+    let is = sequence_makes (makers c.args.earlier.now) c.args.command.now c.args.instance.now c.args.made.now c.in-Sequence.children (sym c.get.ensures ∙ c.in-Sequence.is) in
+    record { tree = told_tree c.sequence_of.result _ _ is (rw c.as_slice-in-Sequence.ensures at c.sequence_of.ensures.tree); made = told_made c.sequence_of.result c.sequence_of.new.made _ _ is (rw c.as_slice-in-Sequence.ensures at c.sequence_of.ensures.made) }
+
+pub command_of-returns-in-Parallel : goal.command_of-returns-in-Parallel
+command_of-returns-in-Parallel t c =
+    let is = parallel_makes (makers c.args.earlier.now) c.args.command.now c.args.instance.now c.args.made.now c.in-Parallel.children (sym c.get.ensures ∙ c.in-Parallel.is) in
+    record { tree = told_tree c.parallel_of.result _ _ is (rw c.as_slice-in-Parallel.ensures at c.parallel_of.ensures.tree); made = told_made c.parallel_of.result c.parallel_of.new.made _ _ is (rw c.as_slice-in-Parallel.ensures at c.parallel_of.ensures.made) }
 
 pub while_of-returns : goal.while_of-returns
 while_of-returns t c =

@@ -8,6 +8,15 @@ use Rattle.elaborate.proofs.body.+body.Given as goal
 abbrev pub decreases-command_of : goal.decreases-command_of
 decreases-command_of l = weight l.command.now + weights l.earlier.now
 
+abbrev pub decreases-loop_of : goal.decreases-loop_of
+decreases-loop_of l = weight l.inside.now + weights l.earlier.now + 1
+
+abbrev pub decreases-sequence_of : goal.decreases-sequence_of
+decreases-sequence_of l = total (map weight l.children.now) + weights l.earlier.now + 2
+
+abbrev pub decreases-parallel_of : goal.decreases-parallel_of
+decreases-parallel_of l = total (map weight l.children.now) + weights l.earlier.now + 2
+
 abbrev pub decreases-while_of : goal.decreases-while_of
 decreases-while_of l = weight l.inside.now + weights l.earlier.now + 1
 
