@@ -1,5 +1,5 @@
 -- The way of a place in its branch, and what is behind it.
-use Rattle.std.proofs.Common.{◌≡◌, ◌≢◌, ◌⊎◌, inl, inr, ℕ, zero, suc, ◌<◌, ◌≤◌, true, false, List, [], ◌∷◌, ◌++◌, length, take, drop, slice_get, get_or, refl, sym, ap, subst, ◌∙◌, true≢false, arith}
+use Rattle.std.proofs.Common.{◌≡◌, ◌≢◌, ◌⊎◌, inl, inr, ℕ, zero, suc, ◌<◌, ◌≤◌, true, false, List, [], ◌∷◌, ◌++◌, length, take, drop, slice_get, refl, sym, ap, subst, ◌∙◌, true≢false, arith}
 use Rattle.address.specs.declared.Entry.{Entry}
 use Rattle.address.specs.declared.Entry.TheVariants.{Ordered, Branch}
 use Rattle.address.proofs.public.Places.{head-injective, tail-injective, nil-not-cons, same-entry?}
@@ -181,26 +181,3 @@ drop-whole [] zero h = refl
 drop-whole [] (suc n) h = refl
 drop-whole (x ∷ a) zero h = absurd (omega arith)
 drop-whole (x ∷ a) (suc n) h = let rest : length a ≤ n = omega arith in drop-whole a n rest
-
-drop-here : (a : List Entry) (n : ℕ) (d : Entry) → n < length a → drop n a ≡ get_or a n d ∷ drop (suc n) a
-drop-here [] n d h = absurd (omega arith)
-drop-here (x ∷ a) zero d h = refl
-drop-here (x ∷ a) (suc n) d h = let less : n < length a = omega arith in drop-here a n d less
-
--- one more is the same
-pub same-behind : (a b : List Entry) (n m : ℕ) (x y : Entry) → m ≡ suc n → n < length a → n < length b → x ≡ get_or a n x → y ≡ get_or b n y → x ≡ y →
-    drop m a ≡ drop m b → drop n a ≡ drop n b
-same-behind a b n m x y next la lb ax by same behind =
-    drop-here a n x la
-    ∙ (ap (λ (z : Entry). z ∷ drop (suc n) a) (sym ax ∙ (same ∙ by))
-    ∙ (ap (λ (r : List Entry). get_or b n y ∷ r) (subst (λ (k : ℕ). drop k a ≡ drop k b) next behind) ∙ sym (drop-here b n y lb)))
-
-either-default : (b : List Entry) (n : ℕ) (x y : Entry) → n < length b → get_or b n x ≡ get_or b n y
-either-default [] n x y h = absurd (omega arith)
-either-default (z ∷ b) zero x y h = refl
-either-default (z ∷ b) (suc n) x y h = let less : n < length b = omega arith in either-default b n x y less
-
--- where one differs they are not the same
-pub same-at : (a b : List Entry) (n : ℕ) (x y : Entry) → n < length a → x ≡ get_or a n x → y ≡ get_or b n y → a ≡ b → x ≡ y
-same-at a b n x y la ax by same =
-    ax ∙ (ap (λ (r : List Entry). get_or r n x) same ∙ (either-default b n x y (subst (λ (r : List Entry). n < length r) same la) ∙ sym by))

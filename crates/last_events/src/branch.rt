@@ -7,6 +7,7 @@ ghost use Rattle.last_events.specs.internal.Seats.{AllOrdered, seat_way, seat_pl
 ghost use Rattle.last_events.specs.internal.Walks.{Related, AddedLast, AddedFrom, IsGroup, IsNearer};
 
 use crate::children::is_first_child;
+use crate::inserts::insert_at;
 use crate::search::count_less;
 use crate::ways::{ends_at_branch, is_same, ordered, way_length};
 use address::{Address, Entry};
@@ -213,7 +214,7 @@ fn put_among(
     let (before, _) = seats.as_slice().split_at(index);
     add_last_among(nearer(before, way, nearest), found)?;
     let seat = Seat::new(alloc, place, ticket)?;
-    seats.insert(index, seat)?;
+    insert_at(seats, index, seat)?;
     Ok(())
 }
 

@@ -187,15 +187,15 @@ put_among-add_last_among-requires-clause-related t c =
 
 pub put_among-returns-clause-branch : goal.put_among-returns-clause-branch
 put_among-returns-clause-branch t c =
-    inserted-branch c.args.seats.now.items c.as_slice.result.now c.as_slice-2.result.now c.insert.new.self.items c.split_at.result.0.now _ c.args.place.now c.count_less-index.result _
+    inserted-branch c.args.seats.now.items c.as_slice.result.now c.as_slice-2.result.now c.insert_at.new.items.items c.split_at.result.0.now _ c.args.place.now c.count_less-index.result _
     c.args.ticket c.requires.branch c.as_slice.ensures.value c.as_slice-2.ensures.value c.split_at.ensures.front c.way_length.ensures.way c.count_less-index.ensures
-    (c.has_way.ensures.no c.if-has_way.false) c.in_ok-seat.ensures c.in_ok-insert.ensures.items
+    (c.has_way.ensures.no c.if-has_way.false) c.in_ok-seat.ensures c.in_ok-insert_at.ensures.put
 
 pub put_among-returns-clause-put : goal.put_among-returns-clause-put
 put_among-returns-clause-put t c =
-    inserted-put c.args.seats.now.items c.as_slice.result.now c.as_slice-2.result.now c.insert.new.self.items c.split_at.result.0.now _ c.args.place.now c.count_less-index.result _
+    inserted-put c.args.seats.now.items c.as_slice.result.now c.as_slice-2.result.now c.insert_at.new.items.items c.split_at.result.0.now _ c.args.place.now c.count_less-index.result _
     c.args.ticket c.requires.branch c.as_slice.ensures.value c.as_slice-2.ensures.value c.split_at.ensures.front c.way_length.ensures.way c.count_less-index.ensures
-    (c.has_way.ensures.no c.if-has_way.false) c.in_ok-seat.ensures c.in_ok-insert.ensures.items
+    (c.has_way.ensures.no c.if-has_way.false) c.in_ok-seat.ensures c.in_ok-insert_at.ensures.put
 
 pub put_among-returns-clause-found : goal.put_among-returns-clause-found
 put_among-returns-clause-found t c =

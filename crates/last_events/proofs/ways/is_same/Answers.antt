@@ -1,6 +1,5 @@
-use Rattle.std.proofs.Common.{◌≡◌, ◌<◌, ◌≤◌, ◌-◌, suc, List, drop, length, get_or, refl, sym, ap, subst, true≢false, ◌∙◌, arith}
-use Rattle.address.specs.declared.Entry.{Entry}
-use Rattle.last_events.proofs.WayLaws.{drop-whole, same-behind, same-at}
+use Rattle.std.proofs.Common.{◌≡◌, ◌-◌, drop, length, refl, sym, ap, subst, true≢false, ◌∙◌, arith}
+use Rattle.last_events.proofs.WayLaws.{drop-whole}
 use Rattle.last_events.proofs.ways.is_same.Goals as goal
 
 pub returns-then-one-other : goal.returns-then-one-other
