@@ -116,3 +116,12 @@ followed-not l ts fs t lists u top =
     let less : t < u.0 = d.less in
     let is : u.0 ≡ t = top.1 u.0 u.2 (direct-follows l t u.0 d) in
     omega arith
+
+-- the last is the greatest
+pub below-last : (ts : List ℕ) (last : ℕ) → IsNonDecreasing ts → last ≡ get_or ts (length ts - 1) 0 → (t : ℕ) → In t ts → t ≤ last
+below-last ts last rise is t i =
+    let k = index-in ts t i in
+    let within : k.0 < length ts = slice_get_within ts k.0 t k.1 in
+    let here : get_or ts k.0 0 ≡ t = got-here ts k.0 t 0 k.1 in
+    let high : get_or ts k.0 0 ≤ get_or ts (length ts - 1) 0 = rise k.0 (length ts - 1) 0 (omega arith) (omega arith) in
+    omega arith

@@ -94,7 +94,7 @@ fn is_flagged(list: &LiveList, last: u64, high: usize, flags: &[bool], tickets: 
 }
 
 /// Whether the number is among these, which ascend.
-fn is_among(numbers: &[u64], number: u64) -> bool
+pub(crate) fn is_among(numbers: &[u64], number: u64) -> bool
     requires { IsNonDecreasing numbers.now }
     ensures { result ≡ is_in number numbers.now }
 {

@@ -1,5 +1,5 @@
-// Which of some live events no other of them depends on, where their followers alone tell it: as a rule they do, and what
-// lies between the events need not be swept.
+// Which of some live events no other of them depends on, where a few looks along their followers tell it: as a rule they
+// do, and what lies between the events need not be swept.
 ghost use Rattle.std.specs.Prelude.{◌≡◌, ◌<◌, ◌↔◌, ◌-◌, ℕ, suc, length, true, false, Some, drop, slice_index, IfSome, IfOk, ◌&&◌};
 ghost use Rattle.std.specs.List.Sorted.{IsNonDecreasing};
 ghost use Rattle.syntax.specs.Lists.{In};
@@ -8,6 +8,7 @@ ghost use Rattle.runs.specs.Live.{IsLive};
 ghost use Rattle.dependence.specs.internal.Tables.{IsRising, Falling, Linked, Topmost};
 
 use crate::indexes::index_in;
+use crate::leading::is_alone;
 use crate::links::{Leads, keep_if};
 use crate::live_list::LiveList;
 use crate::whole::followers_of;
@@ -18,7 +19,7 @@ use std::alloc::{AllocError, Global};
 const MANY: usize = 8;
 
 /// Of these live events, whose tickets ascend, those on which no other of them depends, the last first; `None` where
-/// their followers alone do not tell it.
+/// a few looks along the followers do not tell it.
 pub(crate) fn told_topmost(
     alloc: Global,
     list: &LiveList,
@@ -39,7 +40,7 @@ pub(crate) fn told_topmost(
     while index > 0 {
         index -= 1;
         let ticket = tickets[index];
-        let Some(is_top) = stays(list, tickets, last, ticket) else {
+        let Some(is_top) = stays(alloc, list, tickets, last, ticket) else {
             return Ok(None);
         };
         let is_new = is_below_rest(tickets, index);
@@ -48,9 +49,9 @@ pub(crate) fn told_topmost(
     Ok(Some(kept))
 }
 
-/// Whether no other of these events, of which `last` is the last, depends on this one of them; `None` where its followers
-/// alone do not tell it. Nothing up to the last depends on it where its first follower stands behind that one.
-fn stays(list: &LiveList, tickets: &[u64], last: u64, ticket: u64) -> Option<bool>
+/// Whether no other of these events, of which `last` is the last, depends on this one of them; `None` where a few looks
+/// along the followers do not tell it. Nothing up to the last depends on it where its first follower stands behind that one.
+fn stays(alloc: Global, list: &LiveList, tickets: &[u64], last: u64, ticket: u64) -> Option<bool>
     requires rising { IsRising list.now.live }
     requires linked { Linked list.now.live list.now.links }
     requires live { (t : ℕ) → In t tickets.now → IsLive list.now.live t }
@@ -67,20 +68,20 @@ fn stays(list: &LiveList, tickets: &[u64], last: u64, ticket: u64) -> Option<boo
     if first > last {
         return Some(true);
     }
+    if tickets.len() > MANY {
+        return None;
+    }
     if have_common(followers, tickets) {
         return Some(false);
     }
-    None
+    is_alone(alloc, list, tickets, last, ticket)
 }
 
-/// Whether one of the tickets, which are few, is among the followers, which ascend. Where they are many none is looked at.
+/// Whether one of the tickets is among the followers, which ascend.
 fn have_common(followers: &[u64], tickets: &[u64]) -> bool
     requires { InOrder ◌<◌ followers.now }
     ensures { result ≡ true → (t : ℕ) × In t followers.now × In t tickets.now }
 {
-    if tickets.len() > MANY {
-        return false;
-    }
     for ticket in tickets {
         if is_among(followers, *ticket) {
             return true;

@@ -1,6 +1,7 @@
-use Rattle.std.proofs.Common.{◌∙◌, ℕ, Option, Some, true, MatchOption, subst}
+use Rattle.std.proofs.Common.{◌∙◌, inl, inr, ℕ, Option, Some, true, MatchOption, subst}
+use Rattle.std.proofs.lemmas.Bool.{cases_eq}
 use Rattle.runs.specs.Live.{NoDependent, FirstDependent}
-use Rattle.dependence.proofs.Distinct.{unreached-none, unreached-past, one-topmost, followed-not}
+use Rattle.dependence.proofs.Distinct.{unreached-none, unreached-past, one-topmost, followed-not, below-last}
 use Rattle.dependence.proofs.Wholes.{first-follower}
 use Rattle.dependence.proofs.unreached.stays.Goals as goal
 
@@ -27,3 +28,23 @@ pub returns-then-have_common-clause-no : goal.returns-then-have_common-clause-no
 returns-then-have_common-clause-no c = λ is.
     followed-not c.args.list.now.live c.args.tickets.now c.followers_of-followers.result.now c.args.ticket c.followers_of-followers.ensures
     (c.have_common.ensures c.if-have_common.true)
+
+pub is_alone-requires : goal.is_alone-requires
+is_alone-requires c = record {
+  rising = c.requires.rising;
+  linked = c.requires.linked;
+  live = c.requires.live c.args.ticket c.requires.one;
+  ascending = c.requires.ascending;
+  last = below-last c.args.tickets.now c.args.last c.requires.ascending c.requires.last;
+}
+
+pub returns-clause-yes : goal.returns-clause-yes
+returns-clause-yes c = λ is. (
+  c.requires.one,
+  λ u i on. elim (cases_eq u c.args.ticket) [ inl same ↦ same | inr other ↦ absurd (c.is_alone.ensures.yes is (u, i, on, other)) ],
+)
+
+pub returns-clause-no : goal.returns-clause-no
+returns-clause-no c = λ is top.
+    let k = c.is_alone.ensures.no is in
+    k.3 (top.1 k.0 k.1 k.2)
