@@ -1,13 +1,11 @@
 -- From an event along its followers to others that depend on it.
-use Rattle.std.proofs.Common.{◌≡◌, ◌⊎◌, ◌↔◌, inl, inr, ℕ, suc, ◌<◌, ◌≤◌, ◌∙◌, List, [], ◌∷◌, ◌++◌, Bool, true, false, cond, length, get_or, drop, IsTrue, refl, sym, ap, subst, true≢false, arith}
-use Rattle.std.proofs.lemmas.Bool.{cases_eq}
+use Rattle.std.proofs.Common.{◌≡◌, ◌⊎◌, ◌↔◌, inl, inr, ℕ, suc, ◌<◌, ◌≤◌, List, [], ◌∷◌, ◌++◌, Bool, true, false, cond, length, get_or, drop, IsTrue, refl, sym, subst, true≢false, arith}
 use Rattle.std.proofs.lemmas.Option.{slice_get-get_or}
 use Rattle.syntax.specs.Lists.{In}
 use Rattle.runs.specs.Live.{Live, Rising, IsLive, DependsOn}
 use Rattle.runs.proofs.public.DependsOnLaw.{depends-up}
 use Rattle.runs.proofs.public.Lists.{in-left, in-right, in-parts}
 use Rattle.dependence.specs.Followers.{Follower}
-use Rattle.dependence.specs.internal.Sweeping.{LeadsOn}
 use Rattle.dependence.specs.internal.Tables.{IsRising}
 use Rattle.dependence.proofs.Sweeps.{first-step}
 use Rattle.dependence.proofs.public.Following.{follows-on}

@@ -103,7 +103,8 @@ pub(crate) fn take_out(list: &mut LiveList, ticket: u64) -> Event
     requires linked { Linked list.old.live list.old.links }
     requires live { IsLive list.old.live ticket }
     requires alone { NoDependent list.old.live ticket }
-    ensures taken { (i : ℕ) × (slice_get list.old.live i ≡ Some (ticket, result)) × (list.new.live ≡ remove list.old.live i) }
+    ensures taken { (i : ℕ) × (slice_get list.old.live i ≡ Some (ticket, result))
+        × (list.new.live ≡ remove list.old.live i) }
     ensures linked { Linked list.new.live list.new.links }
 {
     let kept = list.take(ticket);

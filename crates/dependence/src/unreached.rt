@@ -1,5 +1,5 @@
-// Which of some live events no other of them depends on, where a few looks along their followers tell it: as a rule they
-// do, and what lies between the events need not be swept.
+// Which of some live events no other of them depends on, where a few looks along their followers tell it: as a rule
+// they do, and what lies between the events need not be swept.
 ghost use Rattle.std.specs.Prelude.{◌≡◌, ◌<◌, ◌↔◌, ◌-◌, ℕ, suc, length, true, false, Some, drop, slice_index, IfSome, IfOk, ◌&&◌};
 ghost use Rattle.std.specs.List.Sorted.{IsNonDecreasing};
 ghost use Rattle.syntax.specs.Lists.{In};
@@ -50,7 +50,8 @@ pub(crate) fn told_topmost(
 }
 
 /// Whether no other of these events, of which `last` is the last, depends on this one of them; `None` where a few looks
-/// along the followers do not tell it. Nothing up to the last depends on it where its first follower stands behind that one.
+/// along the followers do not tell it. Nothing up to the last depends on it where its first follower stands behind that
+/// one.
 fn stays(alloc: Global, list: &LiveList, tickets: &[u64], last: u64, ticket: u64) -> Option<bool>
     requires rising { IsRising list.now.live }
     requires linked { Linked list.now.live list.now.links }

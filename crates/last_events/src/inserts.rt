@@ -4,7 +4,8 @@ ghost use Rattle.std.specs.List.{insert};
 
 use std::alloc::AllocError;
 
-/// Puts the item behind so many others: behind all nearly always, so that nothing moves. Without memory for it they stay.
+/// Puts the item behind so many others: behind all nearly always, so that nothing moves. Without memory for it they
+/// stay.
 pub(crate) fn insert_at<T: Drop>(
     items: &mut Vec<T>,
     index: usize,

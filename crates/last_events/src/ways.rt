@@ -51,7 +51,8 @@ pub(crate) fn ends_at_branch(way: &[Entry]) -> bool
     }
 }
 
-/// Whether both are the same entries. The last ones are looked at first, since two ways of one branch mostly differ there.
+/// Whether both are the same entries. The last ones are looked at first, since two ways of one branch mostly differ
+/// there.
 pub(crate) fn is_same(one: &[Entry], other: &[Entry]) -> bool
     ensures { IsTrue result ↔ (one.now ≡ other.now) }
 {

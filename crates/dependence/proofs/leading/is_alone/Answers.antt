@@ -1,4 +1,4 @@
-use Rattle.std.proofs.Common.{◌≡◌, ◌++◌, ◌∷◌, [], ℕ, List, Option, IsSome, option_to_list, length, inl, refl, sym, ap, subst, true≢false, ◌<◌, ◌∙◌, arith}
+use Rattle.std.proofs.Common.{◌++◌, ◌∷◌, [], ℕ, List, Option, IsSome, option_to_list, length, inl, refl, sym, ap, subst, true≢false, ◌<◌, ◌∙◌, arith}
 use Rattle.std.proofs.lemmas.Option.{slice_get_within}
 use Rattle.syntax.specs.Lists.{In}
 use Rattle.runs.proofs.public.Lists.{in-right}
