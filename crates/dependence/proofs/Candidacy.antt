@@ -72,6 +72,10 @@ places-two old mid n f p ts ms us free own put second h k = record {
 pub found-none : (l : Live) (f : Event) (P : ℕ → Type 0) (found : List ℕ) → ((t : ℕ) (e : Event) → LiveAt l t e → P t → ⊥) → AccessesFound l f P found found
 found-none l f P found none = record { kept = λ t i. i; sound = λ t i. inl i; complete = λ t e i p. absurd (none t e i p) }
 
+-- all that is to be found is there
+pub found-there : (l : Live) (f : Event) (P : ℕ → Type 0) (found : List ℕ) → ((t : ℕ) (e : Event) → LiveAt l t e → P t → In t found) → AccessesFound l f P found found
+found-there l f P found there = record { kept = λ t i. i; sound = λ t i. inl i; complete = λ t e i p. inr (there t e i p) }
+
 -- what is found, and then more
 pub found-then : (l : Live) (f : Event) (P Q : ℕ → Type 0) (old mid new : List ℕ) → AccessesFound l f P old mid → AccessesFound l f Q mid new →
     AccessesFound l f (λ t. P t ⊎ Q t) old new
@@ -255,16 +259,16 @@ module _ (new : NewEvent) (h : IsNewEvent new) (x : ℕ) where
 
   -- the readers from there on
   pub reader-found : (from : ℕ) (ts : List ℕ) → ((t : ℕ) → (from ≤ t) ↔ ((v : ℕ) → LastWriter l x v → v ≤ t)) →
-      ((t : ℕ) → In t ts ↔ (In t [] ⊎ (Uses new.tables.now.readers x t × (from ≤ t) × (t < new.ticket)))) → (t : ℕ) → ReaderSince l x t → In t ts
+      ((t : ℕ) → In t ts ↔ (Uses new.tables.now.readers x t × (from ≤ t) × (t < new.ticket))) → (t : ℕ) → ReaderSince l x t → In t ts
   reader-found from ts since between t r =
-      (between t).1 (inr ((h.tables.readers x t).1 (r.event, r.live, r.reads), (since t).1 r.last, below-new t r.event r.live))
+      (between t).1 ((h.tables.readers x t).1 (r.event, r.live, r.reads), (since t).1 r.last, below-new t r.event r.live)
 
   pub reader-direct : (from : ℕ) (ts : List ℕ) → new.event.now.written ≡ Some x →
-      ((t : ℕ) → In t ts ↔ (In t [] ⊎ (Uses new.tables.now.readers x t × (from ≤ t) × (t < new.ticket)))) → (t : ℕ) → In t ts → IsDirect l new.event.now t
-  reader-direct from ts writes between t i = elim ((between t).0 i) [
-    | inl none ↦ absurd none
-    | inr k ↦ let at = (h.tables.readers x t).0 k.0 in (at.0, at.1, inr (inr (inr (x, writes, inl at.2))))
-  ]
+      ((t : ℕ) → In t ts ↔ (Uses new.tables.now.readers x t × (from ≤ t) × (t < new.ticket))) → (t : ℕ) → In t ts → IsDirect l new.event.now t
+  reader-direct from ts writes between t i =
+      let k = (between t).0 i in
+      let at = (h.tables.readers x t).0 k.0 in
+      (at.0, at.1, inr (inr (inr (x, writes, inl at.2))))
 
 -- the last writer of one more variable
 pub writers-next : (l : Live) (f : Event) (xs ys : List ℕ) (y : ℕ) (old mid new : List ℕ) → ys ≡ xs ++ y ∷ [] → AccessesFound l f (WritesOneRead l xs) old mid →

@@ -1,14 +1,16 @@
 -- Some live events of which none depends on another, and their tickets, falling.
-use Rattle.std.proofs.Common.{◌≡◌, ◌↔◌, inl, inr, ℕ, zero, suc, ◌<◌, ◌≤◌, ◌+◌, ◌-◌, ◌∙◌, List, [], ◌∷◌, ◌++◌, Bool, true, false, cond, length, get_or, take, drop, refl, sym, ap, subst, arith}
+use Rattle.std.proofs.Common.{◌≡◌, ◌↔◌, inl, inr, ℕ, zero, suc, ◌<◌, ◌≤◌, ◌+◌, ◌-◌, List, [], ◌∷◌, ◌++◌, Bool, true, false, cond, ◌&&◌, length, get_or, drop, refl, sym, subst, arith}
 use Rattle.std.specs.List.Sorted.{IsNonDecreasing}
 use Rattle.std.proofs.lemmas.Bool.{cases_eq}
 use Rattle.std.proofs.lemmas.Option.{slice_get-get_or, slice_get_within}
 use Rattle.syntax.specs.Lists.{In}
 use Rattle.runs.specs.Live.{Live, IsLive, NoDependent, FirstDependent}
 use Rattle.runs.proofs.public.Lists.{in-left, in-right, in-parts}
+use Rattle.dependence.specs.Followers.{ListsFollowers}
 use Rattle.dependence.specs.internal.Sweeping.{IsUnreached}
 use Rattle.dependence.specs.internal.Tables.{Falling, Topmost}
-use Rattle.dependence.proofs.public.ListPlaces.{index-in, got-here, drop-next, take-next, in-order-more}
+use Rattle.dependence.proofs.public.FollowerLaws.{direct-follows}
+use Rattle.dependence.proofs.public.ListPlaces.{index-in, got-here, drop-next, in-order-more}
 
 -- an element behind an index stands at one
 at-dropped : (n : ℕ) (xs : List ℕ) (t : ℕ) → In t (drop n xs) → (j : ℕ) × (n ≤ j) × (j < length xs) × (get_or xs j 0 ≡ t)
@@ -38,35 +40,48 @@ among-rest xs index next rise is less le =
     subst (λ (v : ℕ). In v (drop (suc index) xs)) same
     (subst (λ (n : ℕ). In (get_or xs next 0) (drop n xs)) is (subst (λ (ys : List ℕ). In (get_or xs next 0) ys) (sym there) (inl refl)))
 
--- one more
-pub falling-next : (xs kept : List ℕ) (p : ℕ) (b : Bool) → p < length xs → (b ≡ true → (t : ℕ) → In t (drop (suc p) xs) → get_or xs p 0 < t) →
-    (b ≡ false → In (get_or xs p 0) (drop (suc p) xs)) → Falling kept → ((t : ℕ) → In t kept ↔ In t (drop (suc p) xs)) →
-    Falling (cond b (kept ++ get_or xs p 0 ∷ []) kept) × ((t : ℕ) → In t (cond b (kept ++ get_or xs p 0 ∷ []) kept) ↔ In t (drop p xs))
-falling-next xs kept p true less below among fall same =
+-- one more, of those of which P holds
+pub told-next : (P : ℕ → Type 0) (xs kept : List ℕ) (p : ℕ) (s b : Bool) → p < length xs → (s ≡ true → P (get_or xs p 0)) → (s ≡ false → P (get_or xs p 0) → ⊥) →
+    (b ≡ true → (t : ℕ) → In t (drop (suc p) xs) → get_or xs p 0 < t) → (b ≡ false → In (get_or xs p 0) (drop (suc p) xs)) → Falling kept →
+    ((t : ℕ) → In t kept ↔ (In t (drop (suc p) xs) × P t)) →
+    Falling (cond (s && b) (kept ++ get_or xs p 0 ∷ []) kept) × ((t : ℕ) → In t (cond (s && b) (kept ++ get_or xs p 0 ∷ []) kept) ↔ (In t (drop p xs) × P t))
+told-next P xs kept p true true less holds fails below among fall same =
     let x : ℕ = get_or xs p 0 in
     let there : drop p xs ≡ x ∷ drop (suc p) xs = drop-next xs p x (slice_get-get_or xs p 0 less) in (
-      in-order-more (λ (a : ℕ) (b : ℕ). b < a) kept x fall (λ y i. below refl y ((same y).0 i)),
-      λ t. subst (λ (ys : List ℕ). In t (kept ++ x ∷ []) ↔ In t ys) (sym there) (
+      in-order-more (λ (a : ℕ) (b : ℕ). b < a) kept x fall (λ y i. below refl y ((same y).0 i).0),
+      λ t. subst (λ (ys : List ℕ). In t (kept ++ x ∷ []) ↔ (In t ys × P t)) (sym there) (
         (λ i. elim (in-parts t kept (x ∷ []) i) [
-          | inl a ↦ inr ((same t).0 a)
-          | inr (inl is) ↦ inl is
+          | inl a ↦ (inr ((same t).0 a).0, ((same t).0 a).1)
+          | inr (inl is) ↦ (inl is, subst P (sym is) (holds refl))
           | inr (inr a) ↦ absurd a
         ]),
-        (λ i. elim i [
+        (λ k. elim k.0 [
           | inl is ↦ in-right t kept (x ∷ []) (inl is)
-          | inr a ↦ in-left t kept (x ∷ []) ((same t).1 a)
+          | inr a ↦ in-left t kept (x ∷ []) ((same t).1 (a, k.1))
         ]),
       ),
     )
-falling-next xs kept p false less below among fall same =
+told-next P xs kept p true false less holds fails below among fall same =
     let x : ℕ = get_or xs p 0 in
     let there : drop p xs ≡ x ∷ drop (suc p) xs = drop-next xs p x (slice_get-get_or xs p 0 less) in (
       fall,
-      λ t. subst (λ (ys : List ℕ). In t kept ↔ In t ys) (sym there) (
-        (λ i. inr ((same t).0 i)),
-        (λ i. elim i [
-          | inl is ↦ subst (λ (v : ℕ). In v kept) (sym is) ((same x).1 (among refl))
-          | inr a ↦ (same t).1 a
+      λ t. subst (λ (ys : List ℕ). In t kept ↔ (In t ys × P t)) (sym there) (
+        (λ i. (inr ((same t).0 i).0, ((same t).0 i).1)),
+        (λ k. elim k.0 [
+          | inl is ↦ subst (λ (v : ℕ). In v kept) (sym is) ((same x).1 (among refl, holds refl))
+          | inr a ↦ (same t).1 (a, k.1)
+        ]),
+      ),
+    )
+told-next P xs kept p false b less holds fails below among fall same =
+    let x : ℕ = get_or xs p 0 in
+    let there : drop p xs ≡ x ∷ drop (suc p) xs = drop-next xs p x (slice_get-get_or xs p 0 less) in (
+      fall,
+      λ t. subst (λ (ys : List ℕ). In t kept ↔ (In t ys × P t)) (sym there) (
+        (λ i. (inr ((same t).0 i).0, ((same t).0 i).1)),
+        (λ k. elim k.0 [
+          | inl is ↦ absurd (fails refl (subst P is k.1))
+          | inr a ↦ (same t).1 (a, k.1)
         ]),
       ),
     )
@@ -81,28 +96,32 @@ unreached-past l last t first f more c live le on = elim (cases_eq c t) [
   | inr differs ↦ let low : first ≤ c = f.least c live.0 live.1 differs on in absurd (omega arith)
 ]
 
--- one ticket more
-pub unreached-next : (l : Live) (last : ℕ) (ts : List ℕ) (i : ℕ) → i < length ts → IsUnreached l last (get_or ts i 0) → ((t : ℕ) → In t (take i ts) → IsUnreached l last t) →
-    (t : ℕ) → In t (take (i + 1) ts) → IsUnreached l last t
-unreached-next l last ts i less one before t j =
-    let more : i + 1 ≡ suc i = omega arith in
-    let next : take (i + 1) ts ≡ take i ts ++ get_or ts i 0 ∷ [] =
-    ap (λ (k : ℕ). take k ts) more ∙ take-next ts i (get_or ts i 0) (slice_get-get_or ts i 0 less) in
-    elim (in-parts t (take i ts) (get_or ts i 0 ∷ []) (subst (λ (k : List ℕ). In t k) next j)) [
-      | inl a ↦ before t a
-      | inr (inl is) ↦ subst (λ (v : ℕ). IsUnreached l last v) (sym is) one
-      | inr (inr a) ↦ absurd a
-    ]
-
--- where none is reached, all are topmost
-pub all-topmost : (l : Live) (ts : List ℕ) → IsNonDecreasing ts → ((t : ℕ) → In t ts → IsLive l t) →
-    ((t : ℕ) → In t ts → IsUnreached l (get_or ts (length ts - 1) 0) t) → (t : ℕ) → In t ts → Topmost l ts t
-all-topmost l ts rise live none t i = (
+-- one of them that is not reached is topmost
+pub one-topmost : (l : Live) (ts : List ℕ) (last t : ℕ) → IsNonDecreasing ts → last ≡ get_or ts (length ts - 1) 0 → ((u : ℕ) → In u ts → IsLive l u) → In t ts →
+    IsUnreached l last t → Topmost l ts t
+one-topmost l ts last t rise is live i none = (
   i,
   λ c j on.
       let k = index-in ts c j in
       let within : k.0 < length ts = slice_get_within ts k.0 c k.1 in
       let here : get_or ts k.0 0 ≡ c = got-here ts k.0 c 0 k.1 in
       let high : get_or ts k.0 0 ≤ get_or ts (length ts - 1) 0 = rise k.0 (length ts - 1) 0 (omega arith) (omega arith) in
-      none t i c (live c j) (omega arith) on,
+      none c (live c j) (omega arith) on,
 )
+
+-- one that another follows is not
+pub followed-not : (l : Live) (ts fs : List ℕ) (t : ℕ) → ListsFollowers l t fs → (u : ℕ) × In u fs × In u ts → Topmost l ts t → ⊥
+followed-not l ts fs t lists u top =
+    let d = ((lists.exactly u.0).0 u.1).dependent in
+    let less : t < u.0 = d.less in
+    let is : u.0 ≡ t = top.1 u.0 u.2 (direct-follows l t u.0 d) in
+    omega arith
+
+-- the last is the greatest
+pub below-last : (ts : List ℕ) (last : ℕ) → IsNonDecreasing ts → last ≡ get_or ts (length ts - 1) 0 → (t : ℕ) → In t ts → t ≤ last
+below-last ts last rise is t i =
+    let k = index-in ts t i in
+    let within : k.0 < length ts = slice_get_within ts k.0 t k.1 in
+    let here : get_or ts k.0 0 ≡ t = got-here ts k.0 t 0 k.1 in
+    let high : get_or ts k.0 0 ≤ get_or ts (length ts - 1) 0 = rise k.0 (length ts - 1) 0 (omega arith) (omega arith) in
+    omega arith

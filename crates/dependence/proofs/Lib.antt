@@ -1,6 +1,7 @@
 pub mod public
 mod ActingPlaces
 mod AddedEvent
+mod Along
 mod Candidacy
 mod Counting
 mod Distinct

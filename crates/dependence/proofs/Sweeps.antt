@@ -23,12 +23,12 @@ use Rattle.dependence.proofs.public.Following.{follows-on}
 use Rattle.dependence.proofs.public.FollowerLaws.{direct-follows, reached-through-followers}
 
 -- a follower of t, on which u depends or which it is
-record FirstStep (l : Live) (t u : ℕ) : Type 0 where
-  ticket : ℕ
-  follower : Follower l t ticket
-  on : DependsOn l ticket u
+pub record FirstStep (l : Live) (t u : ℕ) : Type 0 where
+  pub ticket : ℕ
+  pub follower : Follower l t ticket
+  pub on : DependsOn l ticket u
 
-first-step : (l : Live) (t u : ℕ) → Reached l t u → u ≢ t → FirstStep l t u
+pub first-step : (l : Live) (t u : ℕ) → Reached l t u → u ≢ t → FirstStep l t u
 first-step l t u here differs = absurd (differs refl)
 first-step l t u (along {u = v} before f) differs = elim (cases_eq v t) [
   | inl is ↦ record { ticket = u; follower = subst (λ (k : ℕ). Follower l k u) is f; on = same }

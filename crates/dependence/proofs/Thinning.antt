@@ -182,13 +182,6 @@ pub none-found : (found : Option ℕ) (P : Type 0) (Q : ℕ → Type 0) → is_s
 none-found None P Q off p = p
 none-found (Some x) P Q off q = cc
 
--- a lead that is read is one of those that there were
-pub lead-at : (D : ℕ → Type 0) (old new : List Links) (index nth lead : ℕ) (n m : Links) → AllThinned D old new → slice_get old index ≡ Some n → slice_get new index ≡ Some m →
-    nth < length n.leads.items → lead ≡ get_or m.leads.items nth lead → slice_get n.leads.items nth ≡ Some lead
-lead-at D old new index nth lead n m h was is less read =
-    slice_get-get_or n.leads.items nth lead less
-    ∙ ap (λ (k : ℕ). Some k) (sym (read ∙ ap (λ (ts : List ℕ). get_or ts nth lead) (h.leads index n m was is)))
-
 -- one more lead has let t go
 pub loose-next : (D : ℕ → Type 0) (l : Live) (mid new : List Links) (leads : List ℕ) (nth lead t : ℕ) → slice_get leads nth ≡ Some lead → AllThinned D mid new →
     ((u : ℕ) → In u (take nth leads) → NotBehind l mid t u) → NotBehind l new t lead → (u : ℕ) → In u (take (nth + 1) leads) → NotBehind l new t u

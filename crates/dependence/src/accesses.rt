@@ -1,7 +1,7 @@
 // What a new event finds by the variables that it writes and reads. What has a place before one of its own is left out,
 // and so is a write that such an event has read: both are reached from what the places give, and else each read would
 // sweep back to an old write.
-ghost use Rattle.std.specs.Prelude.{◌≡◌, ◌≤◌, ◌⊎◌, ◌↔◌, ◌++◌, ◌∷◌, [], ℕ, Some, cond, IsTrue, IfOk};
+ghost use Rattle.std.specs.Prelude.{◌≡◌, ◌≤◌, ◌⊎◌, ◌↔◌, ◌++◌, ◌∷◌, [], ℕ, Some, cond, true, IsTrue, IfOk};
 ghost use Rattle.syntax.specs.Lists.{In};
 ghost use Rattle.runs.specs.Live.{IsLive, LastWriter};
 ghost use Rattle.dependence.specs.internal.Found.{AccessesFound, FirstBehind, IsBefore, IsDirect, IsReadBefore, ReaderSince, WritesOneRead, UsesWritten, IsNewEvent};
@@ -9,7 +9,10 @@ ghost use Rattle.dependence.specs.internal.Found.{AccessesFound, FirstBehind, Is
 use crate::live_list::LiveList;
 use crate::tables::Tables;
 use runs::{Event, some_before};
-use std::alloc::{AllocError, Global};
+use std::alloc::AllocError;
+
+/// Among so many tickets it takes longer to look for one than to compare places.
+const MANY: usize = 8;
 
 /// A new event, of a ticket greater than the live ones, and the live events with their tables.
 #[derive(Clone, Copy)]
@@ -22,11 +25,7 @@ pub(crate) struct NewEvent<'a> {
 
 impl NewEvent<'_> {
     /// Adds what is found by the variables that the event reads and writes.
-    pub(crate) fn add_by_variables(
-        &self,
-        alloc: Global,
-        found: &mut Vec<u64>,
-    ) -> Result<(), AllocError>
+    pub(crate) fn add_by_variables(&self, found: &mut Vec<u64>) -> Result<(), AllocError>
         requires { IsNewEvent self.now }
         ensures { IfOk result (λ _.
             AccessesFound self.now.list.now.live self.now.event.now
@@ -34,7 +33,7 @@ impl NewEvent<'_> {
             ⊎ UsesWritten self.now.list.now.live self.now.event.now t) found.old.items found.new.items) }
     {
         self.add_by_reads(found)?;
-        self.add_by_write(alloc, found)
+        self.add_by_write(found)
     }
 
     /// Adds the last writers of the variables that the event reads.
@@ -51,7 +50,7 @@ impl NewEvent<'_> {
     }
 
     /// Adds the last writer of the variable that the event writes, and those that read it since.
-    fn add_by_write(&self, alloc: Global, found: &mut Vec<u64>) -> Result<(), AllocError>
+    fn add_by_write(&self, found: &mut Vec<u64>) -> Result<(), AllocError>
         requires { IsNewEvent self.now }
         ensures { IfOk result (λ _.
             AccessesFound self.now.list.now.live self.now.event.now (UsesWritten self.now.list.now.live self.now.event.now)
@@ -60,7 +59,7 @@ impl NewEvent<'_> {
         match self.event.written {
             Some(variable) => {
                 self.add_writer(variable, found)?;
-                self.add_readers(alloc, variable, found)
+                self.add_readers(variable, found)
             }
             None => Ok(()),
         }
@@ -77,6 +76,9 @@ impl NewEvent<'_> {
     {
         match self.tables.writers.last(variable, self.ticket) {
             Some(writer) => {
+                if is_found(found.as_slice(), writer) {
+                    return Ok(());
+                }
                 let below = behind_all(found.as_slice());
                 let by_place = self.is_before(writer)
                     || self.is_read_before(variable, writer, below);
@@ -115,12 +117,7 @@ impl NewEvent<'_> {
     }
 
     /// Adds those that read the variable since it was written last.
-    fn add_readers(
-        &self,
-        alloc: Global,
-        variable: u32,
-        found: &mut Vec<u64>,
-    ) -> Result<(), AllocError>
+    fn add_readers(&self, variable: u32, found: &mut Vec<u64>) -> Result<(), AllocError>
         requires new { IsNewEvent self.now }
         requires writes { self.now.event.now.written ≡ Some variable }
         ensures { IfOk result (λ _.
@@ -128,11 +125,8 @@ impl NewEvent<'_> {
             found.new.items) }
     {
         let from = self.last_write(variable);
-        let mut readers = Vec::new(alloc);
-        self.tables
-            .readers
-            .between(variable, from, self.ticket, &mut readers)?;
-        self.add_accesses(readers.as_slice(), found)
+        let readers = self.tables.readers.between(variable, from, self.ticket);
+        self.add_accesses(readers, found)
     }
 
     /// The ticket of the last writer of the variable, 0 where there is none.
@@ -168,9 +162,27 @@ impl NewEvent<'_> {
         ensures { IfOk result (λ _.
             AccessesFound self.now.list.now.live self.now.event.now (λ t. t ≡ ticket) found.old.items found.new.items) }
     {
+        if is_found(found.as_slice(), ticket) {
+            return Ok(());
+        }
         let by_place = self.is_before(ticket);
         add_if(!by_place, ticket, found)
     }
+}
+
+/// Whether the ticket is among these. Where they are many none is looked at.
+fn is_found(found: &[u64], ticket: u64) -> bool
+    ensures { result ≡ true → In ticket found.now }
+{
+    if found.len() > MANY {
+        return false;
+    }
+    for other in found {
+        if *other == ticket {
+            return true;
+        }
+    }
+    false
 }
 
 /// The first ticket behind all of these; 0 where there are none.
@@ -187,7 +199,7 @@ fn behind_all(tickets: &[u64]) -> u64
 }
 
 /// Adds the ticket where it is one of those that are looked for.
-pub(crate) fn add_if(is_one: bool, ticket: u64, found: &mut Vec<u64>) -> Result<(), AllocError>
+fn add_if(is_one: bool, ticket: u64, found: &mut Vec<u64>) -> Result<(), AllocError>
     ensures { IfOk result (λ _. found.new.items ≡ cond is_one (found.old.items ++ ticket ∷ []) found.old.items) }
 {
     if is_one {

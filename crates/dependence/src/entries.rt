@@ -10,49 +10,60 @@ ghost use Rattle.dependence.specs.internal.Found.{IsNewEvent, PlacesFound};
 ghost use Rattle.dependence.specs.internal.Tables.{IsRising, Falling, Linked, PartLinked, Candidates, Topmost, LinkedBehind};
 
 use crate::accesses::NewEvent;
-use crate::links::unlink_all;
+use crate::links::{Leads, unlink_all};
 use crate::live_list::LiveList;
 use crate::topmost::{span, topmost};
-use crate::unreached::{are_unreached, falling};
+use crate::unreached::told_topmost;
 use runs::Event;
+use smallvec::SmallVec;
 use std::alloc::{AllocError, Global};
 use syntax::Boxed;
 
-/// The tickets of the live events that a new event follows, falling. `found` are those that its places give.
+/// The tickets of the live events that a new event follows, falling. `found` are those that its places give; what it is
+/// left with says nothing.
 pub(crate) fn leads_of(
     alloc: Global,
     new: &NewEvent<'_>,
-    mut found: Vec<u64>,
-) -> Result<Vec<u64>, AllocError>
+    found: &mut Vec<u64>,
+) -> Result<Leads, AllocError>
     requires new { IsNewEvent new.now }
-    requires found { PlacesFound new.now.list.now.live new.now.event.now found.items }
+    requires found { PlacesFound new.now.list.now.live new.now.event.now found.old.items }
     requires behind { ComesBehind new.now.list.now.live new.now.event.now }
     requires linked { Linked new.now.list.now.live new.now.list.now.links }
     ensures falling { IfOk result (λ leads. Falling leads.items) }
     ensures topmost { IfOk result (λ leads. (all : List ℕ) × Candidates new.now.list.now.live new.now.event.now all
         × ((t : ℕ) → In t leads.items ↔ Topmost new.now.list.now.live all t)) }
 {
-    new.add_by_variables(alloc, &mut found)?;
+    new.add_by_variables(found)?;
     if found.len() <= 1 {
-        return Ok(found);
+        return copied(alloc, found.as_slice());
     }
-    let sorted = ascending(found);
-    let tickets = sorted.as_slice();
-    if are_unreached(new.list, tickets) {
-        return falling(alloc, tickets);
+    sort(found);
+    let tickets = found.as_slice();
+    let told = told_topmost(alloc, new.list, tickets)?;
+    if let Some(leads) = told {
+        return Ok(leads);
     }
     let (low, high) = span(new.list, tickets);
     topmost(alloc, new.list, tickets, low, high)
 }
 
-/// The same tickets in ascending order.
-fn ascending(mut tickets: Vec<u64>) -> Vec<u64>
-    ensures same { (t : ℕ) → In t tickets.items ↔ In t result.items }
-    ensures length { length result.items ≡ length tickets.items }
-    ensures ascending { IsNonDecreasing result.items }
+/// The same tickets.
+fn copied(alloc: Global, tickets: &[u64]) -> Result<Leads, AllocError>
+    ensures { IfOk result (λ leads. leads.items ≡ tickets.now) }
+{
+    let mut leads = SmallVec::new(alloc);
+    leads.extend_from_slice(tickets)?;
+    Ok(leads)
+}
+
+/// Puts the tickets into ascending order.
+fn sort(tickets: &mut Vec<u64>)
+    ensures same { (t : ℕ) → In t tickets.old.items ↔ In t tickets.new.items }
+    ensures length { length tickets.new.items ≡ length tickets.old.items }
+    ensures ascending { IsNonDecreasing tickets.new.items }
 {
     tickets.sort_unstable();
-    tickets
 }
 
 /// Room for one more event with its links and its mark.
@@ -72,7 +83,7 @@ pub(crate) fn push_event(
     marks: &mut Vec<bool>,
     ticket: u64,
     event: Boxed<Event>,
-    leads: Vec<u64>,
+    leads: Leads,
 )
     requires rising { Rising 0 list.old.live ticket }
     requires linked { PartLinked list.old.live ticket (λ t. In t leads.items) list.old.links }
@@ -86,17 +97,17 @@ pub(crate) fn push_event(
     marks.push_reserved(false);
 }
 
-/// Takes the live event of this ticket, on which no other depends, out of the list, and says at which index it stood.
-pub(crate) fn take_out(list: &mut LiveList, ticket: u64) -> (usize, Event)
+/// Takes the live event of this ticket, on which no other depends, out of the list.
+pub(crate) fn take_out(list: &mut LiveList, ticket: u64) -> Event
     requires rising { IsRising list.old.live }
     requires linked { Linked list.old.live list.old.links }
     requires live { IsLive list.old.live ticket }
     requires alone { NoDependent list.old.live ticket }
-    ensures live { list.new.live ≡ remove list.old.live result.0 }
+    ensures taken { (i : ℕ) × (slice_get list.old.live i ≡ Some (ticket, result))
+        × (list.new.live ≡ remove list.old.live i) }
     ensures linked { Linked list.new.live list.new.links }
-    ensures event { slice_get list.old.live result.0 ≡ Some (ticket, result.1) }
 {
-    let (index, kept) = list.take(ticket);
+    let kept = list.take(ticket);
     unlink_all(list, kept.links.leads.as_slice(), ticket);
-    (index, kept.event.into_inner())
+    kept.event.into_inner()
 }

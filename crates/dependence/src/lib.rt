@@ -9,6 +9,7 @@ mod entries;
 mod indexes;
 mod kept;
 mod laws;
+mod leading;
 mod links;
 mod live;
 mod live_events;

@@ -1,5 +1,5 @@
 // The followers of each live event, kept at its index.
-ghost use Rattle.std.specs.Prelude.{◌<◌, [], ℕ, MatchResult};
+ghost use Rattle.std.specs.Prelude.{◌≡◌, ◌<◌, ◌++◌, ◌∷◌, [], ℕ, cond, IfOk, MatchResult};
 ghost use Rattle.syntax.specs.Lists.{In};
 ghost use Rattle.runs.specs.InOrder.{InOrder};
 ghost use Rattle.runs.specs.Live.{Rising, NoneAt, IsLive};
@@ -14,11 +14,14 @@ use std::alloc::AllocError;
 /// The tickets of followers. Mostly they are one or two, which need no memory of their own.
 pub(crate) type Followers = SmallVec<u64, 2>;
 
+/// The tickets of the events that one follows, as few mostly.
+pub(crate) type Leads = SmallVec<u64, 2>;
+
 /// Of one live event: the tickets of its followers, ascending, and of the events that it follows, falling.
 #[derive(Drop)]
 pub(crate) struct Links {
     pub(crate) followers: Followers,
-    pub(crate) leads: Vec<u64>,
+    pub(crate) leads: Leads,
 }
 
 /// Puts the new ticket behind the followers of each of these events. Without memory for it all lists are as before.
@@ -63,4 +66,14 @@ pub(crate) fn remove(tickets: &mut Followers, ticket: u64)
     if let Some(index) = index_in(tickets.as_slice(), ticket) {
         tickets.remove(index);
     }
+}
+
+/// Puts the ticket behind the others where it is one of those that are kept.
+pub(crate) fn keep_if(is_one: bool, ticket: u64, kept: &mut Leads) -> Result<(), AllocError>
+    ensures { IfOk result (λ _. kept.new.items ≡ cond is_one (kept.old.items ++ ticket ∷ []) kept.old.items) }
+{
+    if is_one {
+        kept.push(ticket)?;
+    }
+    Ok(())
 }

@@ -33,6 +33,8 @@ pub struct Live {
     /// no event of a lesser ticket is marked
     first_marked: u64,
     tables: Tables,
+    /// room in which is looked for what a new event follows
+    found: Vec<u64>,
 }
 
 impl Model for Live {
@@ -62,6 +64,7 @@ impl Live {
             marks: Vec::new(alloc),
             first_marked: u64::MAX,
             tables: Tables::new(alloc),
+            found: Vec::new(alloc),
         }
     }
 
@@ -241,6 +244,7 @@ impl Live {
             &mut self.list,
             &mut self.marks,
             &mut self.tables,
+            &mut self.found,
             ticket,
             event,
         )

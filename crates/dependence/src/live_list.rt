@@ -11,7 +11,7 @@ ghost use Rattle.dependence.specs.internal.Listed.{events_kept, SameLive, LinksO
 ghost use Rattle.dependence.specs.internal.Tables.{IsRising, StandsAt, FollowersChanged, Removed};
 
 use crate::kept::Kept;
-use crate::links::{Followers, Links, remove};
+use crate::links::{Followers, Leads, Links, remove};
 use crate::live_events::LiveEvents;
 use runs::Event;
 use slots::{Slots, close_up, cut_end, find, index_at, make_room, place_at, push, take_at};
@@ -129,6 +129,16 @@ impl LiveList {
         &kept.links
     }
 
+    /// The ticket and the links of the event at an index.
+    pub(crate) fn linked_at(&self, index: usize) -> (u64, &Links)
+        requires { index < length self.now.live }
+        ensures ticket { (e : Event) × (slice_get self.now.live index ≡ Some (result.0, e)) }
+        ensures links { slice_get self.now.links index ≡ Some result.1.now }
+    {
+        let (ticket, kept) = self.kept_at(index);
+        (ticket, &kept.links)
+    }
+
     /// The ticket, the event and the links at an index.
     fn kept_at(&self, index: usize) -> (u64, &Kept)
         requires { index < length self.now.live }
@@ -181,7 +191,7 @@ impl LiveList {
     }
 
     /// Puts an event behind the others that follows the events of these tickets, where there is room for it.
-    pub(crate) fn push(&mut self, ticket: u64, event: Boxed<Event>, leads: Vec<u64>)
+    pub(crate) fn push(&mut self, ticket: u64, event: Boxed<Event>, leads: Leads)
         requires rising { Rising 0 self.old.live ticket }
         requires room { 0 < self.old.room }
         ensures live { self.new.live ≡ self.old.live ++ (ticket, event) ∷ [] }
@@ -245,17 +255,16 @@ impl LiveList {
         }
     }
 
-    /// Takes the live event of this ticket out with its links, and says at which index it stood.
-    pub(crate) fn take(&mut self, ticket: u64) -> (usize, Kept)
+    /// Takes the live event of this ticket out with its links.
+    pub(crate) fn take(&mut self, ticket: u64) -> Kept
         requires { IsLive self.old.live ticket }
-        ensures { TakenOut self.old self.new ticket result.0 result.1 }
+        ensures { (i : ℕ) × TakenOut self.old self.new ticket i result }
     {
         let place = place_of(&self.slots, ticket);
-        let index = index_at(&self.slots, self.counts.as_slice(), self.count, place);
         let kept = take_at(&mut self.slots, self.counts.as_mut_slice(), place);
         self.count -= 1;
         settle(&mut self.slots, &mut self.counts, self.count);
-        (index, kept)
+        kept
     }
 
     /// Takes the event at an index out with its links.

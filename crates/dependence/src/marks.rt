@@ -3,10 +3,10 @@ ghost use Rattle.std.specs.Prelude.{◌≡◌, ◌+◌, ◌<◌, ◌≤◌, ◌�
 ghost use Rattle.std.specs.List.{remove};
 ghost use Rattle.syntax.specs.Lists.{In};
 ghost use Rattle.system.specs.Expression.{is_in};
-ghost use Rattle.runs.specs.Live.{ConsequencesList, IsLive};
+ghost use Rattle.runs.specs.Live.{ConsequencesList, IsLive, LiveAt};
 ghost use Rattle.dependence.specs.Shown.{tickets_marked, Greatest};
 ghost use Rattle.dependence.specs.Taking.{OneMarkedAt, NoneMarkedAt};
-ghost use Rattle.dependence.specs.internal.Tables.{IsRising, Linked};
+ghost use Rattle.dependence.specs.internal.Tables.{IsRising, Linked, StandsAt};
 ghost use Rattle.dependence.specs.internal.Marking.{MarkedAt, UnmarkedTo, SomeMarked, MarkedNear, NoneLess};
 
 use crate::live_list::LiveList;
@@ -122,16 +122,30 @@ fn mark_all(list: &LiveList, base: usize, marks: &mut [bool], tickets: &[u64])
     }
 }
 
-/// Takes out the mark at this index. Where none is set that is as good as to take out the last, and no mark moves.
-pub(crate) fn remove_mark(marks: &mut Vec<bool>, index: usize, unmarked: bool)
-    requires within { index < length marks.old.items }
-    requires none { unmarked ≡ true → UnmarkedTo marks.old.items (length marks.old.items) }
-    ensures { marks.new.items ≡ remove marks.old.items index }
+/// Takes out the mark of the live event of this ticket. No event of a ticket less than `first` is marked. Where none is
+/// set that is as good as to take out the last: no mark moves, and it is not looked for the event.
+pub(crate) fn remove_mark(list: &LiveList, marks: &mut Vec<bool>, first: u64, ticket: u64)
+    requires rising { IsRising list.now.live }
+    requires size { length marks.old.items ≡ length list.now.live }
+    requires lower { NoneLess list.now.live marks.old.items first }
+    requires live { IsLive list.now.live ticket }
+    ensures { (i : ℕ) × StandsAt list.now.live ticket i × (marks.new.items ≡ remove marks.old.items i) }
 {
-    if unmarked {
+    if are_lesser(list, first) {
         marks.pop();
     } else {
-        marks.remove(index);
+        marks.remove(list.index_of_live(ticket));
+    }
+}
+
+/// Whether all live events are of lesser tickets.
+fn are_lesser(list: &LiveList, ticket: u64) -> bool
+    requires { IsRising list.now.live }
+    ensures { result ≡ true → (t : ℕ) (e : Event) → LiveAt list.now.live t e → t < ticket }
+{
+    match list.last() {
+        Some((last, _)) => last < ticket,
+        None => true,
     }
 }
 

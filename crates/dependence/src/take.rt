@@ -117,9 +117,19 @@ fn unlink_at(alloc: Global, list: &mut LiveList, marks: &[bool], index: usize)
 {
     let ticket = list.ticket_at(index);
     for lead_index in 0..list.links_at(index).leads.len() {
-        let lead = list.links_at(index).leads[lead_index];
+        let lead = lead_at(list, index, lead_index);
         unlink_from(alloc, list, marks, lead, ticket);
     }
+}
+
+/// The ticket of one of the events that the event at an index follows.
+fn lead_at(list: &LiveList, index: usize, number: usize) -> u64
+    requires within { index < length list.now.live }
+    requires number { (m : Links) → slice_get list.now.links index ≡ Some m → number < length m.leads.items }
+    ensures { (m : Links) × (slice_get list.now.links index ≡ Some m) × (slice_get m.leads.items number ≡ Some result) }
+{
+    let leads = list.links_at(index).leads.as_slice();
+    leads[number]
 }
 
 /// Takes the ticket, which is marked, out of the followers of the live event `lead`, and other marked ones with it.

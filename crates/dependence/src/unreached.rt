@@ -1,70 +1,105 @@
-// Whether of some live events none depends on another: as a rule so it is, and what lies between them need not be
-// swept.
-ghost use Rattle.std.specs.Prelude.{◌≡◌, ◌<◌, ◌↔◌, ℕ, suc, length, true, false, drop, slice_index, IfOk};
+// Which of some live events no other of them depends on, where a few looks along their followers tell it: as a rule
+// they do, and what lies between the events need not be swept.
+ghost use Rattle.std.specs.Prelude.{◌≡◌, ◌<◌, ◌↔◌, ◌-◌, ℕ, suc, length, true, false, Some, drop, slice_index, IfSome, IfOk, ◌&&◌};
 ghost use Rattle.std.specs.List.Sorted.{IsNonDecreasing};
 ghost use Rattle.syntax.specs.Lists.{In};
+ghost use Rattle.runs.specs.InOrder.{InOrder};
 ghost use Rattle.runs.specs.Live.{IsLive};
 ghost use Rattle.dependence.specs.internal.Tables.{IsRising, Falling, Linked, Topmost};
-ghost use Rattle.dependence.specs.internal.Sweeping.{IsUnreached};
 
-use crate::accesses::add_if;
+use crate::indexes::index_in;
+use crate::leading::is_alone;
+use crate::links::{Leads, keep_if};
 use crate::live_list::LiveList;
-use crate::whole::least_dependent;
+use crate::whole::followers_of;
+use smallvec::SmallVec;
 use std::alloc::{AllocError, Global};
 
-/// Whether the first dependent of each of these events, if it has one, stands behind all of them. Then none of them
-/// depends on another.
-pub(crate) fn are_unreached(list: &LiveList, tickets: &[u64]) -> bool
+/// Among more candidates than so many a sweep finds the topmost sooner.
+const MANY: usize = 8;
+
+/// Of these live events, whose tickets ascend, those on which no other of them depends, the last first; `None` where
+/// a few looks along the followers do not tell it.
+pub(crate) fn told_topmost(
+    alloc: Global,
+    list: &LiveList,
+    tickets: &[u64],
+) -> Result<Option<Leads>, AllocError>
     requires rising { IsRising list.now.live }
     requires linked { Linked list.now.live list.now.links }
     requires live { (t : ℕ) → In t tickets.now → IsLive list.now.live t }
     requires some { 0 < length tickets.now }
     requires ascending { IsNonDecreasing tickets.now }
-    ensures { result ≡ true → (t : ℕ) → In t tickets.now → Topmost list.now.live tickets.now t }
+    ensures falling { IfOk result (λ told. IfSome told (λ kept. Falling kept.items)) }
+    ensures topmost { IfOk result (λ told. IfSome told (λ kept.
+        (t : ℕ) → In t kept.items ↔ Topmost list.now.live tickets.now t)) }
 {
     let last = tickets[tickets.len() - 1];
-    for ticket in tickets {
-        if !is_unreached(list, *ticket, last) {
-            return false;
-        }
-    }
-    true
-}
-
-/// Whether the first dependent of the live event, if it has one, has a greater ticket than `last`.
-fn is_unreached(list: &LiveList, ticket: u64, last: u64) -> bool
-    requires rising { IsRising list.now.live }
-    requires linked { Linked list.now.live list.now.links }
-    requires live { IsLive list.now.live ticket }
-    ensures { result ≡ true → IsUnreached list.now.live last ticket }
-{
-    match least_dependent(list, ticket) {
-        Some(first) => is_less(last, first),
-        None => true,
-    }
-}
-
-/// Whether the first is less than the other.
-fn is_less(one: u64, other: u64) -> bool
-    ensures { result ≡ true → one < other }
-{
-    one < other
-}
-
-/// The same tickets falling, each once.
-pub(crate) fn falling(alloc: Global, sorted: &[u64]) -> Result<Vec<u64>, AllocError>
-    requires { IsNonDecreasing sorted.now }
-    ensures falling { IfOk result (λ kept. Falling kept.items) }
-    ensures same { IfOk result (λ kept. (t : ℕ) → In t kept.items ↔ In t sorted.now) }
-{
-    let mut kept = Vec::new(alloc);
-    let mut index = sorted.len();
+    let mut kept = SmallVec::new(alloc);
+    let mut index = tickets.len();
     while index > 0 {
         index -= 1;
-        let is_new = is_below_rest(sorted, index);
-        add_if(is_new, sorted[index], &mut kept)?;
+        let ticket = tickets[index];
+        let Some(is_top) = stays(alloc, list, tickets, last, ticket) else {
+            return Ok(None);
+        };
+        let is_new = is_below_rest(tickets, index);
+        keep_if(both(is_top, is_new), ticket, &mut kept)?;
     }
-    Ok(kept)
+    Ok(Some(kept))
+}
+
+/// Whether no other of these events, of which `last` is the last, depends on this one of them; `None` where a few looks
+/// along the followers do not tell it. Nothing up to the last depends on it where its first follower stands behind that
+/// one.
+fn stays(alloc: Global, list: &LiveList, tickets: &[u64], last: u64, ticket: u64) -> Option<bool>
+    requires rising { IsRising list.now.live }
+    requires linked { Linked list.now.live list.now.links }
+    requires live { (t : ℕ) → In t tickets.now → IsLive list.now.live t }
+    requires ascending { IsNonDecreasing tickets.now }
+    requires last { last ≡ slice_index tickets.now (length tickets.now - 1) }
+    requires one { In ticket tickets.now }
+    ensures yes { result ≡ Some true → Topmost list.now.live tickets.now ticket }
+    ensures no { result ≡ Some false → Topmost list.now.live tickets.now ticket → ⊥ }
+{
+    let followers = followers_of(list, ticket);
+    let Some(first) = followers.first().copied() else {
+        return Some(true);
+    };
+    if first > last {
+        return Some(true);
+    }
+    if tickets.len() > MANY {
+        return None;
+    }
+    if have_common(followers, tickets) {
+        return Some(false);
+    }
+    is_alone(alloc, list, tickets, last, ticket)
+}
+
+/// Whether one of the tickets is among the followers, which ascend.
+fn have_common(followers: &[u64], tickets: &[u64]) -> bool
+    requires { InOrder ◌<◌ followers.now }
+    ensures { result ≡ true → (t : ℕ) × In t followers.now × In t tickets.now }
+{
+    for ticket in tickets {
+        if is_among(followers, *ticket) {
+            return true;
+        }
+    }
+    false
+}
+
+/// Whether the ticket is among these, which ascend.
+fn is_among(followers: &[u64], ticket: u64) -> bool
+    requires { InOrder ◌<◌ followers.now }
+    ensures { result ≡ true → In ticket followers.now }
+{
+    match index_in(followers, ticket) {
+        Some(_) => true,
+        None => false,
+    }
 }
 
 /// Whether the ticket at this index is less than all behind it. Else it is among them.
@@ -85,4 +120,11 @@ fn is_below_rest(sorted: &[u64], index: usize) -> bool
         return false;
     }
     true
+}
+
+/// Whether both hold.
+fn both(one: bool, other: bool) -> bool
+    ensures { result ≡ (one && other) }
+{
+    one && other
 }

@@ -13,7 +13,7 @@ ghost use Rattle.dependence.specs.internal.Whole.{IsWhole, IsEntered};
 
 use crate::accesses::NewEvent;
 use crate::entries::{leads_of, make_room, push_event, take_out};
-use crate::links::link_all;
+use crate::links::{Leads, link_all};
 use crate::live_list::LiveList;
 use crate::marks::remove_mark;
 use crate::puts::put_places;
@@ -68,12 +68,14 @@ pub(crate) fn last_writer(list: &LiveList, tables: &Tables, variable: u32) -> Op
     tables.writers.last(variable, last.0)
 }
 
-/// Adds an event under a ticket that is greater than every live one. Without memory for it nothing has changed.
+/// Adds an event under a ticket that is greater than every live one. Without memory for it nothing has changed but
+/// `found`, in which is looked for what it follows.
 pub(crate) fn add_event(
     alloc: Global,
     list: &mut LiveList,
     marks: &mut Vec<bool>,
     tables: &mut Tables,
+    found: &mut Vec<u64>,
     ticket: u64,
     event: Boxed<Event>,
 ) -> Result<(), Boxed<Event>>
@@ -88,7 +90,7 @@ pub(crate) fn add_event(
     ensures refused { IfErr result (λ back. (back ≡ event) × (list.new.live ≡ list.old.live)
         × (marks.new.items ≡ marks.old.items)) }
 {
-    match enter(alloc, list, marks, tables, ticket, event.get()) {
+    match enter(alloc, list, marks, tables, found, ticket, event.get()) {
         Ok(leads) => {
             push_event(list, marks, ticket, event, leads);
             Ok(())
@@ -101,15 +103,17 @@ pub(crate) fn add_event(
 }
 
 /// Puts an event into the tables and the followers of those that it follows, and makes room for it and its mark; what it
-/// follows. Without memory for all that, what there is memory for is in the tables, and nothing is linked.
+/// follows. Without memory for all that, what there is memory for is in the tables, and nothing is linked. In `found` it
+/// is looked for.
 fn enter(
     alloc: Global,
     list: &mut LiveList,
     marks: &mut Vec<bool>,
     tables: &mut Tables,
+    found: &mut Vec<u64>,
     ticket: u64,
     event: &Event,
-) -> Result<Vec<u64>, AllocError>
+) -> Result<Leads, AllocError>
     requires rising { Rising 0 list.old.live ticket }
     requires linked { Linked list.old.live list.old.links }
     requires tabled { IsTabled list.old.live tables.old }
@@ -122,8 +126,8 @@ fn enter(
     ensures room { OnOk result ((0 < list.new.room) × (vec_len marks.new < vec_capacity marks.new)) }
     ensures refused { OnErr result (Linked list.old.live list.new.links) }
 {
-    let mut found = Vec::new(alloc);
-    put_places(&mut tables.places, ticket, event, &mut found)?;
+    found.clear();
+    put_places(&mut tables.places, ticket, event, found)?;
     let new = NewEvent {
         list,
         tables,
@@ -159,20 +163,8 @@ pub(crate) fn take_event(
         (λ t. t
         ≡ ticket) (tickets_marked list.old.live marks.old.items) (tickets_marked list.new.live marks.new.items) }
 {
-    let unmarked = are_lesser(list, first);
-    let (index, event) = take_out(list, ticket);
+    remove_mark(list, marks, first, ticket);
+    let event = take_out(list, ticket);
     tables.remove(ticket, &event);
-    remove_mark(marks, index, unmarked);
     event
-}
-
-/// Whether all live events are of lesser tickets.
-fn are_lesser(list: &LiveList, ticket: u64) -> bool
-    requires { IsRising list.now.live }
-    ensures { result ≡ true → (t : ℕ) (e : Event) → LiveAt list.now.live t e → t < ticket }
-{
-    match list.last() {
-        Some((last, _)) => last < ticket,
-        None => true,
-    }
 }

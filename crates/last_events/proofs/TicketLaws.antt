@@ -5,7 +5,7 @@ use Rattle.std.specs.List.{insert, remove}
 use Rattle.std.specs.List.Sorted.{IsNonDecreasingBy, IsPartitionPoint}
 use Rattle.std.proofs.lemmas.Bool.{ltb-true, ltb-false, cases_lt, cases_eq}
 use Rattle.syntax.specs.Lists.{In}
-use Rattle.last_events.specs.internal.Tickets.{Ascends, Parts, LastBelow, FirstFrom, rows_of, AllAscend}
+use Rattle.last_events.specs.internal.Tickets.{Ascends, AllBelow, LastNotBelow, Parts, LastBelow, FirstFrom, rows_of, AllAscend}
 use Rattle.last_events.specs.LastEvents.{Uses, LastUse, FirstUse}
 use Rattle.last_events.specs.declared.uses.UseTable.{UseTable}
 
@@ -131,20 +131,38 @@ parts-point ts bound n within h = record {
   above = λ t i. let k = at-dropped t n ts 0 i in subst (λ (u : ℕ). bound ≤ u) k.3 (ltb-false (get_or ts k.0 0) bound (h.1 k.0 0 k.1 k.2));
 }
 
--- all are, where the last is
-pub parts-all : (ts : List ℕ) (bound last : ℕ) → Ascends ts → 0 < length ts → last ≡ get_or ts (length ts - 1) last → last < bound → Parts ts bound (length ts)
-parts-all ts bound last h some is less = record {
+-- the last ones first
+module _ (ts : List ℕ) (bound n m : ℕ) (h : Ascends ts) (some : n ≡ suc m) (within : n ≤ length ts) where
+  pub all-below : get_or ts m 0 < bound → AllBelow ts n bound
+  all-below less = λ t i.
+      let k = at-taken t n ts 0 i in
+      let le : k.0 ≤ m = (let l : k.0 < n = k.1 in omega arith) in
+      let low : m < length ts = omega arith in
+      let up : get_or ts k.0 0 ≤ get_or ts m 0 = not-falling ts k.0 m 0 h le low in
+      let one : get_or ts k.0 0 ≡ t = k.2 in
+      omega arith
+
+  pub last-not-below : bound ≤ get_or ts m 0 → LastNotBelow ts n bound
+  last-not-below more =
+      let before : n - 1 ≡ m = omega arith in
+      record {
+        some = omega arith;
+        above = subst (λ (k : ℕ). (t : ℕ) → In t (drop k ts) → bound ≤ t) (sym before) (λ t i.
+            let k = at-dropped t m ts 0 i in
+            let up : get_or ts m 0 ≤ get_or ts k.0 0 = not-falling ts m k.0 0 h k.1 k.2 in
+            let one : get_or ts k.0 0 ≡ t = k.3 in
+            omega arith);
+      }
+
+pub parts-all : (ts : List ℕ) (bound : ℕ) → AllBelow ts (length ts) bound → Parts ts bound (length ts)
+parts-all ts bound all = record {
   within = omega arith;
-  below = λ t i.
-      let k = at-taken t (length ts) ts last i in
-      let le : k.0 ≤ length ts - 1 = (let l : k.0 < length ts = k.1 in omega arith) in
-      let low : length ts - 1 < length ts = omega arith in
-      let up : get_or ts k.0 last ≤ get_or ts (length ts - 1) last = not-falling ts k.0 (length ts - 1) last h le low in
-      let one : get_or ts k.0 last ≡ t = k.2 in
-      let end : last ≡ get_or ts (length ts - 1) last = is in
-      omega arith;
+  below = all;
   above = λ t i. absurd (subst (In t) (drop-short (length ts) ts (omega arith)) i);
 }
+
+pub parts-last : (ts : List ℕ) (bound : ℕ) → LastNotBelow ts (length ts) bound → AllBelow ts (length ts - 1) bound → Parts ts bound (length ts - 1)
+parts-last ts bound last all = record { within = omega arith; below = all; above = last.above }
 
 -- a ticket is among these where it stands behind the lesser ones
 pub among-at : (ts : List ℕ) (ticket n : ℕ) → Ascends ts → Parts ts ticket n → n < length ts → In ticket ts → get_or ts n 0 ≡ ticket
@@ -441,3 +459,14 @@ unfolding Uses
 refused-alike old mid new same put x t =
     let alike = uses-alike old mid same x t in
     (λ u. alike.0 ((put x t).0 u), λ u. (put x t).1 (alike.1 u))
+
+-- ---- one more behind all
+take-long : {X : Type 0} (n : ℕ) (xs : List X) → length xs ≤ n → take n xs ≡ xs
+take-long zero [] h = refl
+take-long zero (x ∷ xs) h = absurd (omega arith)
+take-long (suc n) [] h = refl
+take-long (suc n) (x ∷ xs) h = let less : length xs ≤ n = omega arith in ap (λ k. x ∷ k) (take-long n xs less)
+
+pub insert-last : {X : Type 0} (xs : List X) (n : ℕ) (x : X) → n ≡ length xs → xs ++ x ∷ [] ≡ insert xs n x
+insert-last xs n x is =
+    ap (λ k. k ++ x ∷ []) (sym (take-long n xs (omega arith))) ∙ ap (λ k. take n xs ++ x ∷ k) (sym (drop-short n xs (omega arith)))

@@ -174,3 +174,10 @@ longer-way (Branch i ∷ a) x h = refl
 
 pub ordered-place : (a v p : List Entry) → v ≡ p → p ≡ way_of a → AllOrdered v → v ≡ a
 ordered-place a v p front way h = (front ∙ way) ∙ event-way a (subst AllOrdered (front ∙ way) h)
+
+-- ---- two ways from behind
+pub drop-whole : (a : List Entry) (n : ℕ) → length a ≤ n → drop n a ≡ []
+drop-whole [] zero h = refl
+drop-whole [] (suc n) h = refl
+drop-whole (x ∷ a) zero h = absurd (omega arith)
+drop-whole (x ∷ a) (suc n) h = let rest : length a ≤ n = omega arith in drop-whole a n rest

@@ -2,11 +2,12 @@
 // stored whole: events of one branch share the way to it.
 ghost use Rattle.std.specs.Prelude.{◌≡◌, ◌<◌, ◌-◌, ◌++◌, ◌∷◌, [], true, false, length, map, Some, slice_get, IfOk, OnOk, OnErr};
 ghost use Rattle.last_events.specs.LastEvents.{ticket_at, first_child, Orderly, PutAt, RemovedAt};
-ghost use Rattle.last_events.specs.internal.Search.{Splits};
+ghost use Rattle.last_events.specs.internal.Search.{AllLess, Splits};
 ghost use Rattle.last_events.specs.internal.Seats.{AllOrdered, seat_way, seat_places, ordered_of, IsWay, flat, HasSeat, IsSound, IsBranch, IsMadeOf, FitsBehind, TakenAt};
 ghost use Rattle.last_events.specs.internal.Walks.{Related, AddedLast, AddedFrom, IsGroup, IsNearer};
 
 use crate::children::is_first_child;
+use crate::inserts::insert_at;
 use crate::search::count_less;
 use crate::ways::{ends_at_branch, is_same, ordered, way_length};
 use address::{Address, Entry};
@@ -213,7 +214,7 @@ fn put_among(
     let (before, _) = seats.as_slice().split_at(index);
     add_last_among(nearer(before, way, nearest), found)?;
     let seat = Seat::new(alloc, place, ticket)?;
-    seats.insert(index, seat)?;
+    insert_at(seats, index, seat)?;
     Ok(())
 }
 
@@ -221,14 +222,29 @@ fn put_among(
 fn nearer<'a>(before: &'a [Seat], way: &[Entry], nearest: &'a [Seat]) -> &'a [Seat]
     requires branch { IsBranch before.now }
     requires way { IsWay way.now }
+    requires less { AllLess (map seat_way before.now) (length before.now) way.now }
     ensures { IsNearer before.now (ordered_of way.now) nearest.now result.now }
 {
-    let count = count_less(before, ordered(way));
+    let count = count_lesser(before, way);
     if count == 0 {
         return nearest;
     }
     let (lesser, _) = before.split_at(count);
     lesser
+}
+
+/// How many of those before a way stand before all branches beside it. Beside an event there are none.
+fn count_lesser(before: &[Seat], way: &[Entry]) -> usize
+    requires branch { IsBranch before.now }
+    requires way { IsWay way.now }
+    requires less { AllLess (map seat_way before.now) (length before.now) way.now }
+    ensures { Splits (map seat_way before.now) (ordered_of way.now) result }
+{
+    if ends_at_branch(way) {
+        count_less(before, ordered(way))
+    } else {
+        before.len()
+    }
 }
 
 /// Takes out what stands at the place.

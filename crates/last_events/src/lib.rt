@@ -5,6 +5,7 @@
 mod branch;
 mod children;
 mod forks;
+mod inserts;
 mod places;
 mod search;
 mod tickets;

@@ -1,5 +1,5 @@
 // Looking for a place by halves.
-ghost use Rattle.std.specs.Prelude.{◌≡◌, ◌≤◌, map, length, true, false, List, MatchOption};
+ghost use Rattle.std.specs.Prelude.{◌≡◌, ◌≤◌, map, length, true, false, List};
 ghost use Rattle.address.specs.declared.Entry.{Entry};
 ghost use Rattle.last_events.specs.internal.Search.{AllLess, LastNotLess, Rising, Splits};
 ghost use Rattle.last_events.specs.internal.Seats.{seat_way};
@@ -26,9 +26,9 @@ impl Placed for Seat {
     }
 }
 
-/// How many of these places, which rise, are less than this one. Before the place of no entries there is none. Behind a
-/// branch number it is looked where that branch stands if each before it has events; else at the last two first, since
-/// a new place is behind all others nearly always.
+/// How many of these places, which rise, are less than this one. Before the place of no entries there is none. It is
+/// looked first where the place stands most likely, then at the last two, since a new place is behind all others nearly
+/// always.
 pub(crate) fn count_less<T: Placed>(seats: &[T], place: &[Entry]) -> usize
     requires { Rising (map T.place seats.now) }
     ensures { Splits (map T.place seats.now) place.now result }
@@ -36,10 +36,11 @@ pub(crate) fn count_less<T: Placed>(seats: &[T], place: &[Entry]) -> usize
     if place.is_empty() {
         return 0;
     }
-    if let Some(index) = at_number(seats, place) {
+    let count = seats.len();
+    let index = likely_index(count, place);
+    if is_at(seats, index, place) {
         return index;
     }
-    let count = seats.len();
     if is_behind(seats, count, place) {
         return count;
     }
@@ -50,24 +51,12 @@ pub(crate) fn count_less<T: Placed>(seats: &[T], place: &[Entry]) -> usize
     count_by_halves(seats, place)
 }
 
-/// The index of this place, if that is the branch number with which it begins.
-fn at_number<T: Placed>(seats: &[T], place: &[Entry]) -> Option<usize>
-    requires { Rising (map T.place seats.now) }
-    ensures { MatchOption result (Unit {0}) (λ index. Splits (map T.place seats.now) place.now index) }
-{
-    let index = branch_number(place)?;
-    if is_at(seats, index, place) {
-        Some(index)
-    } else {
-        None
-    }
-}
-
-/// The branch number with which a place begins.
-fn branch_number(place: &[Entry]) -> Option<usize> {
+/// Where this place stands most likely among so many: behind a branch number where that branch stands if each before it
+/// has events, else at the end.
+fn likely_index(count: usize, place: &[Entry]) -> usize {
     match place.first() {
-        Some(Entry::Branch(number)) => Some(*number as usize),
-        _ => None,
+        Some(Entry::Branch(number)) => *number as usize,
+        _ => count.saturating_sub(1),
     }
 }
 

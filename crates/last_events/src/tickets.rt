@@ -1,25 +1,42 @@
-// Tickets that ascend. A new one is behind all others nearly always, so the last is looked at first.
-ghost use Rattle.std.specs.Prelude.{◌≡◌, ◌<◌, ◌≤◌, ◌⊎◌, ◌↔◌, ℕ, IsTrue, IfOk, OnOk, OnErr, MatchOption, nat_lt};
+// Tickets that ascend. A new one is behind all others nearly always, so the last ones are looked at first.
+ghost use Rattle.std.specs.Prelude.{◌≡◌, ◌<◌, ◌≤◌, ◌⊎◌, ◌↔◌, ℕ, length, true, false, IsTrue, OnOk, OnErr, MatchOption, nat_lt};
 ghost use Rattle.syntax.specs.Lists.{In};
-ghost use Rattle.last_events.specs.internal.Tickets.{Ascends, Parts, LastBelow, FirstFrom};
+ghost use Rattle.last_events.specs.internal.Tickets.{Ascends, AllBelow, LastNotBelow, Parts, LastBelow, FirstFrom};
 
+use crate::inserts::insert_at;
 use std::alloc::AllocError;
 
-/// How many of the tickets are less than `bound`.
+/// How many of the tickets are less than `bound`. The last two are looked at first.
 fn count_below(tickets: &[u64], bound: u64) -> usize
     requires { Ascends tickets.now }
     ensures { Parts tickets.now bound result }
 {
-    match tickets.last() {
-        Some(last) => {
-            if *last < bound {
-                tickets.len()
-            } else {
-                count_by_halves(tickets, bound)
-            }
-        }
-        None => 0,
+    let count = tickets.len();
+    if is_behind(tickets, count, bound) {
+        return count;
     }
+    let fewer = count - 1;
+    if is_behind(tickets, fewer, bound) {
+        return fewer;
+    }
+    count_by_halves(tickets, bound)
+}
+
+/// Whether the first so many of the tickets are less than `bound`. Else there is a last of them, and it is not.
+fn is_behind(tickets: &[u64], count: usize, bound: u64) -> bool
+    requires ascends { Ascends tickets.now }
+    requires within { count ≤ length tickets.now }
+    ensures all { result ≡ true → AllBelow tickets.now count bound }
+    ensures none { result ≡ false → LastNotBelow tickets.now count bound }
+{
+    if count == 0 {
+        return true;
+    }
+    let last = tickets[count - 1];
+    if last < bound {
+        return true;
+    }
+    false
 }
 
 fn count_by_halves(tickets: &[u64], bound: u64) -> usize
@@ -56,7 +73,7 @@ pub(crate) fn put_ticket(tickets: &mut Vec<u64>, ticket: u64) -> Result<(), Allo
     if is_among(tickets.as_slice(), ticket, count) {
         return Ok(());
     }
-    tickets.insert(count, ticket)?;
+    insert_at(tickets, count, ticket)?;
     Ok(())
 }
 
@@ -97,19 +114,12 @@ pub(crate) fn first_from(tickets: &[u64], from: u64, below: u64) -> Option<u64>
     }
 }
 
-/// Adds those from `from` on that are less than `below`, in one growth.
-pub(crate) fn add_between(
-    tickets: &[u64],
-    from: u64,
-    below: u64,
-    found: &mut Vec<u64>,
-) -> Result<(), AllocError>
+/// Those from `from` on that are less than `below`.
+pub(crate) fn within(tickets: &[u64], from: u64, below: u64) -> &[u64]
     requires { Ascends tickets.now }
-    ensures { IfOk result (λ _. (t : ℕ) → In t found.new.items ↔
-        (In t found.old.items ⊎ (In t tickets.now × (from ≤ t) × (t < below)))) }
+    ensures { (t : ℕ) → In t result.now ↔ (In t tickets.now × (from ≤ t) × (t < below)) }
 {
     let (_, later) = tickets.split_at(count_below(tickets, from));
     let (within, _) = later.split_at(count_below(later, below));
-    found.extend_from_slice(within)?;
-    Ok(())
+    within
 }

@@ -1,10 +1,10 @@
 // The events that use a number: for each number its tickets, which ascend.
-ghost use Rattle.std.specs.Prelude.{◌≡◌, ◌<◌, ◌≤◌, ◌⊎◌, ◌↔◌, ◌^◌, ℕ, [], length, map, slice_index_or, MatchOption, IfOk, OnOk, OnErr};
+ghost use Rattle.std.specs.Prelude.{◌≡◌, ◌<◌, ◌≤◌, ◌⊎◌, ◌↔◌, ◌^◌, ℕ, [], length, map, slice_index_or, MatchOption, OnOk, OnErr};
 ghost use Rattle.syntax.specs.Lists.{In};
 ghost use Rattle.last_events.specs.LastEvents.{Uses, LastUse, FirstUse};
 ghost use Rattle.last_events.specs.internal.Tickets.{AllAscend, rows_of};
 
-use crate::tickets::{add_between, first_from, last_below, put_ticket, remove_ticket};
+use crate::tickets::{first_from, last_below, put_ticket, remove_ticket, within};
 use std::alloc::{AllocError, Global};
 use std::marker::Model;
 
@@ -76,20 +76,13 @@ impl UseTable {
         first_from(tickets, from, below)
     }
 
-    /// Adds the tickets, from `from` on and less than `below`, of the events that use the number.
-    pub fn between(
-        &self,
-        number: u32,
-        from: u64,
-        below: u64,
-        found: &mut Vec<u64>,
-    ) -> Result<(), AllocError>
+    /// The tickets, from `from` on and less than `below`, of the events that use the number.
+    pub fn between(&self, number: u32, from: u64, below: u64) -> &[u64]
         requires { from ≤ below }
-        ensures { IfOk result (λ _. (t : ℕ) → In t found.new.items ↔
-            (In t found.old.items ⊎ (Uses self.now number t × (from ≤ t) × (t < below)))) }
+        ensures { (t : ℕ) → In t result.now ↔ (Uses self.now number t × (from ≤ t) × (t < below)) }
     {
         let tickets = row_at(self.rows.as_slice(), number as usize);
-        add_between(tickets, from, below, found)
+        within(tickets, from, below)
     }
 }
 

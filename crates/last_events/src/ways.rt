@@ -51,15 +51,22 @@ pub(crate) fn ends_at_branch(way: &[Entry]) -> bool
     }
 }
 
-/// Whether both are the same entries. Those of one entry, as the number of a branch is, are compared here: to compare
-/// slices takes several times as long.
+/// Whether both are the same entries. The last ones are looked at first, since two ways of one branch mostly differ
+/// there.
 pub(crate) fn is_same(one: &[Entry], other: &[Entry]) -> bool
     ensures { IsTrue result ↔ (one.now ≡ other.now) }
 {
-    match (one, other) {
-        ([first], [second]) => is_entry(*first, *second),
-        _ => one == other,
+    if one.len() != other.len() {
+        return false;
     }
+    let mut index = one.len();
+    while index > 0 {
+        index -= 1;
+        if !is_entry(one[index], other[index]) {
+            return false;
+        }
+    }
+    true
 }
 
 /// Whether both are the same entry.

@@ -42,3 +42,14 @@ lesser-stands low next l i j t u e f r a b less =
             absurd (omega arith)
       ]
     ]
+
+-- one ticket stands at one index
+pub same-index : (low next : ℕ) (l : Live) (i j t : ℕ) (e f : Event) → Rising low l next → slice_get l i ≡ Some (t, e) → slice_get l j ≡ Some (t, f) → i ≡ j
+same-index low next l i j t e f r a b =
+    elim (cases_lt i j) [
+      | inl below ↦ let other : t < t = index-rises low next l i j t t e f r a b below in absurd (omega arith)
+      | inr high ↦ elim (cases_lt j i) [
+        | inl back ↦ let other : t < t = index-rises low next l j i t t f e r b a back in absurd (omega arith)
+        | inr up ↦ omega arith
+      ]
+    ]

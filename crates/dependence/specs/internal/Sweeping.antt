@@ -17,6 +17,10 @@ FlagAt l high flags t = (i : ℕ) × (k : ℕ) × StandsAt l t i × (i + k + 1 �
 abbrev pub IsUnreached : Live → ℕ → ℕ → Type 0
 IsUnreached l last t = (c : ℕ) → IsLive l c → c ≤ last → DependsOn l t c → c ≡ t
 
+-- another one of cs depends on the event of ticket t
+abbrev pub LeadsOn : Live → List ℕ → ℕ → Type 0
+LeadsOn l cs t = (c : ℕ) × In c cs × DependsOn l t c × (c ≡ t → ⊥)
+
 -- from `high` down to `index`: which events reach one of cs, and which of these are topmost
 pub record Swept (l : Live) (cs : List ℕ) (high index : ℕ) (flags : List Bool) (kept : List ℕ) : Type 0 where
   pub count : index + length flags ≡ high

@@ -1,6 +1,6 @@
 -- Tickets that ascend, and rows of them.
 -- No reader has to believe it: the proofs of `UseTable` tie it to `Uses`.
-use Rattle.std.specs.Prelude.{ℕ, ◌<◌, ◌≤◌, List, [], ◌∷◌, length, take, drop, map, Vec, slice_index_or}
+use Rattle.std.specs.Prelude.{ℕ, ◌-◌, ◌<◌, ◌≤◌, List, [], ◌∷◌, length, take, drop, map, Vec, slice_index_or}
 use Rattle.std.specs.Global.{Global}
 use Rattle.syntax.specs.Lists.{In}
 
@@ -14,6 +14,15 @@ pub record Parts (ts : List ℕ) (bound n : ℕ) : Type 0 where
   pub within : n ≤ length ts
   pub below : (t : ℕ) → In t (take n ts) → t < bound
   pub above : (t : ℕ) → In t (drop n ts) → bound ≤ t
+
+-- the first n tickets are less than the bound
+abbrev pub AllBelow : List ℕ → ℕ → ℕ → Type 0
+AllBelow ts n bound = (t : ℕ) → In t (take n ts) → t < bound
+
+-- from the last of the first n tickets on none is less than the bound
+pub record LastNotBelow (ts : List ℕ) (n bound : ℕ) : Type 0 where
+  pub some : 0 < n
+  pub above : (t : ℕ) → In t (drop (n - 1) ts) → bound ≤ t
 
 -- t is the greatest of these tickets that is less than `below`
 pub record LastBelow (ts : List ℕ) (below t : ℕ) : Type 0 where

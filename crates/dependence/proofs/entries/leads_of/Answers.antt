@@ -1,8 +1,8 @@
-use Rattle.std.proofs.Common.{◌≡◌, ◌↔◌, ◌≤◌, ℕ, List, length, sym, ap, subst, arith}
+use Rattle.std.proofs.Common.{◌≡◌, ◌↔◌, ◌≤◌, ℕ, List, length, IfSome, sym, ap, subst, ◌∙◌, arith}
 use Rattle.std.specs.List.Sorted.{IsNonDecreasing}
 use Rattle.std.proofs.lemmas.Result.{IfOk-weaker}
 use Rattle.syntax.specs.Lists.{In}
-use Rattle.dependence.specs.internal.Tables.{Topmost}
+use Rattle.dependence.specs.internal.Tables.{Falling, Topmost}
 use Rattle.dependence.proofs.Candidacy.{candidates-found}
 use Rattle.dependence.proofs.Edges.{candidates-live, candidates-alike}
 use Rattle.dependence.proofs.Sweeps.{few-falling, few-topmost}
@@ -10,91 +10,94 @@ use Rattle.dependence.proofs.entries.leads_of.Goals as goal
 
 pub returns-then-len-le1 : goal.returns-then-len-le1
 returns-then-len-le1 c =
-    let few : length c.add_by_variables.new.found.items ≤ 1 = omega (arith, c.add_by_variables.new.found.ok) in
+    let cs : List ℕ = c.add_by_variables.new.found.items in
+    let l = c.args.new.now.list.now.live in
+    let few : length cs ≤ 1 = omega (arith, c.add_by_variables.new.found.ok) in
+    let found = candidates-found l c.args.new.now.ticket c.args.new.now.event.now c.requires.found.0 c.requires.new.rising c.requires.found.1 c.requires.behind
+    c.args.found.now.items cs c.requires.found.2 c.in_ok-add_by_variables.ensures in
     record {
-      falling = few-falling c.add_by_variables.new.found.items few;
-      topmost = (
-        c.add_by_variables.new.found.items,
-        (candidates-found c.args.new.now.list.now.live c.args.new.now.ticket c.args.new.now.event.now c.requires.found.0 c.requires.new.rising c.requires.found.1 c.requires.behind
-            c.args.found.items c.add_by_variables.new.found.items c.requires.found.2 c.in_ok-add_by_variables.ensures),
-        few-topmost c.args.new.now.list.now.live c.add_by_variables.new.found.items few,
-      );
+      falling = IfOk-weaker c.copied.result _ _ (λ leads is. subst (λ (k : List ℕ). Falling k) (sym (is ∙ c.as_slice.ensures.value)) (few-falling cs few)) c.copied.ensures;
+      topmost = IfOk-weaker c.copied.result _ _ (λ leads is. (
+        cs,
+        found,
+        subst (λ (k : List ℕ). (t : ℕ) → In t k ↔ Topmost l cs t) (sym (is ∙ c.as_slice.ensures.value)) (few-topmost l cs few),
+      )) c.copied.ensures;
     }
 
-pub are_unreached-requires : goal.are_unreached-requires
-are_unreached-requires c =
+pub told_topmost-requires : goal.told_topmost-requires
+told_topmost-requires c =
     let new = c.args.new.now in
-    let sorted : List ℕ = c.ascending-sorted.result.items in
+    let sorted : List ℕ = c.sort.new.tickets.items in
     let same : length c.as_slice-tickets.result.now ≡ length sorted = ap length c.as_slice-tickets.ensures.value in
-    let size : length sorted ≡ length c.add_by_variables.new.found.items = c.ascending-sorted.ensures.length in
+    let size : length sorted ≡ length c.add_by_variables.new.found.items = c.sort.ensures.length in
     record {
       rising = (new.ticket, c.requires.new.rising);
       linked = c.requires.linked;
       live = candidates-live new.list.now.live new.event.now c.as_slice-tickets.result.now sorted c.as_slice-tickets.ensures.value
-          (candidates-alike new.list.now.live new.event.now c.add_by_variables.new.found.items sorted c.ascending-sorted.ensures.same (candidates-found c.args.new.now.list.now.live c.args.new.now.ticket c.args.new.now.event.now c.requires.found.0 c.requires.new.rising c.requires.found.1 c.requires.behind
-          c.args.found.items c.add_by_variables.new.found.items c.requires.found.2 c.in_ok-add_by_variables.ensures));
+          (candidates-alike new.list.now.live new.event.now c.add_by_variables.new.found.items sorted c.sort.ensures.same (candidates-found c.args.new.now.list.now.live c.args.new.now.ticket c.args.new.now.event.now c.requires.found.0 c.requires.new.rising c.requires.found.1 c.requires.behind
+          c.args.found.now.items c.add_by_variables.new.found.items c.requires.found.2 c.in_ok-add_by_variables.ensures));
       some = omega (arith, c.add_by_variables.new.found.ok);
-      ascending = subst (λ (k : List ℕ). IsNonDecreasing k) (sym c.as_slice-tickets.ensures.value) c.ascending-sorted.ensures.ascending;
+      ascending = subst (λ (k : List ℕ). IsNonDecreasing k) (sym c.as_slice-tickets.ensures.value) c.sort.ensures.ascending;
     }
 
-pub falling-requires : goal.falling-requires
-falling-requires c = subst (λ (k : List ℕ). IsNonDecreasing k) (sym c.as_slice-tickets.ensures.value) c.ascending-sorted.ensures.ascending
-
-pub returns-then-are_unreached : goal.returns-then-are_unreached
-returns-then-are_unreached c =
+pub returns-in-Some : goal.returns-in-Some
+returns-in-Some c =
     let new = c.args.new.now in
-    let sorted : List ℕ = c.ascending-sorted.result.items in
-    let tops = c.are_unreached.ensures c.if-are_unreached.true in
+    let sorted : List ℕ = c.sort.new.tickets.items in
+    let falling = subst (λ o. IfSome o (λ kept. Falling kept.items)) c.in-Some.is c.in_ok-told.ensures.falling in
+    let tops = subst (λ o. IfSome o (λ kept. (t : ℕ) → In t kept.items ↔ Topmost new.list.now.live c.as_slice-tickets.result.now t)) c.in-Some.is c.in_ok-told.ensures.topmost in
     record {
-      falling = c.falling.ensures.falling;
-      topmost = IfOk-weaker c.falling.result _ _ (λ kept same. (
+      falling = falling;
+      topmost = (
         sorted,
-        candidates-alike new.list.now.live new.event.now c.add_by_variables.new.found.items sorted c.ascending-sorted.ensures.same (candidates-found c.args.new.now.list.now.live c.args.new.now.ticket c.args.new.now.event.now c.requires.found.0 c.requires.new.rising c.requires.found.1 c.requires.behind
-            c.args.found.items c.add_by_variables.new.found.items c.requires.found.2 c.in_ok-add_by_variables.ensures),
-        λ t. subst (λ (k : List ℕ). In t kept.items ↔ Topmost new.list.now.live k t) c.as_slice-tickets.ensures.value (
-          (λ i. tops t ((same t).0 i)),
-          (λ top. (same t).1 top.0),
-        ),
-      )) c.falling.ensures.same;
+        candidates-alike new.list.now.live new.event.now c.add_by_variables.new.found.items sorted c.sort.ensures.same (candidates-found c.args.new.now.list.now.live c.args.new.now.ticket c.args.new.now.event.now c.requires.found.0 c.requires.new.rising c.requires.found.1 c.requires.behind
+            c.args.found.now.items c.add_by_variables.new.found.items c.requires.found.2 c.in_ok-add_by_variables.ensures),
+        λ t. subst (λ (k : List ℕ). In t c.in-Some.leads.items ↔ Topmost new.list.now.live k t) c.as_slice-tickets.ensures.value (tops t),
+      );
     }
 
 pub span-low-requires : goal.span-low-requires
 span-low-requires c =
     let new = c.args.new.now in
-    let sorted : List ℕ = c.ascending-sorted.result.items in
+    let sorted : List ℕ = c.sort.new.tickets.items in
     let same : length c.as_slice-tickets.result.now ≡ length sorted = ap length c.as_slice-tickets.ensures.value in
-    let size : length sorted ≡ length c.add_by_variables.new.found.items = c.ascending-sorted.ensures.length in
+    let size : length sorted ≡ length c.add_by_variables.new.found.items = c.sort.ensures.length in
     record {
       rising = (new.ticket, c.requires.new.rising);
       live = candidates-live new.list.now.live new.event.now c.as_slice-tickets.result.now sorted c.as_slice-tickets.ensures.value
-          (candidates-alike new.list.now.live new.event.now c.add_by_variables.new.found.items sorted c.ascending-sorted.ensures.same (candidates-found c.args.new.now.list.now.live c.args.new.now.ticket c.args.new.now.event.now c.requires.found.0 c.requires.new.rising c.requires.found.1 c.requires.behind
-          c.args.found.items c.add_by_variables.new.found.items c.requires.found.2 c.in_ok-add_by_variables.ensures));
+          (candidates-alike new.list.now.live new.event.now c.add_by_variables.new.found.items sorted c.sort.ensures.same (candidates-found c.args.new.now.list.now.live c.args.new.now.ticket c.args.new.now.event.now c.requires.found.0 c.requires.new.rising c.requires.found.1 c.requires.behind
+          c.args.found.now.items c.add_by_variables.new.found.items c.requires.found.2 c.in_ok-add_by_variables.ensures));
       some = omega (arith, c.add_by_variables.new.found.ok);
-      ascending = subst (λ (k : List ℕ). IsNonDecreasing k) (sym c.as_slice-tickets.ensures.value) c.ascending-sorted.ensures.ascending;
+      ascending = subst (λ (k : List ℕ). IsNonDecreasing k) (sym c.as_slice-tickets.ensures.value) c.sort.ensures.ascending;
     }
 
 pub topmost-requires : goal.topmost-requires
 topmost-requires c =
     let new = c.args.new.now in
+    let sorted : List ℕ = c.sort.new.tickets.items in
+    let same : length c.as_slice-tickets.result.now ≡ length sorted = ap length c.as_slice-tickets.ensures.value in
+    let size : length sorted ≡ length c.add_by_variables.new.found.items = c.sort.ensures.length in
     record {
       rising = (new.ticket, c.requires.new.rising);
       linked = c.requires.linked;
       order = c.span-low.ensures.order;
       size = c.span-low.ensures.size;
       stand = c.span-low.ensures.stand;
-      ascending = subst (λ (k : List ℕ). IsNonDecreasing k) (sym c.as_slice-tickets.ensures.value) c.ascending-sorted.ensures.ascending;
+      some = omega (arith, c.add_by_variables.new.found.ok);
+      last = c.span-low.ensures.last;
+      ascending = subst (λ (k : List ℕ). IsNonDecreasing k) (sym c.as_slice-tickets.ensures.value) c.sort.ensures.ascending;
     }
 
 pub returns : goal.returns
 returns c =
     let new = c.args.new.now in
-    let sorted : List ℕ = c.ascending-sorted.result.items in
+    let sorted : List ℕ = c.sort.new.tickets.items in
     record {
       falling = c.topmost.ensures.falling;
       topmost = IfOk-weaker c.topmost.result _ _ (λ kept tops. (
         sorted,
-        candidates-alike new.list.now.live new.event.now c.add_by_variables.new.found.items sorted c.ascending-sorted.ensures.same (candidates-found c.args.new.now.list.now.live c.args.new.now.ticket c.args.new.now.event.now c.requires.found.0 c.requires.new.rising c.requires.found.1 c.requires.behind
-            c.args.found.items c.add_by_variables.new.found.items c.requires.found.2 c.in_ok-add_by_variables.ensures),
+        candidates-alike new.list.now.live new.event.now c.add_by_variables.new.found.items sorted c.sort.ensures.same (candidates-found c.args.new.now.list.now.live c.args.new.now.ticket c.args.new.now.event.now c.requires.found.0 c.requires.new.rising c.requires.found.1 c.requires.behind
+            c.args.found.now.items c.add_by_variables.new.found.items c.requires.found.2 c.in_ok-add_by_variables.ensures),
         λ t. subst (λ (k : List ℕ). In t kept.items ↔ Topmost new.list.now.live k t) c.as_slice-tickets.ensures.value (tops t),
       )) c.topmost.ensures.topmost;
     }

@@ -12,21 +12,24 @@ pub unlink_all-requires : goal.unlink_all-requires
 unlink_all-requires c =
     let l : Live = c.args.list.now.live in
     let links : List Links = c.args.list.now.links in
-    let index : ℕ = c.take-index.result.0 in
-    let x : ℕ × Event = (c.args.ticket, c.take-index.result.1.event) in
-    let m : Links = c.take-index.result.1.links in
-    let out = c.take-index.ensures in
+    let index : ℕ = c.take-kept.ensures.0 in
+    let x : ℕ × Event = (c.args.ticket, c.take-kept.result.event) in
+    let m : Links = c.take-kept.result.links in
+    let out = c.take-kept.ensures.1 in
     let taken =
-    taken-at l c.take-index.new.self.live links c.take-index.new.self.links index x m c.as_slice.result.now c.requires.rising c.requires.linked
-    (c.args.ticket, (x.1, out.stands), c.requires.alone) (sym (got-here l index x x out.stands)) (sym (got-here links index m m out.linked)) out.live out.links c.as_slice.ensures.value in
+    taken-at l c.take-kept.new.self.live links c.take-kept.new.self.links index x m c.as_slice.result.now c.requires.rising c.requires.linked
+    (c.args.ticket, (x.1, out.stands), c.requires.alone) (sym (got-here l index x x out.stands)) (sym (got-here links index m m out.linked)) out.live out.links c.as_slice.ensures in
     record { rising = taken.rising; absent = taken.absent; live = taken.live; falling = taken.falling; linked = taken.linked }
 
 pub returns : goal.returns
 returns c =
-    let out = c.take-index.ensures in
+    let out = c.take-kept.ensures.1 in
     record {
-      live = c.unlink_all.ensures.same.live ∙ out.live;
+      taken = (
+        c.take-kept.ensures.0,
+        out.stands ∙ ap (λ (e : Event). Some (c.args.ticket, e)) (sym c.into_inner.ensures),
+        c.unlink_all.ensures.same.live ∙ out.live,
+      );
       linked = subst (λ (k : Live). Linked k c.unlink_all.new.list.links) (sym c.unlink_all.ensures.same.live)
-          (part-linked c.take-index.new.self.live c.args.ticket c.unlink_all.new.list.links c.unlink_all.ensures.linked);
-      event = out.stands ∙ ap (λ (e : Event). Some (c.args.ticket, e)) (sym c.into_inner.ensures);
+          (part-linked c.take-kept.new.self.live c.args.ticket c.unlink_all.new.list.links c.unlink_all.ensures.linked);
     }

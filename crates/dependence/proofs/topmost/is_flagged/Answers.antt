@@ -8,20 +8,20 @@ use Rattle.dependence.proofs.topmost.is_flagged.Goals as goal
 pub index_of_live-index-requires : goal.index_of_live-index-requires
 index_of_live-index-requires c = c.requires.live _ (in-read c.args.tickets.now c.loop-ticket.ticket-index c.loop-ticket-test.true)
 
+pub overflow_sub-high : goal.overflow_sub-high
+overflow_sub-high c =
+    let at = c.index_of_live-index.ensures in
+    let below : c.index_of_live-index.result < c.args.high =
+    stands-below 0 c.requires.rising.0 c.args.list.now.live c.args.high c.index_of_live-index.result _ at.0 _ c.requires.rising.1 c.requires.some
+    c.requires.last.1 at.1 c.if-ticket-last.false in
+    omega arith
+
 pub overflow_sub-high-in-loop-ticket : goal.overflow_sub-high-in-loop-ticket
 overflow_sub-high-in-loop-ticket c =
     let at = c.index_of_live-index.ensures in
     let below : c.index_of_live-index.result < c.args.high =
     stands-below 0 c.requires.rising.0 c.args.list.now.live c.args.high c.index_of_live-index.result _ at.0 _ c.requires.rising.1 c.requires.some
-    c.ticket_at-last.ensures.1 at.1 c.if-ticket-last.false in
-    omega arith
-
-pub overflow_sub-high-in-loop-ticket-2 : goal.overflow_sub-high-in-loop-ticket-2
-overflow_sub-high-in-loop-ticket-2 c =
-    let at = c.index_of_live-index.ensures in
-    let below : c.index_of_live-index.result < c.args.high =
-    stands-below 0 c.requires.rising.0 c.args.list.now.live c.args.high c.index_of_live-index.result _ at.0 _ c.requires.rising.1 c.requires.some
-    c.ticket_at-last.ensures.1 at.1 c.if-ticket-last.false in
+    c.requires.last.1 at.1 c.if-ticket-last.false in
     omega arith
 
 pub bounds-flags-high : goal.bounds-flags-high
@@ -29,7 +29,7 @@ bounds-flags-high c =
     let at = c.index_of_live-index.ensures in
     let below : c.index_of_live-index.result < c.args.high =
     stands-below 0 c.requires.rising.0 c.args.list.now.live c.args.high c.index_of_live-index.result _ at.0 _ c.requires.rising.1 c.requires.some
-    c.ticket_at-last.ensures.1 at.1 c.if-ticket-last.false in
+    c.requires.last.1 at.1 c.if-ticket-last.false in
     let room : c.args.high ≤ c.index_of_live-index.result + length c.args.flags.now =
     c.requires.passed _ c.index_of_live-index.result (in-read c.args.tickets.now c.loop-ticket.ticket-index c.loop-ticket-test.true) at in
     omega arith
@@ -39,7 +39,7 @@ loop-ticket-preserved c =
     let at = c.index_of_live-index.ensures in
     let below : c.index_of_live-index.result < c.args.high =
     stands-below 0 c.requires.rising.0 c.args.list.now.live c.args.high c.index_of_live-index.result _ at.0 _ c.requires.rising.1 c.requires.some
-    c.ticket_at-last.ensures.1 at.1 c.if-ticket-last.false in
+    c.requires.last.1 at.1 c.if-ticket-last.false in
     none-more (FlagAt c.args.list.now.live c.args.high c.args.flags.now) c.args.tickets.now c.loop-ticket.ticket-index c.loop-ticket-test.true
     (λ flag. not-both _
     ((flag-at 0 c.requires.rising.0 c.args.list.now.live c.args.high c.args.flags.now _ c.index_of_live-index.result at.0 _ c.requires.rising.1 at.1 below
@@ -52,7 +52,7 @@ returns-then-ticket-last c = (
   (λ on. cc),
   (λ h. absurd (none-above 0 c.requires.rising.0 c.args.list.now.live c.args.high c.args.flags.now c.args.tickets.now c.loop-ticket.ticket-index _
       c.requires.rising.1 c.requires.ascending c.loop-ticket-test.true c.requires.some
-      c.ticket_at-last.ensures.1 c.if-ticket-last.true c.loop-ticket.invariant h.0 h.1 h.2)),
+      c.requires.last.1 c.if-ticket-last.true c.loop-ticket.invariant h.0 h.1 h.2)),
 )
 
 pub returns-then-flags-high : goal.returns-then-flags-high
@@ -60,7 +60,7 @@ returns-then-flags-high c =
     let at = c.index_of_live-index.ensures in
     let below : c.index_of_live-index.result < c.args.high =
     stands-below 0 c.requires.rising.0 c.args.list.now.live c.args.high c.index_of_live-index.result _ at.0 _ c.requires.rising.1 c.requires.some
-    c.ticket_at-last.ensures.1 at.1 c.if-ticket-last.false in (
+    c.requires.last.1 at.1 c.if-ticket-last.false in (
       (λ on. (
         get_or c.args.tickets.now c.loop-ticket.ticket-index 0,
         in-read c.args.tickets.now c.loop-ticket.ticket-index c.loop-ticket-test.true,

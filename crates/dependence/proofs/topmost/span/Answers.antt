@@ -1,5 +1,6 @@
-use Rattle.std.proofs.Common.{◌-◌, ◌<◌, length, arith}
+use Rattle.std.proofs.Common.{◌≡◌, ◌+◌, ◌-◌, ◌<◌, ℕ, length, get_or, subst, arith}
 use Rattle.std.proofs.lemmas.Option.{slice_get_within}
+use Rattle.dependence.specs.internal.Tables.{StandsAt}
 use Rattle.dependence.proofs.public.ListPlaces.{in-read}
 use Rattle.dependence.proofs.Sweeps.{span-of}
 use Rattle.dependence.proofs.topmost.span.Goals as goal
@@ -26,4 +27,10 @@ returns c =
     span-of 0 c.requires.rising.0 c.args.list.now.live c.args.tickets.now c.index_of_live-low.result c.index_of_live-last.result at.0 on.0 c.requires.rising.1 c.requires.some
     c.requires.ascending at.1 on.1 c.requires.live in
     let within : c.index_of_live-last.result < length c.args.list.now.live = slice_get_within c.args.list.now.live c.index_of_live-last.result _ on.1 in
-    record { order = omega (arith, spans.0); size = omega arith; stand = spans.1 }
+    let back : c.index_of_live-last.result ≡ c.index_of_live-last.result + 1 - 1 = omega arith in
+    record {
+      order = omega (arith, spans.0);
+      size = omega arith;
+      stand = spans.1;
+      last = subst (λ (k : ℕ). StandsAt c.args.list.now.live (get_or c.args.tickets.now (length c.args.tickets.now - 1) 0) k) back on;
+    }

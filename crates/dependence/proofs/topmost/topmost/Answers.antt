@@ -16,7 +16,7 @@ pub is_flagged-below-requires-clause-live : goal.is_flagged-below-requires-claus
 is_flagged-below-requires-clause-live c = λ t i.
     let p : ℕ = c.loop-index.index - 1 in
     let less : p < length c.args.list.now.live = omega arith in
-    let here = linked-there c.args.list.now.live c.args.list.now.links p c.links_at.result.now c.requires.linked less c.links_at.ensures in
+    let here = linked-there c.args.list.now.live c.args.list.now.links p c.linked_at-ticket.result.1.now c.requires.linked less c.linked_at-ticket.ensures.links in
     let f = (here.followers.exactly t).0 (subst (λ (k : List ℕ). In t k) (c.as_slice-followers.ensures) i) in
     (f.dependent.dependent, f.dependent.dependent_live)
 
@@ -24,7 +24,7 @@ pub is_flagged-below-requires-clause-passed : goal.is_flagged-below-requires-cla
 is_flagged-below-requires-clause-passed c = λ t i j on.
     let p : ℕ = c.loop-index.index - 1 in
     let less : p < length c.args.list.now.live = omega arith in
-    let here = linked-there c.args.list.now.live c.args.list.now.links p c.links_at.result.now c.requires.linked less c.links_at.ensures in
+    let here = linked-there c.args.list.now.live c.args.list.now.links p c.linked_at-ticket.result.1.now c.requires.linked less c.linked_at-ticket.ensures.links in
     let f = (here.followers.exactly t).0 (subst (λ (k : List ℕ). In t k) (c.as_slice-followers.ensures) j) in
     let above : p < i = lesser-stands 0 c.requires.rising.0 c.args.list.now.live p i here.ticket t here.event on.0 c.requires.rising.1 here.stands on.1 f.dependent.less in
     let count : c.loop-index.index + length c.loop-index.flags.items ≡ c.args.high = c.loop-index.invariant.swept.count in
@@ -35,7 +35,7 @@ pub is_flagged-below-requires-clause-ascending : goal.is_flagged-below-requires-
 is_flagged-below-requires-clause-ascending c =
     let p : ℕ = c.loop-index.index - 1 in
     let less : p < length c.args.list.now.live = omega arith in
-    let here = linked-there c.args.list.now.live c.args.list.now.links p c.links_at.result.now c.requires.linked less c.links_at.ensures in
+    let here = linked-there c.args.list.now.live c.args.list.now.links p c.linked_at-ticket.result.1.now c.requires.linked less c.linked_at-ticket.ensures.links in
     subst (λ (k : List ℕ). InOrder ◌<◌ k) (sym (c.as_slice-followers.ensures)) here.followers.ascending
 
 pub loop-index-init : goal.loop-index-init
@@ -54,9 +54,9 @@ loop-index-preserved c =
     let less : p < length c.args.list.now.live = omega arith in
     let below : p < c.args.high = omega arith in
     let step : suc p ≡ c.loop-index.index = omega arith in
-    let here = linked-there c.args.list.now.live c.args.list.now.links p c.links_at.result.now c.requires.linked less c.links_at.ensures in
-    let ticket : c.ticket_at-ticket.result ≡ here.ticket =
-    ap (λ (x : ℕ × Event). x.0) (at-one c.args.list.now.live p (c.ticket_at-ticket.result, c.ticket_at-ticket.ensures.0) (here.ticket, here.event) c.ticket_at-ticket.ensures.1 here.stands) in
+    let here = linked-there c.args.list.now.live c.args.list.now.links p c.linked_at-ticket.result.1.now c.requires.linked less c.linked_at-ticket.ensures.links in
+    let ticket : c.linked_at-ticket.result.0 ≡ here.ticket =
+    ap (λ (x : ℕ × Event). x.0) (at-one c.args.list.now.live p (c.linked_at-ticket.result.0, c.linked_at-ticket.ensures.ticket.0) (here.ticket, here.event) c.linked_at-ticket.ensures.ticket.1 here.stands) in
     let flags : c.as_slice.result.now ≡ c.loop-index.flags.items = c.as_slice.ensures.value in
     let told : IsTrue c.is_flagged-below.result ↔ ((v : ℕ) × In v c.as_slice-followers.result.now × FlagAt c.args.list.now.live c.args.high c.loop-index.flags.items v) =
     subst (λ (k : List Bool). IsTrue c.is_flagged-below.result ↔ ((v : ℕ) × In v c.as_slice-followers.result.now × FlagAt c.args.list.now.live c.args.high k v)) flags
@@ -65,12 +65,12 @@ loop-index-preserved c =
       low = omega arith;
       high = omega arith;
       swept = swept-next 0 c.requires.rising.0 c.args.list.now.live c.args.candidates.now c.args.low c.args.high c.loop-index.index p here.ticket here.event
-          c.loop-index.flags.items c.push.new.self.items c.loop-index.kept.items c.add_if.new.found.items c.as_slice-followers.result.now
+          c.loop-index.flags.items c.push.new.self.items c.loop-index.kept.items c.keep_if.new.kept.items c.as_slice-followers.result.now
           c.is_among-is_one.result c.is_flagged-below.result c.either.result c.alone.result c.requires.rising.1 c.requires.stand step here.stands below
           (subst (λ (k : List ℕ). ListsFollowers c.args.list.now.live here.ticket k) (sym (c.as_slice-followers.ensures)) here.followers)
           c.loop-index.invariant.swept
           (c.is_among-is_one.ensures ∙ ap (λ (k : ℕ). is_in k c.args.candidates.now) ticket) told c.either.ensures c.alone.ensures c.in_ok-push.ensures.items
-          (c.in_ok-add_if.ensures ∙ ap (λ (k : ℕ). cond c.alone.result (c.loop-index.kept.items ++ k ∷ []) c.loop-index.kept.items) ticket);
+          (c.in_ok-keep_if.ensures ∙ ap (λ (k : ℕ). cond c.alone.result (c.loop-index.kept.items ++ k ∷ []) c.loop-index.kept.items) ticket);
     }
 
 pub returns : goal.returns

@@ -36,7 +36,7 @@ leads_of-requires c =
       found = subst (λ (k : Live). PlacesFound k c.args.event.now c.put_places.new.found.items) same (
         c.args.tables.now,
         c.requires.tabled,
-        subst (λ (ts : List ℕ). FoundByPlace c.args.tables.now.places (places c.args.event.now) ts c.put_places.new.found.items) c.new-found.ensures.items
+        subst (λ (ts : List ℕ). FoundByPlace c.args.tables.now.places (places c.args.event.now) ts c.put_places.new.found.items) c.clear.ensures.items
             c.in_ok-put_places.ensures.found,
       );
       behind = subst (λ (k : Live). ComesBehind k c.args.event.now) same c.requires.behind;
@@ -49,7 +49,7 @@ link_all-requires c =
     let l : Live = c.args.list.now.live in
     let same : c.make_room.new.list.live ≡ l = c.make_room.ensures.live in
     let tops = c.in_ok-leads.ensures.topmost in
-    let leads = c.as_slice.ensures.value in
+    let leads = c.as_slice.ensures in
     record {
       rising = subst (λ (k : Live). Rising 0 k c.args.ticket) (sym same) c.requires.rising;
       live = λ t i. subst (λ (k : Live). IsLive k t) (sym same)
@@ -120,7 +120,7 @@ returns-clause-entered c =
       falling = c.in_ok-leads.ensures.falling;
       topmost = c.in_ok-leads.ensures.topmost;
       linked = subst (λ (k : Live). PartLinked k c.args.ticket (λ (t : ℕ). In t c.in_ok-leads.leads.items) c.link_all.new.list.links) c.make_room.ensures.live
-          (subst (λ (ts : List ℕ). PartLinked c.make_room.new.list.live c.args.ticket (λ (t : ℕ). In t ts) c.link_all.new.list.links) c.as_slice.ensures.value
+          (subst (λ (ts : List ℕ). PartLinked c.make_room.new.list.live c.args.ticket (λ (t : ℕ). In t ts) c.link_all.new.list.links) c.as_slice.ensures
           c.in_ok-link_all.ensures.linked);
       has = record {
         places = λ a i. subst (λ (p : PlaceTable). IsAt p a c.args.ticket) (sym c.put_uses.ensures.places) (c.in_ok-put_places.ensures.all a i);

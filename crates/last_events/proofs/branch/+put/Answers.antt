@@ -5,7 +5,7 @@ use Rattle.last_events.specs.LastEvents.{PutAt, Orderly}
 use Rattle.last_events.specs.declared.branch.Seat.{Seat}
 use Rattle.last_events.specs.internal.Seats.{Places, seat_way, seat_places, flat, IsSound, IsBranch, FitsBehind}
 use Rattle.last_events.specs.internal.Walks.{AddedFrom}
-use Rattle.last_events.proofs.CodeLaws.{is-way, inserted-branch, inserted-put, stands-behind, group-near, found-seat, found-none}
+use Rattle.last_events.proofs.CodeLaws.{is-way, inserted-branch, inserted-put, stands-behind, less-before, group-near, found-seat, found-none}
 use Rattle.last_events.proofs.LastLaws.{branch-taken, orderly-behind, orderly-seat, from-behind, from-event}
 use Rattle.last_events.proofs.ListLaws.{on-ok, err-on, set-behind}
 use Rattle.last_events.proofs.SeatLaws.{Stands, stands-sound, fits-behind, seat_left, left-less, whole-place, has-within, event-put, inner-put, kept-branch, kept-put, kept-same}
@@ -55,6 +55,11 @@ put_among-nearer-nearer-requires-clause-branch t c =
 
 pub put_among-nearer-nearer-requires-clause-way : goal.put_among-nearer-nearer-requires-clause-way
 put_among-nearer-nearer-requires-clause-way t c = is-way c.split_at.result.0.now _ c.args.place.now c.split_at.ensures.front c.way_length.ensures.way
+
+pub put_among-nearer-nearer-requires-clause-less : goal.put_among-nearer-nearer-requires-clause-less
+put_among-nearer-nearer-requires-clause-less t c =
+    less-before c.args.seats.now.items c.as_slice.result.now c.split_at_mut-before.result.0.now c.split_at.result.0.now c.count_less-index.result c.as_slice.ensures.value
+    c.count_less-index.ensures (c.split_at_mut-before.ensures.front ∙ ap (λ (ss : List Seat). take c.count_less-index.result ss) c.as_mut_slice.ensures.value)
 
 pub put_among-bounds-behind-0 : goal.put_among-bounds-behind-0
 put_among-bounds-behind-0 t c =
@@ -161,6 +166,11 @@ put_among-nearer-requires-clause-branch t c =
 pub put_among-nearer-requires-clause-way : goal.put_among-nearer-requires-clause-way
 put_among-nearer-requires-clause-way t c = is-way c.split_at.result.0.now _ c.args.place.now c.split_at.ensures.front c.way_length.ensures.way
 
+pub put_among-nearer-requires-clause-less : goal.put_among-nearer-requires-clause-less
+put_among-nearer-requires-clause-less t c =
+    less-before c.args.seats.now.items c.as_slice.result.now c.split_at-2.result.0.now c.split_at.result.0.now c.count_less-index.result c.as_slice.ensures.value
+    c.count_less-index.ensures (c.split_at-2.ensures.front ∙ ap (λ (ss : List Seat). take c.count_less-index.result ss) c.as_slice-3.ensures.value)
+
 pub put_among-add_last_among-requires-clause-branch : goal.put_among-add_last_among-requires-clause-branch
 put_among-add_last_among-requires-clause-branch t c =
     (group-near c.args.seats.now.items c.as_slice.result.now c.split_at.result.0.now _ c.args.place.now c.count_less-index.result c.split_at-2.result.0.now
@@ -177,15 +187,15 @@ put_among-add_last_among-requires-clause-related t c =
 
 pub put_among-returns-clause-branch : goal.put_among-returns-clause-branch
 put_among-returns-clause-branch t c =
-    inserted-branch c.args.seats.now.items c.as_slice.result.now c.as_slice-2.result.now c.insert.new.self.items c.split_at.result.0.now _ c.args.place.now c.count_less-index.result _
+    inserted-branch c.args.seats.now.items c.as_slice.result.now c.as_slice-2.result.now c.insert_at.new.items.items c.split_at.result.0.now _ c.args.place.now c.count_less-index.result _
     c.args.ticket c.requires.branch c.as_slice.ensures.value c.as_slice-2.ensures.value c.split_at.ensures.front c.way_length.ensures.way c.count_less-index.ensures
-    (c.has_way.ensures.no c.if-has_way.false) c.in_ok-seat.ensures c.in_ok-insert.ensures.items
+    (c.has_way.ensures.no c.if-has_way.false) c.in_ok-seat.ensures c.in_ok-insert_at.ensures.put
 
 pub put_among-returns-clause-put : goal.put_among-returns-clause-put
 put_among-returns-clause-put t c =
-    inserted-put c.args.seats.now.items c.as_slice.result.now c.as_slice-2.result.now c.insert.new.self.items c.split_at.result.0.now _ c.args.place.now c.count_less-index.result _
+    inserted-put c.args.seats.now.items c.as_slice.result.now c.as_slice-2.result.now c.insert_at.new.items.items c.split_at.result.0.now _ c.args.place.now c.count_less-index.result _
     c.args.ticket c.requires.branch c.as_slice.ensures.value c.as_slice-2.ensures.value c.split_at.ensures.front c.way_length.ensures.way c.count_less-index.ensures
-    (c.has_way.ensures.no c.if-has_way.false) c.in_ok-seat.ensures c.in_ok-insert.ensures.items
+    (c.has_way.ensures.no c.if-has_way.false) c.in_ok-seat.ensures c.in_ok-insert_at.ensures.put
 
 pub put_among-returns-clause-found : goal.put_among-returns-clause-found
 put_among-returns-clause-found t c =

@@ -1,7 +1,13 @@
-use Rattle.last_events.proofs.TicketLaws.{parts-all}
+use Rattle.last_events.proofs.TicketLaws.{parts-all, parts-last}
+use Rattle.std.proofs.Common.{◌<◌, length, arith}
 use Rattle.last_events.proofs.tickets.count_below.Goals as goal
 
-pub returns-then-last-bound : goal.returns-then-last-bound
-returns-then-last-bound c =
-    let at = c.in-Some.ensures.item in
-    parts-all c.args.tickets.now c.args.bound c.in-Some.last.now c.requires at.3.0 at.1 c.if-last-bound.true
+pub returns-then-is_behind : goal.returns-then-is_behind
+returns-then-is_behind c = parts-all c.args.tickets.now c.args.bound (c.is_behind.ensures.all c.if-is_behind.true)
+
+pub overflow_sub-fewer : goal.overflow_sub-fewer
+overflow_sub-fewer c = let last = c.is_behind.ensures.none c.if-is_behind.false in let some : 0 < length c.args.tickets.now = last.some in omega arith
+
+pub returns-then-is_behind-2 : goal.returns-then-is_behind-2
+returns-then-is_behind-2 c =
+    parts-last c.args.tickets.now c.args.bound (c.is_behind.ensures.none c.if-is_behind.false) (c.is_behind-2.ensures.all c.if-is_behind-2.true)

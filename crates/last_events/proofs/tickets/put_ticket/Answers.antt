@@ -8,7 +8,7 @@ pub returns-clause-ascends : goal.returns-clause-ascends
 returns-clause-ascends c =
     let ts : List ℕ = c.args.tickets.now.items in
     let parts = same-parts c.as_slice.result.now ts c.args.ticket c.count_below-count.result c.as_slice.ensures.value c.count_below-count.ensures in
-    subst Ascends (sym c.in_ok-insert.ensures.items)
+    subst Ascends (sym c.in_ok-insert_at.ensures.put)
     (put-ascends ts c.args.ticket c.count_below-count.result c.requires parts
     (λ i. true≢false (sym (c.is_among.ensures.1 (subst (In c.args.ticket) (sym c.as_slice-2.ensures.value) i)) ∙ c.if-is_among.false)))
 
@@ -16,7 +16,7 @@ pub returns-clause-put : goal.returns-clause-put
 returns-clause-put c = λ t.
     let ts : List ℕ = c.args.tickets.now.items in
     let parts = same-parts c.as_slice.result.now ts c.args.ticket c.count_below-count.result c.as_slice.ensures.value c.count_below-count.ensures in
-    same-among c.insert.new.self.items _ _ t c.in_ok-insert.ensures.items (put-in ts c.args.ticket c.count_below-count.result c.requires parts t)
+    same-among c.insert_at.new.items.items _ _ t c.in_ok-insert_at.ensures.put (put-in ts c.args.ticket c.count_below-count.result c.requires parts t)
 
 pub returns-then-is_among-clause-put : goal.returns-then-is_among-clause-put
 returns-then-is_among-clause-put c = λ t.

@@ -1,10 +1,18 @@
-use Rattle.std.proofs.Common.{◌≡◌, Bool, IsTrue, subst}
+use Rattle.std.proofs.Common.{◌≡◌, ℕ, List, Bool, IsTrue, sym, subst}
 use Rattle.std.proofs.lemmas.Result.{IfOk-weaker}
+use Rattle.syntax.specs.Lists.{In}
 use Rattle.runs.specs.Live.{LastWriter}
 use Rattle.dependence.specs.internal.Found.{LeadsBefore}
-use Rattle.dependence.proofs.Candidacy.{found-none, found-one, found-some, leads-itself, leads-reader, last-write, writer-is, writer-direct, no-writer}
+use Rattle.dependence.proofs.Candidacy.{found-none, found-there, found-one, found-some, leads-itself, leads-reader, last-write, writer-is, writer-direct, no-writer}
 use Rattle.dependence.proofs.accesses.NewEvent.add_writer.Goals as goal
 use Rattle.dependence.proofs.accesses.NewEvent.add_writer.Goals.{then-is_before, else-is_before}
+
+pub returns-then-is_found : goal.returns-then-is_found
+returns-then-is_found c =
+    let new = c.args.self.now in
+    found-there new.list.now.live new.event.now (LastWriter new.list.now.live c.args.variable) c.args.found.now.items
+    (λ t e i last. subst (λ (v : ℕ). In v c.args.found.now.items) (sym (writer-is new c.requires.new c.args.variable c.in-Some.writer t c.in-Some.ensures last))
+    (subst (λ (k : List ℕ). In c.in-Some.writer k) c.as_slice.ensures.value (c.is_found.ensures c.if-is_found.true)))
 
 pub returns-after-is_before : goal.returns-after-is_before
 returns-after-is_before c =

@@ -1,11 +1,9 @@
-use Rattle.std.proofs.Common.{◌≡◌, ◌∙◌, ◌-◌, ℕ, List, Option, Some, length, sym, ap, subst}
+use Rattle.std.proofs.Common.{◌≡◌, ◌∙◌, ◌-◌, ℕ, List, Option, Some, sym, ap}
 use Rattle.std.specs.Prelude.{slice_get}
 use Rattle.std.specs.List.{remove}
 use Rattle.slots.specs.Places.{Places, filled, rank}
 use Rattle.slots.proofs.public.PlaceLaws.{some-is}
-use Rattle.runs.specs.declared.event.Event.{Event}
 use Rattle.dependence.specs.declared.kept.Kept.{Kept}
-use Rattle.dependence.specs.declared.links.Links.{Links}
 use Rattle.dependence.specs.internal.Listed.{Listed, events_kept, links_kept}
 use Rattle.dependence.proofs.ListedLaws.{stands-at, links-stand, map-removed, count-less}
 use Rattle.dependence.proofs.live_list.LiveList.take.Goals as goal
@@ -30,15 +28,13 @@ returns c =
     let item = c.take_at-kept.ensures.item in
     let at : slice_get es place ≡ Some (c.args.ticket, Some k) =
     on.1 ∙ ap (λ (q : Option Kept). Some (c.args.ticket, q)) (ap (λ (z : ℕ × Option Kept). z.1) (some-is (c.args.ticket, Some on.0) (item.0, Some k) (sym on.1 ∙ item.1))) in
-    let index : c.index_at-index.result ≡ rank es place = c.index_at-index.ensures in
-    let gone = c.settle.ensures.filled ∙ c.take_at-kept.ensures.filled in
-    record {
-      stands = sym (ap (λ (s : Listed). slice_get s.live c.index_at-index.result) c.self.view_is)
-          ∙ ap (slice_get (events_kept (filled es))) index ∙ stands-at es c.args.ticket place k at;
-      linked = sym (ap (λ (s : Listed). slice_get s.links c.index_at-index.result) c.self.view_is)
-          ∙ ap (slice_get (links_kept (filled es))) index ∙ links-stand es c.args.ticket place k at;
-      live = ap events_kept gone ∙ map-removed (λ (x : ℕ × Kept). (x.0, x.1.event)) (filled es) (rank es place) ∙ ap (remove (events_kept (filled es))) (sym index)
-          ∙ ap (λ (s : Listed). remove s.live c.index_at-index.result) c.self.view_is;
-      links = ap links_kept gone ∙ map-removed (λ (x : ℕ × Kept). x.1.links) (filled es) (rank es place) ∙ ap (remove (links_kept (filled es))) (sym index)
-          ∙ ap (λ (s : Listed). remove s.links c.index_at-index.result) c.self.view_is;
-    }
+    let index : ℕ = rank es place in
+    let gone = c.settle.ensures.filled ∙ c.take_at-kept.ensures.filled in (
+      index,
+      record {
+        stands = sym (ap (λ (s : Listed). slice_get s.live index) c.self.view_is) ∙ stands-at es c.args.ticket place k at;
+        linked = sym (ap (λ (s : Listed). slice_get s.links index) c.self.view_is) ∙ links-stand es c.args.ticket place k at;
+        live = ap events_kept gone ∙ map-removed (λ (x : ℕ × Kept). (x.0, x.1.event)) (filled es) index ∙ ap (λ (s : Listed). remove s.live index) c.self.view_is;
+        links = ap links_kept gone ∙ map-removed (λ (x : ℕ × Kept). x.1.links) (filled es) index ∙ ap (λ (s : Listed). remove s.links index) c.self.view_is;
+      },
+    )

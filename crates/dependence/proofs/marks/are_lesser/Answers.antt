@@ -1,6 +1,6 @@
 use Rattle.std.proofs.lemmas.Bool.{ltb-true}
 use Rattle.dependence.proofs.NoMarks.{all-less}
-use Rattle.dependence.proofs.whole.are_lesser.Goals as goal
+use Rattle.dependence.proofs.marks.are_lesser.Goals as goal
 
 pub returns-in-Some : goal.returns-in-Some
 returns-in-Some c = λ less t e i.

@@ -1,7 +1,7 @@
 use Rattle.std.proofs.Common.{arith}
 use Rattle.std.proofs.lemmas.List.Sorted.{IsPermutation-sym, length_permutation, IsNonDecreasingBy-from_sort}
 use Rattle.dependence.proofs.Sweeps.{permuted}
-use Rattle.dependence.proofs.entries.ascending.Goals as goal
+use Rattle.dependence.proofs.entries.sort.Goals as goal
 
 pub returns : goal.returns
 returns c = record {
