@@ -1,5 +1,5 @@
 // The events in which actions act.
-ghost use Rattle.std.specs.Prelude.{◌≡◌, ◌++◌, ◌⊎◌, ◌↔◌, [], true, Some, None, IfOk, OnOk, MatchOption};
+ghost use Rattle.std.specs.Prelude.{◌≡◌, ◌++◌, ◌⊎◌, ◌↔◌, [], true, Some, None, IfOk, IfSome, OnOk, MatchOption};
 ghost use Rattle.syntax.specs.Lists.{In};
 ghost use Rattle.runs.specs.Moves.{Place};
 ghost use Rattle.runs.specs.declared.event.Event as any;
@@ -95,11 +95,12 @@ pub(crate) fn add(made: Option<Event>, events: &mut Items<Event>) -> Result<(), 
     }
 }
 
-/// The channel on which the action looks for another, if it acts with one.
+/// The channel on which the action looks for another, if it acts with one; then it makes no event alone.
 pub(crate) fn channel_of(action: &ActionKind) -> Option<u32>
-    ensures { MatchOption result ((b a : Place) (y : any_action.ActionKind) → model.met b action.now a y ≡ None)
+    ensures looks { MatchOption result ((b a : Place) (y : any_action.ActionKind) → model.met b action.now a y ≡ None)
         (λ c. (b a : Place) (y : any_action.ActionKind) (e : any.Event) → model.met b action.now a y ≡ Some e →
         is_on c y ≡ true) }
+    ensures never_alone { IfSome result (λ _. (a : Place) → model.solo a action.now ≡ None) }
 {
     match action {
         ActionKind::Receives(channel, _) => Some(*channel),

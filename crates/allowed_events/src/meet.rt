@@ -4,13 +4,58 @@ ghost use Rattle.allowed_events.specs.internal.Meeting as model;
 ghost use Rattle.local_actions.specs.declared.action.ActionKind.TheVariants as action;
 
 use address::{Address, compare};
-use local_actions::ActionKind;
-use runs::Event;
+use local_actions::{ActionKind, LocalAction};
+use runs::{Event, Kind};
 use std::alloc::{AllocError, Global};
 use system::Variables;
 use value::Value;
 
-/// The event that an action makes alone, if it makes one.
+/// The event that an action makes alone, if it makes one, with the place and the variables of the action.
+pub(crate) fn alone(alloc: Global, one: LocalAction) -> Option<Event>
+    ensures { result ≡ model.solo one.place one.action }
+{
+    let LocalAction { place, action } = one;
+    match action {
+        ActionKind::Assigns(variable, value, read) => Some(Event {
+            kind: Kind::Assign,
+            first: place,
+            second: None,
+            arm: None,
+            channel: None,
+            value: Some(value),
+            written: Some(variable),
+            read,
+        }),
+        ActionKind::Tests(arm, read) => Some(Event {
+            kind: Kind::Test,
+            first: place,
+            second: None,
+            arm,
+            channel: None,
+            value: None,
+            written: None,
+            read,
+        }),
+        ActionKind::Turns => Some(Event {
+            kind: Kind::Turn,
+            first: place,
+            second: None,
+            arm: None,
+            channel: None,
+            value: None,
+            written: None,
+            read: Variables::none(alloc),
+        }),
+        ActionKind::Sends(_, _, _)
+        | ActionKind::Receives(_, _)
+        | ActionKind::Syncs(_)
+        | ActionKind::Opens(_, _)
+        | ActionKind::Releases(_)
+        | ActionKind::Closes(_) => None,
+    }
+}
+
+/// The same, of copies.
 pub(crate) fn solo(
     alloc: Global,
     place: &Address,
