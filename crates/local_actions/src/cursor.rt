@@ -14,6 +14,9 @@ use syntax::Items;
 use system::{Decision, Expression};
 use value::Value;
 
+/// The first room for the entries of a place, so that it mostly is the only one.
+const FIRST_ROOM: usize = 16;
+
 /// What an arm received when it opened on its channel.
 #[derive(Clone, Copy)]
 pub struct Arrived {
@@ -204,6 +207,16 @@ fn one_less(number: usize) -> usize
     number.saturating_sub(1)
 }
 
+/// Makes the first room, where there is none yet.
+fn make_room(entries: &mut Vec<Entry>) -> Result<(), AllocError>
+    ensures { entries.new.items ≡ entries.old.items }
+{
+    if !entries.is_empty() {
+        return Ok(());
+    }
+    entries.reserve_exact(FIRST_ROOM)
+}
+
 /// Puts the entry behind the first so many, where it is the next or stands over an older one. The answer is how many they
 /// are with it.
 fn put(entries: &mut Vec<Entry>, depth: usize, entry: Entry) -> Result<usize, AllocError>
@@ -217,6 +230,7 @@ fn put(entries: &mut Vec<Entry>, depth: usize, entry: Entry) -> Result<usize, Al
         entries[depth] = entry;
         return Ok(depth + 1);
     }
+    make_room(entries)?;
     entries.push(entry)?;
     Ok(entries.len())
 }

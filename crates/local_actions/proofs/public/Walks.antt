@@ -56,11 +56,6 @@ pub received_last : (env : Received) (vs : List Arrived) (a : Arrived) → recei
 received_last env [] a = refl
 received_last env (b ∷ vs) a = received_last ((b.channel, b.value) ∷ env) vs a
 
--- what is left behind the last
-pub gone : {X : Type 0} (xs ys : List X) (o : Option X) → MatchOption o ((xs ≡ []) × (ys ≡ [])) (λ last. xs ≡ ys ++ last ∷ []) → ys ≡ without_last xs
-gone xs ys None h = h.1 ∙ sym (ap without_last h.0)
-gone xs ys (Some x) h = sym (ap without_last h ∙ last-gone ys x)
-
 -- the first without the last of them
 pub take-less : {X : Type 0} (n m : ℕ) (xs : List X) → m ≡ n - 1 → n ≤ length xs → take m xs ≡ without_last (take n xs)
 take-less zero m [] is within = let none : m ≡ 0 = omega arith in ap (λ k. take k []) none
@@ -71,29 +66,6 @@ take-less (suc (suc n)) m (x ∷ []) is within = absurd (omega arith)
 take-less (suc (suc n)) m (x ∷ y ∷ xs) is within =
     let next : m ≡ suc n = omega arith in
     ap (λ k. take k (x ∷ y ∷ xs)) next ∙ ap (λ l. x ∷ l) (take-less (suc n) n (y ∷ xs) (omega arith) (omega arith))
-
--- the first none
-pub take-none : {X : Type 0} (xs : List X) → take 0 xs ≡ []
-take-none [] = refl
-take-none (x ∷ xs) = refl
-
--- one behind all
-take-all : {X : Type 0} (n : ℕ) (xs : List X) → length xs ≤ n → take n xs ≡ xs
-take-all zero [] all = refl
-take-all (suc n) [] all = refl
-take-all zero (x ∷ xs) all = absurd (omega arith)
-take-all (suc n) (x ∷ xs) all = ap (λ l. x ∷ l) (take-all n xs (omega arith))
-
-take-left : {X : Type 0} (n : ℕ) (xs ys : List X) → n ≤ length xs → take n (xs ++ ys) ≡ take n xs
-take-left zero xs ys within = take-none (xs ++ ys) ∙ sym (take-none xs)
-take-left (suc n) [] ys within = absurd (omega arith)
-take-left (suc n) (x ∷ xs) ys within = ap (λ l. x ∷ l) (take-left n xs ys (omega arith))
-
-pub put-behind : {X : Type 0} (n m : ℕ) (xs ys : List X) (x : X) → length xs ≤ n → ys ≡ xs ++ x ∷ [] → length ys ≤ m → take m ys ≡ take n xs ++ x ∷ []
-put-behind n m xs ys x all is past = take-all m ys past ∙ is ∙ ap (λ l. l ++ x ∷ []) (sym (take-all n xs all))
-
-pub put-kept : {X : Type 0} (n : ℕ) (xs ys : List X) (x : X) → n ≤ length xs → ys ≡ xs ++ x ∷ [] → take n ys ≡ take n xs
-put-kept n xs ys x within is = ap (take n) is ∙ take-left n xs (x ∷ []) within
 
 -- of what was received
 pub gone-received : (vs us : List Arrived) (o : Option Arrived) → MatchOption o ((vs ≡ []) × (us ≡ [])) (λ last. vs ≡ us ++ last ∷ []) → received_onto [] us ≡ outside (received_onto [] vs)
