@@ -1,4 +1,4 @@
--- The events in which actions act, the choice among them, and the list of them.
+-- The events in which actions act, and the list of them.
 use Rattle.std.proofs.Common.{◌≡◌, ◌⊎◌, inl, inr, ℕ, ◌==◌, List, [], ◌∷◌, ◌++◌, true, ◌&&◌, Option, Some, None, refl, sym, ◌∙◌, ap, subst}
 use Rattle.std.proofs.lemmas.Bool.{eqb-true, eq-eqb, and_parts}
 use Rattle.std.specs.Prelude.{◌↔◌}
@@ -7,11 +7,9 @@ use Rattle.address.specs.Order.{order_of}
 use Rattle.syntax.specs.Lists.{In}
 use Rattle.runs.specs.Moves.{Place}
 use Rattle.runs.specs.Events.{acting}
-use Rattle.runs.specs.Ready.{ReadyList}
 use Rattle.runs.specs.Steps.{State, Allowed}
 use Rattle.runs.specs.WellFormed.{WellFormed}
 use Rattle.runs.specs.internal.AllowedEvents.{those}
-use Rattle.runs.specs.declared.event.Choice.{Choice}
 use Rattle.runs.specs.declared.event.Event.{Event}
 use Rattle.runs.proofs.public.Lists.{in-left, in-right, in-parts}
 use Rattle.runs.proofs.public.Options.{none-some, cond-some}
@@ -21,7 +19,7 @@ use Rattle.local_actions.specs.declared.action.ActionKind.{ActionKind}
 use Rattle.local_actions.specs.declared.action.ActionKind.TheVariants.{Sends, Receives, Syncs, Opens, Releases, Closes}
 use Rattle.channel_uses.specs.OnChannel.{is_on}
 use Rattle.allowed_events.specs.ReadyBelow.{ReadyBelow}
-use Rattle.allowed_events.specs.internal.Acting.{ActedBy, ActedByOne, ReadyWith, SortedOf}
+use Rattle.allowed_events.specs.internal.Acting.{ActedBy, ActedByOne, SortedOf}
 use Rattle.allowed_events.specs.internal.Meeting.{solo, met, met_with}
 use Rattle.allowed_events.proofs.FromActions.{ByActions, alone, meets, by_actions, actions_allowed, solo-acts, met-acts}
 use Rattle.allowed_events.proofs.Listed.{in-those-first, those-in, in-met, met-in}
@@ -177,17 +175,7 @@ acted-there S Q found acting_actions es exactly same made e i =
       passes,
     )
 
--- ---- at the place of a choice, and below a place
-pub choice-ready : (S : State) (c : Choice) (found acting_actions : List LocalAction) (es sorted : List Event) → WellFormed S.residual → ((x : LocalAction) → In x found ↔ (Offered S x × (x.place ≡ c.place)))
-    → acting_actions ≡ found → ((e : Event) → In e es ↔ ActedByOne S acting_actions e) → SortedOf es sorted → ReadyWith S c sorted
-choice-ready S c found acting_actions es sorted w exactly same made s = record {
-  sound = λ e i. acted-allowed S (λ x. x.place ≡ c.place) found acting_actions es w exactly same made e ((s.same e).0 i);
-  complete = λ e a is.
-      (s.same e).1
-      (acted-all S (λ x. x.place ≡ c.place) found acting_actions es w exactly same made e a (λ x acts. sym acts ∙ ap (λ (d : Choice). d.place) is));
-  in_order = s.in_order;
-}
-
+-- ---- below a place
 pub below-ready : (S : State) (p : Place) (found acting_actions : List LocalAction) (es sorted : List Event) → WellFormed S.residual → ((x : LocalAction) → In x found ↔ (Offered S x × Under p x.place))
     → acting_actions ≡ found → ((e : Event) → In e es ↔ ActedByOne S acting_actions e) → SortedOf es sorted → ReadyBelow S p sorted
 below-ready S p found acting_actions es sorted w exactly same made s = record {
@@ -203,11 +191,4 @@ below-ready S p found acting_actions es sorted w exactly same made s = record {
         (acted-all S (λ x. Under p x.place) found acting_actions es w exactly same made e h.0 (λ x acts. subst (λ (a : Place). Under p a) acts h.1)),
   );
   in_order = s.in_order;
-}
-
--- below the root is everywhere
-pub below-root : (S : State) (es : List Event) → ReadyBelow S [] es → ReadyList S es
-below-root S es r = record {
-  exactly = λ e. (λ i. ((r.exactly e).0 i).0, λ a. (r.exactly e).1 (a, (acting e, refl)));
-  in_order = r.in_order;
 }

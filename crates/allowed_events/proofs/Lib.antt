@@ -3,6 +3,7 @@ mod ByChannel
 mod Entries
 mod FirstChosen
 mod FromActions
+mod LeastChosen
 mod Listed
 mod Partners
 mod Placed

@@ -202,7 +202,7 @@ sorting-stop listed left sorted list s el is =
     })
 
 -- nothing is left
-pub left-none : (left : List Event) (n : ℕ) → n ≡ length left → n ≡ 0 → left ≡ []
+pub left-none : {X : Type 0} (left : List X) (n : ℕ) → n ≡ length left → n ≡ 0 → left ≡ []
 left-none [] n is none = refl
 left-none (e ∷ left) n is none = absurd (omega arith)
 

@@ -1,5 +1,5 @@
 // The events in which actions act.
-ghost use Rattle.std.specs.Prelude.{◌≡◌, ◌++◌, ◌⊎◌, ◌↔◌, [], true, Some, None, IfOk, OnOk, MatchOption};
+ghost use Rattle.std.specs.Prelude.{◌≡◌, ◌++◌, ◌⊎◌, ◌↔◌, [], true, Some, None, IfOk, IfSome, OnOk, MatchOption};
 ghost use Rattle.syntax.specs.Lists.{In};
 ghost use Rattle.runs.specs.Moves.{Place};
 ghost use Rattle.runs.specs.declared.event.Event as any;
@@ -15,7 +15,7 @@ ghost use Rattle.channel_uses.specs.Table.{IsTableOf};
 ghost use Rattle.allowed_events.specs.internal.Acting.{ActedBy, ActedByOne};
 ghost use Rattle.allowed_events.specs.internal.Meeting as model;
 
-use crate::meet::{met, solo};
+use crate::meet::met;
 use channel_uses::ChannelUses;
 use local_actions::{ActionKind, LocalAction};
 use process_tree::Tree;
@@ -58,14 +58,44 @@ fn add_acted(
         OnOk result
         ((e : any.Event) → In e events.new ↔ (In e events.old ⊎ ActedBy (state_of tree.now store.now) one.now e)) }
 {
-    let alone = solo(alloc, &one.place, &one.action)?;
-    add(alone, events)?;
     match channel_of(&one.action) {
         Some(channel) => {
             let others = uses.actions_on(alloc, tree, store, channel)?;
             add_met(alloc, one, others.as_slice(), events)
         }
-        None => Ok(()),
+        None => add_alone(alloc, one, events),
+    }
+}
+
+/// Adds the event that the action makes alone, if it makes one.
+pub(crate) fn add_alone(
+    alloc: Global,
+    one: &LocalAction,
+    events: &mut Items<Event>,
+) -> Result<(), AllocError>
+    ensures { OnOk result (events.new ≡ events.old ++ those (model.solo one.now.place one.now.action) []) }
+{
+    match &one.action {
+        ActionKind::Assigns(variable, value, read) => {
+            let read = read.copy(alloc)?;
+            let event = Event::assignment(alloc, &one.place, *variable, *value, read)?;
+            events.push(event)
+        }
+        ActionKind::Tests(arm, read) => {
+            let read = read.copy(alloc)?;
+            let event = Event::test(alloc, &one.place, *arm, read)?;
+            events.push(event)
+        }
+        ActionKind::Turns => {
+            let event = Event::turn(alloc, &one.place)?;
+            events.push(event)
+        }
+        ActionKind::Sends(_, _, _)
+        | ActionKind::Receives(_, _)
+        | ActionKind::Syncs(_)
+        | ActionKind::Opens(_, _)
+        | ActionKind::Releases(_)
+        | ActionKind::Closes(_) => Ok(()),
     }
 }
 
@@ -95,11 +125,12 @@ pub(crate) fn add(made: Option<Event>, events: &mut Items<Event>) -> Result<(), 
     }
 }
 
-/// The channel on which the action looks for another, if it acts with one.
+/// The channel on which the action looks for another, if it acts with one; then it makes no event alone.
 pub(crate) fn channel_of(action: &ActionKind) -> Option<u32>
-    ensures { MatchOption result ((b a : Place) (y : any_action.ActionKind) → model.met b action.now a y ≡ None)
+    ensures looks { MatchOption result ((b a : Place) (y : any_action.ActionKind) → model.met b action.now a y ≡ None)
         (λ c. (b a : Place) (y : any_action.ActionKind) (e : any.Event) → model.met b action.now a y ≡ Some e →
         is_on c y ≡ true) }
+    ensures never_alone { IfSome result (λ _. (a : Place) → model.solo a action.now ≡ None) }
 {
     match action {
         ActionKind::Receives(channel, _) => Some(*channel),

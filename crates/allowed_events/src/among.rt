@@ -9,8 +9,8 @@ ghost use Rattle.local_actions.specs.Actions.{OffersExactly};
 ghost use Rattle.allowed_events.specs.internal.Acting.{ActedBy, ActedByOne};
 ghost use Rattle.allowed_events.specs.internal.Among.{HasPartners, IsPartner, MetFrom, partner_on};
 
-use crate::acting_events::{add, channel_of};
-use crate::meet::{met, solo};
+use crate::acting_events::{add, add_alone, channel_of};
+use crate::meet::met;
 use crate::ready::in_order;
 use last_events::UseTable;
 use local_actions::{ActionKind, LocalAction};
@@ -96,11 +96,9 @@ fn add_made(
     ensures { (S : State) → OffersExactly S actions.now →
         OnOk result ((e : any.Event) → In e events.new ↔ (In e events.old ⊎ ActedBy S one.now e)) }
 {
-    let alone = solo(alloc, &one.place, &one.action)?;
-    add(alone, events)?;
     match channel_of(&one.action) {
         Some(channel) => add_with_partners(alloc, partners, actions, channel, one, events),
-        None => Ok(()),
+        None => add_alone(alloc, one, events),
     }
 }
 

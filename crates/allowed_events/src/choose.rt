@@ -11,9 +11,8 @@ ghost use Rattle.channel_uses.specs.Table.{IsTableOf};
 ghost use Rattle.allowed_events.specs.internal.Acting.{ReadyWith};
 ghost use Rattle.allowed_events.specs.internal.Choosing.{HasNone, FirstWith};
 
-use crate::acting_events::acted_by;
+use crate::least::least_acted;
 use crate::order::has_choice;
-use crate::ready::in_order;
 use channel_uses::ChannelUses;
 use local_actions::actions_at;
 use process_tree::Tree;
@@ -43,9 +42,7 @@ pub fn event_with(
         ⊥) (λ event. Chosen (state_of tree.now store.now) choice.now event)) }
 {
     let acting = actions_at(alloc, tree, store, &choice.place)?;
-    let made = acted_by(alloc, uses, tree, store, acting.as_slice())?;
-    let events = in_order(alloc, made)?;
-    Ok(first_with(events, choice))
+    least_acted(alloc, uses, tree, store, acting, choice.arm)
 }
 
 /// The first of the events that has the choice.

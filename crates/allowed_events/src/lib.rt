@@ -4,6 +4,7 @@
 mod acting_events;
 mod among;
 mod choose;
+mod least;
 mod meet;
 mod order;
 mod ready;

@@ -1,70 +1,56 @@
 // The events that actions make.
 ghost use Rattle.std.specs.Prelude.{◌≡◌, IfOk};
 ghost use Rattle.allowed_events.specs.internal.Meeting as model;
-ghost use Rattle.local_actions.specs.declared.action.ActionKind.TheVariants as action;
 
 use address::{Address, compare};
-use local_actions::ActionKind;
-use runs::Event;
+use local_actions::{ActionKind, LocalAction};
+use runs::{Event, Kind};
 use std::alloc::{AllocError, Global};
 use system::Variables;
-use value::Value;
 
-/// The event that an action makes alone, if it makes one.
-pub(crate) fn solo(
-    alloc: Global,
-    place: &Address,
-    action: &ActionKind,
-) -> Result<Option<Event>, AllocError>
-    ensures { IfOk result (λ made. made ≡ model.solo place.now action.now) }
+/// The event that an action makes alone, if it makes one, with the place and the variables of the action.
+pub(crate) fn alone(alloc: Global, one: LocalAction) -> Option<Event>
+    ensures { result ≡ model.solo one.place one.action }
 {
+    let LocalAction { place, action } = one;
     match action {
-        ActionKind::Assigns(variable, value, read) => assigned(
-            alloc, place, *variable, *value, read,
-        ),
-        ActionKind::Tests(arm, read) => tested(alloc, place, *arm, read),
-        ActionKind::Turns => turned(alloc, place),
+        ActionKind::Assigns(variable, value, read) => Some(Event {
+            kind: Kind::Assign,
+            first: place,
+            second: None,
+            arm: None,
+            channel: None,
+            value: Some(value),
+            written: Some(variable),
+            read,
+        }),
+        ActionKind::Tests(arm, read) => Some(Event {
+            kind: Kind::Test,
+            first: place,
+            second: None,
+            arm,
+            channel: None,
+            value: None,
+            written: None,
+            read,
+        }),
+        ActionKind::Turns => Some(Event {
+            kind: Kind::Turn,
+            first: place,
+            second: None,
+            arm: None,
+            channel: None,
+            value: None,
+            written: None,
+            read: Variables::none(alloc),
+        }),
         ActionKind::Sends(_, _, _)
         | ActionKind::Receives(_, _)
         | ActionKind::Syncs(_)
         | ActionKind::Opens(_, _)
         | ActionKind::Releases(_)
-        | ActionKind::Closes(_) => Ok(None),
+        | ActionKind::Closes(_) => None,
     }
-}
-
-/// The event of an assignment.
-fn assigned(
-    alloc: Global,
-    place: &Address,
-    variable: u32,
-    value: Value,
-    read: &Variables,
-) -> Result<Option<Event>, AllocError>
-    ensures { IfOk result (λ made. made ≡ model.solo place.now (action.Assigns variable value read.now)) }
-{
-    let read = read.copy(alloc)?;
-    Ok(Some(Event::assignment(alloc, place, variable, value, read)?))
-}
-
-/// The event of a test.
-fn tested(
-    alloc: Global,
-    place: &Address,
-    arm: Option<u32>,
-    read: &Variables,
-) -> Result<Option<Event>, AllocError>
-    ensures { IfOk result (λ made. made ≡ model.solo place.now (action.Tests arm read.now)) }
-{
-    let read = read.copy(alloc)?;
-    Ok(Some(Event::test(alloc, place, arm, read)?))
-}
-
-/// The event of a turn.
-fn turned(alloc: Global, place: &Address) -> Result<Option<Event>, AllocError>
-    ensures { IfOk result (λ made. made ≡ model.solo place.now action.Turns) }
-{
-    Ok(Some(Event::turn(alloc, place)?))
 }
 
 /// The event in which an action acts with the other as its partner, if they make one.

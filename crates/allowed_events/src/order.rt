@@ -32,7 +32,7 @@ fn is_sooner(one: &Event, two: &Event) -> bool
 }
 
 /// The place of the action that does not act, the root's where one action alone takes part.
-fn other_place(event: &Event) -> &[Entry]
+pub(crate) fn other_place(event: &Event) -> &[Entry]
     ensures { result.now ≡ other event.now }
 {
     match (event.kind, &event.second) {
@@ -43,7 +43,7 @@ fn other_place(event: &Event) -> &[Entry]
 }
 
 /// Where the first place stands to the second.
-fn order_of(one: &[Entry], two: &[Entry]) -> Ordering
+pub(crate) fn order_of(one: &[Entry], two: &[Entry]) -> Ordering
     ensures { result ≡ order_of one.now two.now }
 {
     one.cmp(two)

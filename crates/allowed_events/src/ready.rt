@@ -18,10 +18,11 @@ ghost use Rattle.allowed_events.specs.internal.Acting.{SortedOf};
 ghost use Rattle.allowed_events.specs.internal.Sorting.{inserted};
 
 use crate::acting_events::acted_by;
+use crate::among::events_among;
 use crate::order::{are_in_order, latest_first, sooner_count};
 use address::Entry;
 use channel_uses::ChannelUses;
-use local_actions::actions_below;
+use local_actions::{actions_below, actions_of};
 use process_tree::Tree;
 use runs::Event;
 use std::alloc::{AllocError, Global};
@@ -31,6 +32,8 @@ use syntax::Items;
 /// Exactly the events that are allowed in the state of the tree and the store: in the order of their acting addresses,
 /// then of their arms, then of their other addresses. The tree is to be tidy and to stem from the command whose uses of
 /// channels these are. It is an error if there is no memory.
+///
+/// All actions are listed first, so that partners are found among them.
 pub fn ready_events(
     alloc: Global,
     uses: &ChannelUses,
@@ -41,7 +44,9 @@ pub fn ready_events(
         Tidy (tree_view tree.now) →
         IfOk result (λ events. ReadyList (state_of tree.now store.now) events) }
 {
-    ready_below(alloc, uses, tree, store, &[])
+    let _uses = uses;
+    let actions = actions_of(alloc, tree, store)?;
+    events_among(alloc, actions.as_slice())
 }
 
 /// Those of them that act at the place or below it. It goes down along the place, and for each action that is found

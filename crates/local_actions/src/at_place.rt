@@ -44,8 +44,8 @@ pub fn actions_at(
         IfOk result (λ actions. (x : any.LocalAction) →
         In x actions ↔ (Offered (state_of tree.now store.now) x × (x.place ≡ place.now))) }
 {
-    let actions = actions_below(alloc, tree, store, place.entries())?;
-    Ok(those_at(actions, place))
+    let near = actions_near(alloc, tree, store, place.entries())?;
+    Ok(those_at(near, place))
 }
 
 /// Exactly the actions that the tree offers at this place and below it over the values of the store, where the tree is
@@ -61,9 +61,24 @@ pub fn actions_below(
         IfOk result (λ actions. (x : any.LocalAction) →
         In x actions ↔ (Offered (state_of tree.now store.now) x × Under place.now x.place)) }
 {
-    let mut cursor = Cursor::with_room(alloc, place.len())?;
+    let near = actions_near(alloc, tree, store, place)?;
+    Ok(those_below(near, place))
+}
+
+/// The same, and perhaps some beside the place.
+fn actions_near(
+    alloc: Global,
+    tree: &Tree,
+    store: &Store,
+    place: &[Entry],
+) -> Result<Items<LocalAction>, AllocError>
+    ensures { Tidy (tree_view tree.now) →
+        IfOk result (λ near. (x : any.LocalAction) →
+        In x (under place.now near) ↔ (Offered (state_of tree.now store.now) x × Under place.now x.place)) }
+{
+    let mut cursor = Cursor::along(alloc, place)?;
     list_down(alloc, tree.root(), place, store.as_slice(), &mut cursor)?;
-    Ok(those_below(cursor.into_found(), place))
+    Ok(cursor.into_found())
 }
 
 /// Those of the actions that are at the place.
@@ -82,10 +97,13 @@ fn is_at(action: &LocalAction, place: &Address) -> bool
     place.equals(&action.place)
 }
 
-/// Those of the actions that are at the place or below it.
+/// Those of the actions that are at the place or below it. At the root it is all of them.
 fn those_below(actions: Items<LocalAction>, place: &[Entry]) -> Items<LocalAction>
     ensures { result ≡ under place.now actions }
 {
+    if place.is_empty() {
+        return actions;
+    }
     let mut actions = actions.into_vec();
     actions.retain(|action| is_below(action, place));
     Items::from_vec(actions)

@@ -179,12 +179,17 @@ offered-below s t p q w v a found rs tidy start same st qp fv is x =
     )
 
 -- of those the ones at the place itself
-pub offered-at : (S : State) (a b : Place) (below rs : List LocalAction) → ((x : LocalAction) → In x below ↔ (Offered S x × Under b x.place)) → b ≡ a → rs ≡ at a below → (x : LocalAction)
+pub offered-at : (S : State) (a b : Place) (near rs : List LocalAction) → ((x : LocalAction) → In x (under b near) ↔ (Offered S x × Under b x.place)) → b ≡ a → rs ≡ at a near → (x : LocalAction)
     → In x rs ↔ (Offered S x × (x.place ≡ a))
-offered-at S a b below rs exactly same is x =
-    let there = in-at a x below in (
-      λ i. let both = there.0 (subst (λ (l : List LocalAction). In x l) is i) in (((exactly x).0 both.0).0, both.1),
+offered-at S a b near rs exactly same is x =
+    let there = in-at a x near in (
+      λ i.
+          let both = there.0 (subst (λ (l : List LocalAction). In x l) is i) in
+          (((exactly x).0 ((in-under b x near).1 (both.0, within both.1))).0, both.1),
       λ h.
           subst (λ (l : List LocalAction). In x l) (sym is)
-          (there.1 ((exactly x).1 (h.0, subst (λ (c : Place). Under b c) (same ∙ sym h.1) (under-itself b)), h.1)),
+          (there.1 (((in-under b x near).0 ((exactly x).1 (h.0, within h.1))).0, h.1)),
     )
+  where
+    within : x.place ≡ a → Under b x.place
+    within at_it = subst (λ (c : Place). Under b c) (same ∙ sym at_it) (under-itself b)

@@ -2,6 +2,7 @@
 use Rattle.std.proofs.Common.{◌≡◌, ℕ, zero, suc, ◌+◌, ◌*◌, ◌<◌, List, [], ◌∷◌, ◌++◌, length, Bool, true, false, ◌&&◌, cond, Option, Some, None, refl, sym, ap, ap₂, ◌∙◌, subst, eqb-true, eq-eqb, ne_eqb, arith, ◌↔◌, inl, inr}
 use Rattle.std.proofs.lemmas.Bool.{and_parts, and_from}
 use Rattle.std.specs.List.{filter}
+use Rattle.std.specs.Prelude.{◌==◌}
 use Rattle.std.proofs.lemmas.List.{append_assoc, append-nil}
 use Rattle.address.specs.declared.Entry.{Entry}
 use Rattle.address.specs.declared.Entry.TheVariants.{Ordered, Branch}
@@ -306,3 +307,12 @@ in-under a x rs = (found-under a x rs, λ h. kept-under a x rs h.0 h.1)
 pub under-filter : (a : Place) (rs : List LocalAction) → filter (λ (r : LocalAction). is_under a r.place) rs ≡ under a rs
 under-filter a [] = refl
 under-filter a (r ∷ rs) = ap (λ l. cond (is_under a r.place) (r ∷ l) l) (under-filter a rs)
+
+-- below the root are all
+pub under-root : (rs : List LocalAction) → under [] rs ≡ rs
+under-root [] = refl
+under-root (r ∷ rs) = ap (λ l. r ∷ l) (under-root rs)
+
+pub under-root-at : (a : Place) (rs : List LocalAction) (b : Bool) → b ≡ (length a == 0) → b ≡ true → rs ≡ under a rs
+under-root-at [] rs b told is = sym (under-root rs)
+under-root-at (x ∷ a) rs b told is = let none : length (x ∷ a) ≡ 0 = eqb-true (length (x ∷ a)) 0 (sym told ∙ is) in absurd (omega arith)

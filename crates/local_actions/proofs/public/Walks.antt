@@ -1,5 +1,5 @@
 -- A walk: one down, what is listed there, and up again; and what was received on the way.
-use Rattle.std.proofs.Common.{◌≡◌, List, [], ◌∷◌, ◌++◌, false, Option, Some, None, MatchOption, refl, sym, ap, ap₂, ◌∙◌}
+use Rattle.std.proofs.Common.{◌≡◌, ℕ, zero, suc, ◌-◌, ◌≤◌, List, [], ◌∷◌, ◌++◌, length, take, false, Option, Some, None, MatchOption, refl, sym, ap, ap₂, ◌∙◌, arith}
 use Rattle.std.proofs.lemmas.List.{append-nil, append_assoc}
 use Rattle.address.specs.declared.Entry.{Entry}
 use Rattle.system.specs.Expression.{Expression, Decision, by_guards, put_decision}
@@ -56,10 +56,16 @@ pub received_last : (env : Received) (vs : List Arrived) (a : Arrived) → recei
 received_last env [] a = refl
 received_last env (b ∷ vs) a = received_last ((b.channel, b.value) ∷ env) vs a
 
--- what is left behind the last
-pub gone : {X : Type 0} (xs ys : List X) (o : Option X) → MatchOption o ((xs ≡ []) × (ys ≡ [])) (λ last. xs ≡ ys ++ last ∷ []) → ys ≡ without_last xs
-gone xs ys None h = h.1 ∙ sym (ap without_last h.0)
-gone xs ys (Some x) h = sym (ap without_last h ∙ last-gone ys x)
+-- the first without the last of them
+pub take-less : {X : Type 0} (n m : ℕ) (xs : List X) → m ≡ n - 1 → n ≤ length xs → take m xs ≡ without_last (take n xs)
+take-less zero m [] is within = let none : m ≡ 0 = omega arith in ap (λ k. take k []) none
+take-less zero m (x ∷ xs) is within = let none : m ≡ 0 = omega arith in ap (λ k. take k (x ∷ xs)) none
+take-less (suc n) m [] is within = absurd (omega arith)
+take-less (suc zero) m (x ∷ xs) is within = let none : m ≡ 0 = omega arith in ap (λ k. take k (x ∷ xs)) none
+take-less (suc (suc n)) m (x ∷ []) is within = absurd (omega arith)
+take-less (suc (suc n)) m (x ∷ y ∷ xs) is within =
+    let next : m ≡ suc n = omega arith in
+    ap (λ k. take k (x ∷ y ∷ xs)) next ∙ ap (λ l. x ∷ l) (take-less (suc n) n (y ∷ xs) (omega arith) (omega arith))
 
 -- of what was received
 pub gone-received : (vs us : List Arrived) (o : Option Arrived) → MatchOption o ((vs ≡ []) × (us ≡ [])) (λ last. vs ≡ us ++ last ∷ []) → received_onto [] us ≡ outside (received_onto [] vs)

@@ -1,9 +1,11 @@
--- All events act below the root.
-use Rattle.std.proofs.lemmas.Result.{IfOk-weaker}
+-- The events that the offered actions make among themselves.
+use Rattle.std.proofs.Common.{List, sym, subst}
+use Rattle.local_actions.specs.Actions.{OffersExactly}
 use Rattle.local_actions.specs.View.{state_of}
-use Rattle.allowed_events.proofs.ActedActions.{below-root}
+use Rattle.local_actions.specs.declared.action.LocalAction.{LocalAction}
 use Rattle.allowed_events.proofs.ready.ready_events.Goals as goal
 
 pub returns : goal.returns
 returns c = λ code table stems tidy.
-    IfOk-weaker c.ready_below.result _ _ (λ es r. below-root (state_of c.args.tree.now c.args.store.now) es r) (c.ready_below.ensures code table stems tidy)
+    let S = state_of c.args.tree.now c.args.store.now in
+    c.events_among.ensures S (subst (λ (actions : List LocalAction). OffersExactly S actions) (sym c.as_slice.ensures) (c.in_ok-actions.ensures.exactly tidy))

@@ -4,4 +4,4 @@ use Rattle.local_actions.proofs.at_place.actions_at.Goals as goal
 
 pub returns : goal.returns
 returns c = λ t.
-    offered-at (state_of c.args.tree.now c.args.store.now) c.args.place.now c.entries.result.now c.in_ok-actions.actions c.those_at.result (c.in_ok-actions.ensures t) c.entries.ensures c.those_at.ensures
+    offered-at (state_of c.args.tree.now c.args.store.now) c.args.place.now c.entries.result.now c.in_ok-near.near c.those_at.result (c.in_ok-near.ensures t) c.entries.ensures c.those_at.ensures

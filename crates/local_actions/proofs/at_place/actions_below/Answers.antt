@@ -1,8 +1,11 @@
-use Rattle.process_tree.specs.View.{proc_view, tree_view}
-use Rattle.local_actions.proofs.public.GoingDown.{offered-below}
+use Rattle.std.proofs.Common.{List, sym, subst}
+use Rattle.std.specs.Prelude.{◌↔◌}
+use Rattle.syntax.specs.Lists.{In}
+use Rattle.local_actions.specs.Actions.{Offered, Under}
+use Rattle.local_actions.specs.View.{state_of}
+use Rattle.local_actions.specs.declared.action.LocalAction.{LocalAction}
 use Rattle.local_actions.proofs.at_place.actions_below.Goals as goal
 
 pub returns : goal.returns
-returns c = λ t.
-    offered-below c.args.store.now c.as_slice.result.now (tree_view c.args.tree.now) (proc_view c.root.result.now) c.in_ok-cursor.cursor c.list_down.new.cursor c.args.place.now
-    c.into_found.result c.those_below.result t c.in_ok-cursor.ensures c.in_ok-list_down.ensures c.as_slice.ensures c.root.ensures c.into_found.ensures c.those_below.ensures
+returns c = λ t x.
+    subst (λ (l : List LocalAction). In x l ↔ (Offered (state_of c.args.tree.now c.args.store.now) x × Under c.args.place.now x.place)) (sym c.those_below.ensures) (c.in_ok-near.ensures t x)
