@@ -1,5 +1,5 @@
 //! Pieces of answers. Each function adds its text behind what is there; without memory a part of it may be there.
-ghost use Rattle.std.specs.Prelude.{◌≡◌, ◌∷◌, ◌++◌, [], OnOk};
+ghost use Rattle.std.specs.Prelude.{◌≡◌, ◌<◌, ◌+◌, ◌/◌, ◌%◌, ◌∷◌, ◌++◌, [], OnOk};
 ghost use Rattle.std.specs.List.{flat_map};
 ghost use Rattle.std.specs.Fmt.{decimal};
 ghost use Rattle.address.specs.Text.{entry_text, text_of};
@@ -40,15 +40,45 @@ pub(crate) fn add_word(out: &mut Vec<u8>, word: &[u8]) -> Result<(), AllocError>
     Ok(())
 }
 
-/// Adds a number in decimal.
-#[tactic(auto, using(std::proofs::lemmas::Fmt::decimal_digit, std::proofs::lemmas::Fmt::decimal_step))]
+/// Adds a number in decimal. Most numbers of places have one digit.
 fn add_decimal(out: &mut Vec<u8>, number: u64) -> Result<(), AllocError>
     ensures { OnOk result (out.new.items ≡ out.old.items ++ decimal number) }
 {
     if number < 10 {
-        return add_byte(out, b'0' + number as u8);
+        return add_digit(out, number);
     }
-    add_decimal(out, number / 10)?;
+    add_digits(out, number)
+}
+
+/// Adds the digit of a number of one.
+#[tactic(auto, using(std::proofs::lemmas::Fmt::decimal_digit))]
+fn add_digit(out: &mut Vec<u8>, number: u64) -> Result<(), AllocError>
+    requires { number < 10 }
+    ensures { OnOk result (out.new.items ≡ out.old.items ++ decimal number) }
+{
+    add_byte(out, b'0' + number as u8)
+}
+
+/// Adds the digits of a number, two at a time.
+fn add_digits(out: &mut Vec<u8>, number: u64) -> Result<(), AllocError>
+    ensures { OnOk result (out.new.items ≡ out.old.items ++ decimal number) }
+{
+    if number < 10 {
+        return add_digit(out, number);
+    }
+    if number < 100 {
+        return add_pair(out, number);
+    }
+    add_digits(out, number / 100)?;
+    add_pair(out, number % 100)
+}
+
+/// Adds two digits.
+fn add_pair(out: &mut Vec<u8>, number: u64) -> Result<(), AllocError>
+    requires { number < 100 }
+    ensures { OnOk result (out.new.items ≡ out.old.items ++ (48 + number / 10) ∷ (48 + number % 10) ∷ []) }
+{
+    add_byte(out, b'0' + (number / 10) as u8)?;
     add_byte(out, b'0' + (number % 10) as u8)
 }
 

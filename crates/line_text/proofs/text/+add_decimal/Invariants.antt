@@ -1,4 +1,0 @@
-use Rattle.line_text.proofs.text.+add_decimal.Given as goal
-
-abbrev pub decreases-add_decimal : goal.decreases-add_decimal
-decreases-add_decimal l = l.number
