@@ -2,7 +2,7 @@
 //! sequence, which are apart in a parallel, one total order of all, and their text.
 #![tactic(auto)]
 
-ghost use Rattle.std.specs.Prelude.{◌≡◌, ◌↔◌, ◌++◌, ◌∷◌, [], IsTrue, IfOk, IfErr};
+ghost use Rattle.std.specs.Prelude.{◌≡◌, ◌≤◌, ◌↔◌, ◌++◌, ◌∷◌, [], length, IsTrue, IfOk, IfErr};
 
 mod laws;
 mod order;
@@ -31,13 +31,16 @@ impl Default for Entry {
     }
 }
 
+/// How many entries stand in an address itself.
+const INLINE: usize = 5;
+
 /// A place in a tree of nested sequences and parallels, which contracts see as the list of its
 /// entries from the root. The empty list is the root.
 ///
 /// One of up to 5 entries takes no memory of its own.
 #[derive(Debug, Drop)]
 pub struct Address {
-    entries: SmallVec<Entry, 5>,
+    entries: SmallVec<Entry, INLINE>,
 }
 
 impl Model for Address {
@@ -54,6 +57,11 @@ impl Address {
     pub fn new(alloc: Global, entries: &[Entry]) -> Result<Address, AllocError>
         ensures { IfOk result (λ made. made ≡ entries.now) }
     {
+        if entries.len() <= INLINE {
+            return Ok(Address {
+                entries: inlined(alloc, entries),
+            });
+        }
         let entries = SmallVec::from_slice(alloc, entries)?;
         Ok(Address { entries })
     }
@@ -62,6 +70,11 @@ impl Address {
     pub fn below(alloc: Global, entries: &[Entry], last: Entry) -> Result<Address, AllocError>
         ensures { IfOk result (λ made. made ≡ entries.now ++ last ∷ []) }
     {
+        if entries.len() < INLINE {
+            let mut made = inlined(alloc, entries);
+            made.push_reserved(last);
+            return Ok(Address { entries: made });
+        }
         let mut made = SmallVec::with_capacity(alloc, entries.len().saturating_add(1))?;
         made.extend_from_slice(entries)?;
         made.push(last)?;
@@ -111,6 +124,19 @@ impl Address {
     {
         are_same(self.entries(), other.entries())
     }
+}
+
+/// A few entries. One by one, since most places have three or four.
+fn inlined(alloc: Global, entries: &[Entry]) -> SmallVec<Entry, INLINE>
+    requires { length entries.now ≤ 5 }
+    ensures items { result.items ≡ entries.now }
+    ensures capacity { result.capacity ≡ 5 }
+{
+    let mut made = SmallVec::new(alloc);
+    for entry in entries {
+        made.push_reserved(*entry);
+    }
+    made
 }
 
 /// Whether both are the same entries. Places that differ do so near their ends mostly, so it looks from there on.

@@ -1,11 +1,11 @@
 // The text of an address, and what reads it.
-ghost use Rattle.std.specs.Prelude.{Some, IfOk, MatchOption, length, ◌≡◌, ◌<◌, ◌^◌};
+ghost use Rattle.std.specs.Prelude.{Some, IfOk, OnOk, MatchOption, length, ◌≡◌, ◌+◌, ◌<◌, ◌≤◌, ◌^◌, ◌∷◌, ◌++◌, []};
 ghost use Rattle.std.specs.Option.{SomeIff};
 ghost use Rattle.address.specs.Text.{entry_text, text_of};
 ghost use Rattle.address.specs.Reading.{HasNoText, IsTextOf};
 ghost use Rattle.address.specs.internal.Entries.{IsDigitsEnd, ReadsEntry, ReadsNumber, BeginsNoEntry, ReadsNoNumber};
 
-use crate::{Address, Entry};
+use crate::{Address, Entry, INLINE};
 use smallvec::SmallVec;
 use std::alloc::{AllocError, Global};
 use std::fmt;
@@ -32,22 +32,43 @@ impl fmt::Display for Address {
     }
 }
 
+/// The most bytes of a text for whose entries no room is asked before they are read.
+const SHORT: usize = 64;
+
 /// The address with this text, or `None` if no address has it: one with a leading zero, with a
 /// number of 2^32 and more, or with no number. It is an error if there is no memory for it.
 pub fn read(alloc: Global, text: &[u8]) -> Result<Option<Address>, AllocError>
     ensures { IfOk result (λ r. MatchOption r (HasNoText text.now) (λ a. IsTextOf a text.now)) }
 {
-    // Each entry has two bytes at least.
-    let mut entries = SmallVec::with_capacity(alloc, text.len() / 2)?;
+    // Each entry has two bytes at least. A short text has few, which mostly stand in the address itself.
+    let room = if text.len() > SHORT {
+        text.len() / 2
+    } else {
+        0
+    };
+    let mut entries = SmallVec::with_capacity(alloc, room)?;
     let mut rest = text;
     while !rest.is_empty() {
         let Some((entry, after)) = read_entry(rest) else {
             return Ok(None);
         };
-        entries.push(entry)?;
+        add_entry(&mut entries, entry)?;
         rest = after;
     }
     Ok(Some(Address { entries }))
+}
+
+/// Adds an entry. Nearly always there is room for it.
+#[inline]
+fn add_entry(entries: &mut SmallVec<Entry, INLINE>, entry: Entry) -> Result<(), AllocError>
+    ensures { OnOk result (entries.new.items ≡ entries.old.items ++ entry ∷ []) }
+{
+    if entries.len() < entries.capacity() {
+        entries.push_reserved(entry);
+        return Ok(());
+    }
+    entries.push(entry)?;
+    Ok(())
 }
 
 /// The entry at the start of the text, and what follows it; `None` where the text does not begin with `.` or `/` and a
@@ -81,7 +102,21 @@ fn count_digits(text: &[u8]) -> usize
 fn read_number(digits: &[u8]) -> Option<u32>
     ensures { MatchOption result (ReadsNoNumber digits.now) (λ n. ReadsNumber digits.now n) }
 {
+    // Most numbers of a place have one digit.
+    if let [digit @ b'0'..=b'9'] = digits {
+        return Some(worth(*digit));
+    }
     narrow(decimal::read_number(digits)?)
+}
+
+// What a digit is worth.
+fn worth(digit: u8) -> u32
+    requires low { 48 ≤ digit }
+    requires high { digit < 58 }
+    ensures digit { digit ≡ 48 + result }
+    ensures one { result < 10 }
+{
+    u32::from(digit - b'0')
 }
 
 // The number, if it has 32 bits.

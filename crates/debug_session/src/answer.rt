@@ -1,4 +1,4 @@
-ghost use Rattle.std.specs.Prelude.{◌≡◌, ◌≢◌, ◌≤◌, [], Err, MatchBool, MatchResult, IfOk, OnErr};
+ghost use Rattle.std.specs.Prelude.{◌≡◌, ◌≢◌, ◌≤◌, [], Err, MatchBool, MatchResult, OnOk, OnErr};
 ghost use Rattle.debug_session.specs.Counting.{after_reading, after_writing};
 ghost use Rattle.debug_session.specs.Lines.{SaysSession};
 ghost use Rattle.debug_session.specs.declared.line.Line.{Line};
@@ -10,11 +10,16 @@ ghost use Rattle.debug_session.specs.Transcript.{SaidAnswered, LineAnswered, End
 
 use crate::input::next_line;
 use crate::pending::{hold, put_out};
+use crate::reply::add_answer;
 use crate::script_state::ScriptState;
-use crate::{Fault, Line, read_command, write_answer, write_session};
+use crate::{Fault, Line, read_command};
 use devices::{CountedLines, CountedWrite};
+use line_text::add_numbered;
 use locked_execution::Command;
 use std::alloc::{AllocError, Global};
+
+/// The most bytes of memory that an answer leaves to the next.
+const MOST_KEPT: usize = 65_536;
 
 /// Answers each line of the reader. It ends where the reader is at its end, or at the first fault: then the answers of
 /// the lines before are out, and where writing failed a beginning of the answers. Before the reader asks its device for
@@ -71,9 +76,10 @@ fn hold_answers<R: CountedLines, W: CountedWrite>(
     ensures read_failures { R.failed reader.new ≡ after_reading result (R.failed reader.old) }
     ensures write_failures { W.failed writer.new ≡ after_writing result (W.failed writer.old) }
 {
+    let mut answer = Vec::new(alloc);
     for number in 1..u64::MAX {
         let is_complete = next_line(reader, writer, pending, line)?;
-        let answer = answer_line(alloc, script_state, line.as_slice(), number)?;
+        answer_line(alloc, script_state, line.as_slice(), number, &mut answer)?;
         hold(writer, pending, answer.as_slice())?;
         if !is_complete {
             return Ok(());
@@ -83,21 +89,35 @@ fn hold_answers<R: CountedLines, W: CountedWrite>(
     Err(Fault::Memory)
 }
 
-/// What is answered to one line, without its end.
+/// What is answered to one line, without its end, in place of what was there.
 fn answer_line(
     alloc: Global,
     script_state: &mut ScriptState<'_>,
     line: &[u8],
     number: u64,
-) -> Result<Vec<u8>, Fault>
+    answer: &mut Vec<u8>,
+) -> Result<(), Fault>
     ensures checked { script_state.new.desk.machine.checked ≡ script_state.old.desk.machine.checked }
     ensures answered { MatchResult result
-        (λ answer.
-        LineAnswered script_state.old.desk.machine.checked script_state.old line.now answer.items script_state.new)
+        (λ _.
+        LineAnswered script_state.old.desk.machine.checked script_state.old line.now answer.new.items script_state.new)
         (λ fault. LineStops script_state.old.desk.machine.checked line.now number fault) }
 {
     let said = read_command(alloc, script_state.checked(), line, number)?;
-    Ok(answer_to(alloc, script_state, &said)?)
+    make_empty(alloc, answer);
+    answer_to(alloc, script_state, &said, answer)?;
+    Ok(())
+}
+
+/// Empties the answer. Its memory is kept for the next one, unless it was a long one.
+fn make_empty(alloc: Global, answer: &mut Vec<u8>)
+    ensures { answer.new.items ≡ [] }
+{
+    if answer.capacity() > MOST_KEPT {
+        *answer = Vec::new(alloc);
+    } else {
+        answer.clear();
+    }
 }
 
 /// What is answered to a line, once the desk has performed its command.
@@ -105,36 +125,40 @@ fn answer_to(
     alloc: Global,
     script_state: &mut ScriptState<'_>,
     said: &Line,
-) -> Result<Vec<u8>, AllocError>
-    requires { SaysSession said.now }
+    answer: &mut Vec<u8>,
+) -> Result<(), AllocError>
+    requires session { SaysSession said.now }
+    requires empty { answer.old.items ≡ [] }
     ensures checked { script_state.new.desk.machine.checked ≡ script_state.old.desk.machine.checked }
-    ensures answered { IfOk result (λ answer.
-        SaidAnswered script_state.old.desk.machine.checked script_state.old said.now answer.items script_state.new) }
+    ensures answered { OnOk result
+        (SaidAnswered script_state.old.desk.machine.checked script_state.old said.now answer.new.items
+        script_state.new) }
     ensures memory { OnErr result (said.now ≢ Line.Empty) }
 {
     match said {
-        Line::Asked(command) => answer_command(alloc, script_state, command),
+        Line::Asked(command) => answer_command(script_state, command, answer),
         Line::Session(session) => {
             script_state.turn_to(*session);
-            write_session(alloc, *session)
+            add_numbered(answer, b"session", u64::from(*session))
         }
-        Line::View => script_state.view(alloc),
-        Line::Trace => script_state.trace(alloc),
-        Line::Empty => Ok(Vec::new(alloc)),
+        Line::View => script_state.view(alloc, answer),
+        Line::Trace => script_state.trace(alloc, answer),
+        Line::Empty => Ok(()),
     }
 }
 
 /// What is answered to a command, once the desk has performed it.
 fn answer_command(
-    alloc: Global,
     script_state: &mut ScriptState<'_>,
     command: &Command,
-) -> Result<Vec<u8>, AllocError>
+    answer: &mut Vec<u8>,
+) -> Result<(), AllocError>
+    requires { answer.old.items ≡ [] }
     ensures checked { script_state.new.desk.machine.checked ≡ script_state.old.desk.machine.checked }
-    ensures answered { IfOk result (λ answer.
-        SaidAnswered script_state.old.desk.machine.checked script_state.old (Line.Asked command.now) answer.items
+    ensures answered { OnOk result
+        (SaidAnswered script_state.old.desk.machine.checked script_state.old (Line.Asked command.now) answer.new.items
         script_state.new) }
 {
     let reply = script_state.ask(command);
-    write_answer(alloc, script_state.checked(), command, &reply)
+    add_answer(answer, script_state.checked().system(), command, &reply)
 }

@@ -63,7 +63,7 @@ pub fn write_session(alloc: Global, session: u32) -> Result<Vec<u8>, AllocError>
 }
 
 /// Adds the answer to the command behind what is there.
-fn add_answer(
+pub(crate) fn add_answer(
     out: &mut Vec<u8>,
     system: &System,
     command: &Command,

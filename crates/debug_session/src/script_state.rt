@@ -1,4 +1,4 @@
-ghost use Rattle.std.specs.Prelude.{◌≡◌, ◌<◌, IfOk};
+ghost use Rattle.std.specs.Prelude.{◌≡◌, ◌<◌, OnOk};
 ghost use Rattle.runs.specs.Live.{events};
 ghost use Rattle.source_view.specs.View.{IsView};
 ghost use Rattle.trace_file.specs.TraceText.{IsTrace};
@@ -73,19 +73,21 @@ impl<'a> ScriptState<'a> {
         self.session = session;
     }
 
-    /// The view that the session has of the source.
-    pub(crate) fn view(&self, alloc: Global) -> Result<Vec<u8>, AllocError>
-        ensures { IfOk result (λ bytes.
-            IsView self.now.desk.machine (breaks_of self.now.desk self.now.session) self.now.source bytes.items) }
+    /// Puts the view that the session has of the source in place of what `bytes` has.
+    pub(crate) fn view(&self, alloc: Global, bytes: &mut Vec<u8>) -> Result<(), AllocError>
+        ensures { OnOk result
+            (IsView self.now.desk.machine (breaks_of self.now.desk self.now.session) self.now.source bytes.new.items) }
     {
         let breaks = self.desk.breaks(self.session);
-        view(alloc, self.desk.machine(), breaks, self.source)
+        *bytes = view(alloc, self.desk.machine(), breaks, self.source)?;
+        Ok(())
     }
 
-    /// The trace of the live events.
-    pub(crate) fn trace(&self, alloc: Global) -> Result<Vec<u8>, AllocError>
-        ensures { IfOk result (λ bytes. IsTrace (events self.now.desk.machine.live) bytes.items) }
+    /// Puts the trace of the live events in place of what `bytes` has.
+    pub(crate) fn trace(&self, alloc: Global, bytes: &mut Vec<u8>) -> Result<(), AllocError>
+        ensures { OnOk result (IsTrace (events self.now.desk.machine.live) bytes.new.items) }
     {
-        write_trace(alloc, self.desk.machine())
+        *bytes = write_trace(alloc, self.desk.machine())?;
+        Ok(())
     }
 }

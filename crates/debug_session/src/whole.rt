@@ -14,6 +14,7 @@ use devices::{CountedLines, CountedWrite};
 use locked_execution::Machine;
 use sharing_check::Checked;
 use std::alloc::Global;
+use std::mem;
 
 /// The system that the source and the stimulus describe, or the first fault of the first pass that refuses them: the
 /// source is cut, parsed and typed, then the stimulus is read, then the system is made, and then the rule on sharing is
@@ -49,11 +50,21 @@ pub fn debug<R: CountedLines, W: CountedWrite>(
     ensures write_failures { W.failed writer.new ≡ after_writing result (W.failed writer.old) }
 {
     let mut last_line = Vec::new(alloc);
-    debug_keeping(alloc, reader, writer, source, stimulus, &mut last_line)
+    let mut left = None;
+    debug_leaving(
+        alloc,
+        reader,
+        writer,
+        source,
+        stimulus,
+        &mut last_line,
+        &mut left,
+    )
 }
 
 /// The same, where `last_line` has the line that was taken last, without its end, once it ends. So a line that says
-/// nothing can be shown: no reader has it any more. No clause speaks of `last_line`.
+/// nothing can be shown: no reader has it any more. No clause speaks of `last_line`. The execution is not taken apart at
+/// the end: it is for a program that ends behind it.
 pub fn debug_keeping<R: CountedLines, W: CountedWrite>(
     alloc: Global,
     reader: &mut R,
@@ -70,8 +81,37 @@ pub fn debug_keeping<R: CountedLines, W: CountedWrite>(
     ensures read_failures { R.failed reader.new ≡ after_reading result (R.failed reader.old) }
     ensures write_failures { W.failed writer.new ≡ after_writing result (W.failed writer.old) }
 {
+    let mut left = None;
+    let ended = debug_leaving(
+        alloc, reader, writer, source, stimulus, last_line, &mut left,
+    );
+    // The process ends behind it: to free the execution event by event would only take time.
+    mem::forget(left);
+    ended
+}
+
+/// The same, where the execution that was answered from is put into `left`.
+fn debug_leaving<'a, R: CountedLines, W: CountedWrite>(
+    alloc: Global,
+    reader: &mut R,
+    writer: &mut W,
+    source: &'a [u8],
+    stimulus: &[u8],
+    last_line: &mut Vec<u8>,
+    left: &mut Option<ScriptState<'a>>,
+) -> Result<(), Fault>
+    ensures debugged { Debugged source.now stimulus.now ((reader.new ≡ reader.old) × (writer.new ≡ writer.old))
+        (R.remaining reader.old) (R.remaining reader.new) (W.contents writer.old) (W.contents writer.new) result }
+    ensures held_back { HoldsBack R.buffered R.asked W.contents W.unsent W.wanted source.now stimulus.now reader.new
+        (R.remaining reader.old) (R.remaining reader.new) writer.old writer.new result }
+    ensures sent { result ≢ Err WriteFailed → W.unsent writer.new ≤ W.unsent writer.old }
+    ensures read_failures { R.failed reader.new ≡ after_reading result (R.failed reader.old) }
+    ensures write_failures { W.failed writer.new ≡ after_writing result (W.failed writer.old) }
+{
     let mut script_state = begin(alloc, source, stimulus)?;
-    answer_lines(alloc, &mut script_state, reader, writer, last_line)
+    let ended = answer_lines(alloc, &mut script_state, reader, writer, last_line);
+    *left = Some(script_state);
+    ended
 }
 
 /// Session 0 before its first line, on the system of source and stimulus.

@@ -7,7 +7,7 @@ ghost use Rattle.line_text.specs.FieldText.{shown};
 
 use crate::event::add_event;
 use crate::field::Field;
-use crate::text::{add_bytes, add_field, add_fields, add_line};
+use crate::text::{add_byte, add_bytes, add_field, add_fields, add_line};
 use runs::{Event, Refusal};
 use std::alloc::AllocError;
 use system::System;
@@ -41,10 +41,9 @@ pub fn add_entry(
 fn end_with_event(out: &mut Vec<u8>, system: &System, event: &Event) -> Result<(), AllocError>
     ensures { OnOk result (out.new.items ≡ out.old.items ++ (field (event_text system.now event.now) ++ ending)) }
 {
-    out.push(b' ')?;
+    add_byte(out, b' ')?;
     add_event(out, system, event)?;
-    out.push(b'\n')?;
-    Ok(())
+    add_byte(out, b'\n')
 }
 
 /// Adds how many events are ready, and a line for each.
@@ -62,7 +61,7 @@ pub fn add_ready(out: &mut Vec<u8>, system: &System, events: &[Event]) -> Result
 fn add_ready_line(out: &mut Vec<u8>, system: &System, event: &Event) -> Result<(), AllocError>
     ensures { OnOk result (out.new.items ≡ out.old.items ++ ready_line system.now event.now) }
 {
-    add_bytes(out, b" ")?;
+    add_byte(out, b' ')?;
     end_with_event(out, system, event)
 }
 

@@ -1,4 +1,5 @@
 ghost use Rattle.std.specs.Prelude.{◌≡◌, MatchOption};
+ghost use Rattle.std.specs.Str.{bytes_eq};
 ghost use Rattle.line_text.specs.Keywords.{spelling};
 ghost use Rattle.line_text.specs.internal.Spelled as spec;
 
@@ -77,10 +78,29 @@ fn first_spelled(keywords: &[Keyword], text: &[u8]) -> Option<Keyword>
 {
     let mut rest = keywords;
     while let [keyword, others @ ..] = rest {
-        if keyword.spelling() == text {
+        if are_same(keyword.spelling(), text) {
             return Some(*keyword);
         }
         rest = others;
     }
     None
+}
+
+/// Whether these are the same bytes. Words are so short that a look at each byte takes least.
+fn are_same(one: &[u8], other: &[u8]) -> bool
+    ensures { result ≡ bytes_eq one.now other.now }
+{
+    let mut left = one;
+    let mut against = other;
+    while let [byte, left_behind @ ..] = left {
+        let [expected, against_behind @ ..] = against else {
+            return false;
+        };
+        if *byte != *expected {
+            return false;
+        }
+        left = left_behind;
+        against = against_behind;
+    }
+    against.is_empty()
 }

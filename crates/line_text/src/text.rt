@@ -1,5 +1,5 @@
 //! Pieces of answers. Each function adds its text behind what is there; without memory a part of it may be there.
-ghost use Rattle.std.specs.Prelude.{◌≡◌, ◌<◌, ◌∷◌, ◌++◌, OnOk};
+ghost use Rattle.std.specs.Prelude.{◌≡◌, ◌<◌, ◌+◌, ◌/◌, ◌%◌, ◌∷◌, ◌++◌, [], OnOk};
 ghost use Rattle.std.specs.List.{flat_map};
 ghost use Rattle.std.specs.Fmt.{decimal};
 ghost use Rattle.address.specs.Text.{entry_text, text_of};
@@ -8,7 +8,6 @@ ghost use Rattle.line_text.specs.FieldText.{shown, spaced};
 
 use crate::field::Field;
 use address::{Address, Entry};
-use itoa::Buffer;
 use std::alloc::AllocError;
 
 /// Adds bytes.
@@ -18,7 +17,30 @@ pub fn add_bytes(out: &mut Vec<u8>, bytes: &[u8]) -> Result<(), AllocError>
     out.extend_from_slice(bytes)
 }
 
-/// Adds a number in decimal. Most numbers of places have one digit, and need no buffer.
+/// Adds a byte. Nearly always there is room for it, and then nothing is asked of the allocator.
+#[inline]
+pub(crate) fn add_byte(out: &mut Vec<u8>, byte: u8) -> Result<(), AllocError>
+    ensures { OnOk result (out.new.items ≡ out.old.items ++ byte ∷ []) }
+{
+    if out.len() < out.capacity() {
+        out.push_reserved(byte);
+        return Ok(());
+    }
+    out.push(byte)?;
+    Ok(())
+}
+
+/// Adds the few bytes of a word.
+pub(crate) fn add_word(out: &mut Vec<u8>, word: &[u8]) -> Result<(), AllocError>
+    ensures { OnOk result (out.new.items ≡ out.old.items ++ word.now) }
+{
+    for byte in word {
+        add_byte(out, *byte)?;
+    }
+    Ok(())
+}
+
+/// Adds a number in decimal. Most numbers of places have one digit.
 fn add_decimal(out: &mut Vec<u8>, number: u64) -> Result<(), AllocError>
     ensures { OnOk result (out.new.items ≡ out.old.items ++ decimal number) }
 {
@@ -34,24 +56,37 @@ fn add_digit(out: &mut Vec<u8>, number: u64) -> Result<(), AllocError>
     requires { number < 10 }
     ensures { OnOk result (out.new.items ≡ out.old.items ++ decimal number) }
 {
-    out.push(b'0' + number as u8)?;
-    Ok(())
+    add_byte(out, b'0' + number as u8)
 }
 
-/// Adds the digits of a number.
+/// Adds the digits of a number, two at a time.
 fn add_digits(out: &mut Vec<u8>, number: u64) -> Result<(), AllocError>
     ensures { OnOk result (out.new.items ≡ out.old.items ++ decimal number) }
 {
-    let mut buffer = Buffer::new();
-    let digits = buffer.format(number);
-    out.extend_from_slice(digits.as_bytes())
+    if number < 10 {
+        return add_digit(out, number);
+    }
+    if number < 100 {
+        return add_pair(out, number);
+    }
+    add_digits(out, number / 100)?;
+    add_pair(out, number % 100)
+}
+
+/// Adds two digits.
+fn add_pair(out: &mut Vec<u8>, number: u64) -> Result<(), AllocError>
+    requires { number < 100 }
+    ensures { OnOk result (out.new.items ≡ out.old.items ++ (48 + number / 10) ∷ (48 + number % 10) ∷ []) }
+{
+    add_byte(out, b'0' + (number / 10) as u8)?;
+    add_byte(out, b'0' + (number % 10) as u8)
 }
 
 /// Adds a mark and a number.
 fn add_marked(out: &mut Vec<u8>, mark: u8, number: u32) -> Result<(), AllocError>
     ensures { OnOk result (out.new.items ≡ out.old.items ++ (mark ∷ decimal number)) }
 {
-    out.push(mark)?;
+    add_byte(out, mark)?;
     add_decimal(out, u64::from(number))
 }
 
@@ -81,7 +116,7 @@ fn add_shown(out: &mut Vec<u8>, field: Field<'_>) -> Result<(), AllocError>
     ensures { OnOk result (out.new.items ≡ out.old.items ++ shown field.entry) }
 {
     match field {
-        Field::Word(word) => add_bytes(out, word),
+        Field::Word(word) => add_word(out, word),
         Field::Number(number) => add_decimal(out, number),
         Field::Name(name) => name.write_to(out),
         Field::Place(place) => add_place(out, place),
@@ -92,7 +127,7 @@ fn add_shown(out: &mut Vec<u8>, field: Field<'_>) -> Result<(), AllocError>
 pub(crate) fn add_field(out: &mut Vec<u8>, field: Field<'_>) -> Result<(), AllocError>
     ensures { OnOk result (out.new.items ≡ out.old.items ++ spaced field.entry) }
 {
-    out.push(b' ')?;
+    add_byte(out, b' ')?;
     add_shown(out, field)
 }
 
@@ -114,7 +149,7 @@ pub(crate) fn add_fields(
 ) -> Result<(), AllocError>
     ensures { OnOk result (out.new.items ≡ out.old.items ++ (word.now ++ flat_map spaced fields.now)) }
 {
-    add_bytes(out, word)?;
+    add_word(out, word)?;
     add_each(out, fields)
 }
 
@@ -127,5 +162,5 @@ pub(crate) fn add_line(
     ensures { OnOk result (out.new.items ≡ out.old.items ++ (word.now ++ flat_map spaced fields.now ++ ending)) }
 {
     add_fields(out, word, fields)?;
-    add_bytes(out, b"\n")
+    add_byte(out, b'\n')
 }

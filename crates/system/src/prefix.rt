@@ -1,6 +1,6 @@
 // What stands before the names that are made for a call. All names of a call share it, and it shares that of the call
 // around it, so that a chain of calls takes memory for each call once.
-ghost use Rattle.std.specs.Prelude.{◌≡◌, ◌++◌, [], nat_eq, reverse, IfOk, OnOk};
+ghost use Rattle.std.specs.Prelude.{◌≡◌, ◌++◌, [], nat_eq, reverse, IsTrue, IfOk, OnOk};
 ghost use Rattle.std.specs.Cmp.Lexicographic.{pointwise};
 ghost use Rattle.system.specs.internal.Hashing.{hash_of};
 ghost use Rattle.system.specs.Named.{prefix_of_call};
@@ -87,6 +87,13 @@ impl Prefix {
         ensures { result ≡ [] }
     {
         Prefix { innermost: None }
+    }
+
+    /// Whether it is that of the root.
+    pub(crate) fn is_root(&self) -> bool
+        ensures { IsTrue result → self.now ≡ [] }
+    {
+        matches!(&self.innermost, None)
     }
 
     /// What stands before the names that are made for the call of this number.

@@ -67,6 +67,10 @@ impl QualifiedName {
         ensures added { OnOk result (out.new.items ≡ out.old.items ++ self.now) }
         ensures same { OnErr result (out.new.items ≡ out.old.items) }
     {
+        // Names of the root procedure's own declarations are written as they stand.
+        if self.prefix.is_root() {
+            return out.extend_from_slice(self.own.text());
+        }
         let mut text = Vec::new(*out.allocator());
         push_backwards(&mut text, self.own.text())?;
         self.prefix.write_backwards(&mut text)?;

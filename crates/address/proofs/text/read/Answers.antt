@@ -9,6 +9,6 @@ returns-in_default c =
 
 pub loop-rest-preserved : goal.loop-rest-preserved
 loop-rest-preserved c =
-    rw c.in_ok-push.ensures.ok
+    rw c.in_ok-add_entry.ensures
     (pending-more c.args.text.now c.loop-rest.entries.items c.loop-rest.rest.now c.in-Some.entry c.in-Some.after.now
     c.loop-rest.invariant c.in-Some.ensures)

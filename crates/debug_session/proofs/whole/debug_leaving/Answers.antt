@@ -3,7 +3,7 @@ use Rattle.std.proofs.lemmas.Result.{err_from_is_err_and}
 use Rattle.debug_session.proofs.HoldingLemmas.{one-fault, refused-unwritten, begun-holding}
 use Rattle.debug_session.proofs.SessionLemmas.{begun}
 use Rattle.debug_session.specs.declared.fault.Fault.{Fault}
-use Rattle.debug_session.proofs.whole.debug_keeping.Goals as goal
+use Rattle.debug_session.proofs.whole.debug_leaving.Goals as goal
 
 pub returns-clause-debugged : goal.returns-clause-debugged
 returns-clause-debugged g c =
@@ -12,8 +12,8 @@ returns-clause-debugged g c =
       begins.0,
       begins.1,
       begun c.in_ok-script_state.script_state begins.0 c.args.source.now (g.R.CountedLines.remaining c.args.reader.now)
-          (g.R.CountedLines.remaining c.answer_lines.new.reader) (g.W.CountedWrite.contents c.args.writer.now)
-          (g.W.CountedWrite.contents c.answer_lines.new.writer) c.answer_lines.result begins.2 c.answer_lines.ensures.ends,
+          (g.R.CountedLines.remaining c.answer_lines-ended.new.reader) (g.W.CountedWrite.contents c.args.writer.now)
+          (g.W.CountedWrite.contents c.answer_lines-ended.new.writer) c.answer_lines-ended.result begins.2 c.answer_lines-ended.ensures.ends,
     )
 
 pub returns-in_err-script_state-clause-held_back : goal.returns-in_err-script_state-clause-held_back
@@ -27,7 +27,7 @@ returns-clause-held_back g c h =
     let begins = c.in_ok-script_state.ensures.script_state in (
       begins.0,
       begins.1,
-      begun-holding g.R.CountedLines.buffered g.R.CountedLines.asked g.W.CountedWrite.contents g.W.CountedWrite.unsent g.W.CountedWrite.wanted c.in_ok-script_state.script_state begins.0 c.args.source.now c.answer_lines.new.reader
-          (g.R.CountedLines.remaining c.args.reader.now) (g.R.CountedLines.remaining c.answer_lines.new.reader)
-          c.args.writer.now c.answer_lines.new.writer begins.2 (c.answer_lines.ensures.held_back h),
+      begun-holding g.R.CountedLines.buffered g.R.CountedLines.asked g.W.CountedWrite.contents g.W.CountedWrite.unsent g.W.CountedWrite.wanted c.in_ok-script_state.script_state begins.0 c.args.source.now c.answer_lines-ended.new.reader
+          (g.R.CountedLines.remaining c.args.reader.now) (g.R.CountedLines.remaining c.answer_lines-ended.new.reader)
+          c.args.writer.now c.answer_lines-ended.new.writer begins.2 (c.answer_lines-ended.ensures.held_back h),
     )
