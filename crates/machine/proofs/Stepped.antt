@@ -1,6 +1,6 @@
 -- What a step answers, from the state and the ready list.
 use Rattle.std.proofs.Common.{◌≡◌, inl, inr, ℕ, suc, ◌<◌, ◌≤◌, List, length, take, drop, Option, Some, None, Result, Ok, Err, refl, sym, ◌∙◌, ap, subst, slice_get}
-use Rattle.std.specs.Prelude.{IfOk, OnErr, MatchOption, MatchResult}
+use Rattle.std.specs.Prelude.{IfOk, OnErr, IsSome, MatchOption, MatchResult}
 use Rattle.syntax.specs.Lists.{In}
 use Rattle.runs.specs.Steps.{State}
 use Rattle.runs.specs.Choices.{choice_of}
@@ -15,7 +15,7 @@ use Rattle.runs.specs.declared.command.Refusal.{Refusal}
 use Rattle.runs.specs.declared.command.Refusal.TheVariants.{NotReady, HistoryFull, Spent, Memory}
 use Rattle.runs.proofs.public.ReadyLists.{first-chosen}
 use Rattle.machine.specs.Results.{step_reply}
-use Rattle.machine.specs.internal.Choosing.{NotTaken, TakesFound}
+use Rattle.machine.specs.internal.Choosing.{NotTaken, IsLimit, TakesFound}
 use Rattle.machine.proofs.public.Entries.{parts-at}
 
 -- the first event of the ready list with the choice
@@ -39,6 +39,12 @@ not-taken o c (Some e) HistoryFull T reaches one h = ((T, reaches, (e, one.allow
 not-taken o c None Spent T reaches none h = let off = h.0 in cc
 not-taken o c (Some e) Spent T reaches one h = ((T, reaches, (e, one.allowed, one.choice)), h.1, h.2)
 not-taken o c found _ T reaches told h = absurd h
+
+-- a limit is why what was found is not taken
+pub limit-taken : (found : Option Event) (e : Event) (live next : ℕ) (why : Refusal) → found ≡ Some e → IsLimit live next why → NotTaken found live next why
+limit-taken found e live next HistoryFull is h = (subst (λ (o : Option Event). IsSome o) (sym is) refl, h)
+limit-taken found e live next Spent is h = (subst (λ (o : Option Event). IsSome o) (sym is) refl, h.0, h.1)
+limit-taken found e live next _ is h = absurd h
 
 -- a step that is taken
 pub step-done : (o o' : Object) (c : Choice) (e : Event) (T : State) (entry : ℕ × Event) → Reaches o T → Chosen T c e →

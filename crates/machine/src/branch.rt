@@ -116,14 +116,12 @@ impl History {
         ensures wanted { OnErr result ((length self.old.live.live < most_live) × (self.old.next ≤ last_ticket)) }
         ensures holds { Holds system.now self.new }
     {
-        let mut events = events.into_vec();
-        match self.admitted(Some(events.swap_remove(index))) {
-            Ok(event) => {
-                let entry = self.add(alloc, system, event)?;
-                Ok(BranchReply::Stepped(entry.0, entry.1))
-            }
-            Err(why) => Ok(BranchReply::Refused(why)),
+        if let Some(why) = self.limit() {
+            return Ok(BranchReply::Refused(why));
         }
+        let mut events = events.into_vec();
+        let entry = self.add(alloc, system, events.swap_remove(index))?;
+        Ok(BranchReply::Stepped(entry.0, entry.1))
     }
 
     /// Where the first of these events stands that acts in the branch and whose line is not among these.

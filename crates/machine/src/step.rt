@@ -1,5 +1,5 @@
 // Taking one event.
-ghost use Rattle.std.specs.Prelude.{◌≡◌, ◌≤◌, ◌<◌, ◌∷◌, ◌++◌, [], ℕ, List, Some, suc, length, IfOk, IfErr, OnOk, OnErr};
+ghost use Rattle.std.specs.Prelude.{◌≡◌, ◌≤◌, ◌<◌, ◌∷◌, ◌++◌, [], ℕ, List, Some, suc, length, MatchOption, IfOk, IfErr, OnOk, OnErr};
 ghost use Rattle.sharing_check.specs.declared.checked.Checked.{Checked};
 ghost use Rattle.runs.specs.Steps.{Allowed};
 ghost use Rattle.runs.specs.InOrder.{InOrder};
@@ -13,7 +13,7 @@ ghost use Rattle.dependence.specs.Behind.{ComesBehind};
 ghost use Rattle.event_inverse.specs.Grown.{TreeAndStore, state_of_tree, applied};
 ghost use Rattle.event_inverse.specs.View.{inverse_view};
 ghost use Rattle.event_inverse.specs.declared.record.Inverse.{Inverse};
-ghost use Rattle.machine.specs.internal.Choosing.{NotTaken, IsAdmitted, TakesFound};
+ghost use Rattle.machine.specs.internal.Choosing.{IsLimit, IsAdmitted, TakesFound};
 ghost use Rattle.machine.specs.internal.Histories.{execution, tree_of, Holds, KnowsUses};
 ghost use Rattle.machine.specs.internal.Entering.{Entered, NotEntered};
 
@@ -65,31 +65,28 @@ impl History {
         ensures wanted { OnErr result (IsAdmitted found (length self.old.live.live) self.old.next) }
         ensures holds { Holds system.now self.new }
     {
-        match self.admitted(found) {
-            Ok(event) => {
-                let entry = self.add(alloc, system, event)?;
-                Ok(Ok(entry))
-            }
-            Err(why) => Ok(Err(why)),
+        let Some(event) = found else {
+            return Ok(Err(Refusal::NotReady));
+        };
+        if let Some(why) = self.limit() {
+            return Ok(Err(why));
         }
+        let entry = self.add(alloc, system, event)?;
+        Ok(Ok(entry))
     }
 
-    /// The event, where there is one and the limits leave room for it; else why none is taken.
-    pub(crate) fn admitted(&self, found: Option<Event>) -> Result<Event, Refusal>
-        ensures taken { IfOk result (λ event. (found ≡ Some event) × (length self.now.live.live < most_live)
-            × (self.now.next ≤ last_ticket)) }
-        ensures refused { IfErr result (λ why. NotTaken found (length self.now.live.live) self.now.next why) }
+    /// Why no event is taken, where one is found, but the limits leave no room for it.
+    pub(crate) fn limit(&self) -> Option<Refusal>
+        ensures { MatchOption result ((length self.now.live.live < most_live) × (self.now.next ≤ last_ticket)) (λ why.
+            IsLimit (length self.now.live.live) self.now.next why) }
     {
-        let Some(event) = found else {
-            return Err(Refusal::NotReady);
-        };
         if self.live.len() as u64 >= MOST_LIVE_EVENTS {
-            return Err(Refusal::HistoryFull);
+            return Some(Refusal::HistoryFull);
         }
         if self.next > LAST_TICKET {
-            return Err(Refusal::Spent);
+            return Some(Refusal::Spent);
         }
-        Ok(event)
+        None
     }
 
     /// Makes the event, and enters it under the next ticket. The copy that stays is made first.
@@ -109,41 +106,39 @@ impl History {
         ensures holds { Holds system.now self.new }
     {
         let ticket = self.next;
-        let kept = Boxed::new(alloc, event.copy(alloc)?)?;
+        let copy = event.copy(alloc)?;
+        let kept = Boxed::new(alloc, copy)?;
         system.shares_well();
-        let record = apply(alloc, &mut self.tree, &mut self.store, event)?;
-        let event = self.enter(record, kept)?;
-        Ok((ticket, event))
+        let made = apply(alloc, &mut self.tree, &mut self.store, event)?;
+        let Record { event, inverse } = made;
+        match self.enter(inverse, kept) {
+            Ok(()) => Ok((ticket, event)),
+            Err(inverse) => {
+                self.unmake(event, inverse);
+                Err(AllocError)
+            }
+        }
     }
 
-    /// Enters the event that was made last under the next ticket; `kept` is the copy that stays among the live events.
-    /// Without memory it is taken back.
-    fn enter(&mut self, made: Record, kept: Boxed<Event>) -> Result<Event, AllocError>
-        requires same { kept ≡ made.event }
-        requires last { (T : TreeAndStore)
-            × (applied T made.event ≡ Some (tree_of self.old, inverse_view made.inverse)) }
+    /// Enters the event that was made last under the next ticket, with what its undo needs. Without memory that is
+    /// given back, and tree and values are as the event made them.
+    fn enter(&mut self, inverse: Inverse, kept: Boxed<Event>) -> Result<(), Inverse>
         requires above { (t : ℕ) (e : Event) → LiveAt self.old.live.live t e → t < self.old.next }
-        requires behind { ComesBehind self.old.live.live made.event }
+        requires behind { ComesBehind self.old.live.live kept }
         requires unspent { self.old.next ≤ last_ticket }
-        ensures entered { OnOk result (Entered self.old made self.new) }
-        ensures event { IfOk result (λ event. event ≡ made.event) }
-        ensures refused { OnErr result (NotEntered self.old made self.new) }
+        ensures entered { OnOk result (Entered self.old kept inverse self.new) }
+        ensures refused { OnErr result (NotEntered self.old self.new) }
+        ensures back { IfErr result (λ back. back ≡ inverse) }
     {
-        let Record { event, inverse } = made;
-        if let Err(inverse) = self.inverses.push(inverse) {
-            self.unmake(event, inverse);
-            return Err(AllocError);
+        if let Err(back) = self.inverses.push(inverse) {
+            return Err(back);
         }
         match self.live.add(self.next, kept) {
             Ok(()) => {
                 self.next += 1;
-                Ok(event)
+                Ok(())
             }
-            Err(_) => {
-                let inverse = take_newest(&mut self.inverses);
-                self.unmake(event, inverse);
-                Err(AllocError)
-            }
+            Err(_) => Err(take_newest(&mut self.inverses)),
         }
     }
 

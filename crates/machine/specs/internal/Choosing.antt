@@ -28,6 +28,12 @@ NotTaken found live next HistoryFull = IsSome found × (most_live ≤ live)
 NotTaken found live next Spent = IsSome found × (live < most_live) × (last_ticket < next)
 NotTaken found live next _ = ⊥
 
+-- why no event is taken where one was found: a limit is reached
+abbrev pub IsLimit : ℕ → ℕ → Refusal → Type 0
+IsLimit live next HistoryFull = most_live ≤ live
+IsLimit live next Spent = (live < most_live) × (last_ticket < next)
+IsLimit live next _ = ⊥
+
 -- an event was found, and the limits leave room for it
 abbrev pub IsAdmitted : Option Event → ℕ → ℕ → Type 0
 IsAdmitted found live next = IsSome found × (live < most_live) × (next ≤ last_ticket)
