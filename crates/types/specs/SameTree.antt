@@ -143,7 +143,7 @@ deed_of (port.Input w) = receives w
 deed_of (port.Output w) = sends w
 deed_of port.Sync = meets
 
--- what stands between and behind the names of a declaration: each name with the kind
+-- the names of a declaration, each with the kind that it declares
 abbrev pub with_kind : {K : Type 0} → K → List Identifier → List (Identifier × K)
 with_kind kind names = map (λ name. (name, kind)) names
 
