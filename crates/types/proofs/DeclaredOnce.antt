@@ -54,7 +54,7 @@ both-ok f (Err fs) (Err gs) c e = absurd cc
 pub and-ok : (a b : Findings every (Unit {0})) → and every a b ≡ Ok tt → (a ≡ Ok tt) × (b ≡ Ok tt)
 and-ok a b e = let h = both-ok (λ _. tt) a b tt e in (h.2, h.3)
 
-and_all-ok : (first : Findings every (Unit {0})) (vs : List (Verdict (Unit {0}))) → and_all every first vs ≡ Ok tt
+pub and_all-ok : (first : Findings every (Unit {0})) (vs : List (Verdict (Unit {0}))) → and_all every first vs ≡ Ok tt
     → (first ≡ Ok tt) × Every (λ v. v ≡ Ok tt) vs
 and_all-ok first [] e = (e, tt)
 and_all-ok first (v ∷ vs) e =

@@ -6,6 +6,7 @@ mod DeclarationLemmas
 mod DeclaredBefore
 mod DeclaredDistinct
 mod DeclaredOnce
+mod Differing
 mod ExpressionWays
 mod Fitting
 mod FittingIsAccepted

@@ -8,7 +8,7 @@ use Rattle.types.specs.Expressions.{JudgedValue, judged_expression, shape_layer,
 use Rattle.types.specs.Findings.{Verdict, Findings, becomes, if_right, both, with_next, with_all, demands, one_fault, every}
 use Rattle.types.specs.Names.{find}
 use Rattle.types.specs.SameTree as same
-use Rattle.types.specs.SameTree.{Standing, OneByOne, SameVariable, SameChannel, SameExpression, SameCommand, SameCommands, SameLast, SameGuarded, SameLabelled, SameArms, SameAction, SameLabel, sends, receives, begins, shaped}
+use Rattle.types.specs.SameTree.{Standing, OneByOne, AllDiffer, arm_channels, SameVariable, SameChannel, SameExpression, SameCommand, SameCommands, SameLast, SameGuarded, SameLabelled, SameArms, SameAction, SameLabel, sends, receives, begins, shaped}
 use Rattle.types.specs.Uses.{sync_use, arm_use, procedure_use}
 use Rattle.types.specs.Widths.{TypeHasThisAlone}
 use Rattle.types.specs.internal.CommandParts.{judged_action, judged_guarded, judged_labelled, judged_arm}
@@ -22,6 +22,7 @@ use Rattle.typed.specs.declared.tree.ChannelUse.{ChannelUse}
 use Rattle.typed.specs.declared.tree.Command as typed_command
 use Rattle.typed.specs.declared.tree.Procedure.{Procedure}
 use Rattle.typed.specs.declared.tree.VariableUse.{VariableUse}
+use Rattle.syntax.specs.Lists.{Every}
 use Rattle.syntax.specs.declared.command.Action.{Action}
 use Rattle.syntax.specs.declared.command.Arm.{Arm}
 use Rattle.syntax.specs.declared.command.CaseArm.{CaseArm}
@@ -40,7 +41,8 @@ use Rattle.syntax.specs.declared.expression.Shape.TheViews.{roll-Expr, roll-Shap
 use Rattle.syntax.specs.declared.expression.TypeName.{TypeName}
 use Rattle.syntax.specs.declared.name.Identifier.{Identifier}
 use Rattle.syntax.specs.declared.span.Span.{Span}
-use Rattle.types.proofs.DeclaredOnce.{alone-ok}
+use Rattle.types.proofs.DeclaredOnce.{alone-ok, and_all-ok}
+use Rattle.types.proofs.Differing.{channels_differ, arms_differ, all_ok, labels_differ}
 use Rattle.types.proofs.ExpressionWays.{judged_shape, type_once}
 use Rattle.types.proofs.Fitting.{ok-by, ok-weaker, ok-becomes, ok-both, ok-if_right, ok-alone}
 use Rattle.types.proofs.Least.{With}
@@ -76,6 +78,14 @@ tested {A = A} {B = B} P Q G x y test make fault f p q =
 asked : {A B : Type 0} (P : A → Type 0) (a : A) → P a → (r : Findings every B) → IfOk (becomes (λ _. a) r) P
 asked P a p (Ok b) = p
 asked P a p (Err fs) = tt
+
+-- what is asked is right
+asked-ok : {A : Type 0} (P : A → Type 0) (a : A) (vs : List (Verdict (Unit {0}))) → (Every (λ v. v ≡ Ok tt) vs → P a) → IfOk (becomes (λ _. a) (demands every vs)) P
+asked-ok P a vs f = by (demands every vs) refl
+  where
+    by : (r : Findings every (Unit {0})) → demands every vs ≡ r → IfOk (becomes (λ _. a) r) P
+    by (Ok b) is = f (and_all-ok (Ok tt) vs is).1
+    by (Err fs) is = tt
 
 -- ---- lists of parts
 
@@ -274,16 +284,18 @@ module _ (at : Standing) (scope : Scope) (once : Once scope.names) (seen : map s
       let G = SameAction at opened (roll-Action (Action-F.Case e xs last)) in
       let Rest = λ (q : List LabelledArm × Option typed_command.Command). Arms q.0 × SameLast at opened last q.1 in
       ok-if_right (λ (p : Valued × (List LabelledArm × Option typed_command.Command)). IsSame opened e p.0 × Rest p.1) G (both every subject (both every these end)) _
-      (λ p r. asked G (action.Case p.0.expression (map typed_labelled p.1.0) p.1.1)
-      (same.case opened e p.0.expression xs (map typed_labelled p.1.0) last p.1.1 r.0 r.1.0 r.1.1)
-      (demands every (new_labels p.0.width [] (flat_map (λ (a : LabelledArm). a.labels) p.1.0))))
+      (λ p r. asked-ok G (action.Case p.0.expression (map typed_labelled p.1.0) p.1.1) (new_labels p.0.width [] (flat_map (λ (a : LabelledArm). a.labels) p.1.0))
+      (λ are. same.case opened e p.0.expression xs (map typed_labelled p.1.0) last p.1.1 r.0 r.1.0 (labels_differ p.0.width p.1.0 are) r.1.1))
       (ok-both (IsSame opened e) Rest subject (both every these end) s (ok-both Arms (SameLast at opened last) these end h g))
 
-  distinct_same : (opened : List Binding) (xs : List Arm) (these : Findings every (List typed_arm.Arm)) → IfOk these (SameArms at opened xs) → IfOk (distinct every these) (SameArms at opened xs)
+  abbrev DistinctArms : List Binding → List Arm → List typed_arm.Arm → Type 0
+  DistinctArms opened xs made = SameArms at opened xs made × AllDiffer (arm_channels made)
+
+  distinct_same : (opened : List Binding) (xs : List Arm) (these : Findings every (List typed_arm.Arm)) → IfOk these (SameArms at opened xs) → IfOk (distinct every these) (DistinctArms opened xs)
   unfolding distinct
   distinct_same opened xs these h =
-      ok-if_right (SameArms at opened xs) (SameArms at opened xs) these _
-      (λ made r. asked (SameArms at opened xs) made r (demands every (new_channels [] (map channel_of_arm made)))) h
+      ok-if_right (SameArms at opened xs) (DistinctArms opened xs) these _
+      (λ made r. asked-ok (DistinctArms opened xs) made (new_channels [] (map channel_of_arm made)) (λ are. (r, arms_differ made are))) h
 
   -- ---- each form
 
@@ -313,13 +325,13 @@ module _ (at : Standing) (scope : Scope) (once : Once scope.names) (seen : map s
   action_same (Action-F.Select these) opened =
       let xs : List Arm = map (λ (y : With ArmSame). y.0) these in
       let made = each every (map (judged_arm every) xs) scope opened in
-      ok-becomes (SameArms at opened xs) (SameAction at opened (roll-Action (Action-F.Select xs))) (λ these. action.Select these) (distinct every made)
-      (λ m h. same.select opened xs m h) (distinct_same opened xs made (arms_same opened these))
+      ok-becomes (DistinctArms opened xs) (SameAction at opened (roll-Action (Action-F.Select xs))) (λ these. action.Select these) (distinct every made)
+      (λ m h. same.select opened xs m h.0 h.1) (distinct_same opened xs made (arms_same opened these))
   action_same (Action-F.Arbitrate first second) opened =
       let xs : List Arm = first.0 ∷ second.0 ∷ [] in
       let made = each every (map (judged_arm every) xs) scope opened in
-      ok-becomes (SameArms at opened xs) (SameAction at opened (roll-Action (Action-F.Arbitrate first.0 second.0))) (λ these. action.Arbitrate these) (distinct every made)
-      (λ m h. same.arbitrate opened first.0 second.0 m h) (distinct_same opened xs made (arms_same opened (first ∷ second ∷ [])))
+      ok-becomes (DistinctArms opened xs) (SameAction at opened (roll-Action (Action-F.Arbitrate first.0 second.0))) (λ these. action.Arbitrate these) (distinct every made)
+      (λ m h. same.arbitrate opened first.0 second.0 m h.0 h.1) (distinct_same opened xs made (arms_same opened (first ∷ second ∷ [])))
   action_same (Action-F.Assign x e) opened =
       tested (λ (r : VariableUse × ℕ). SameVariable at x.name x.span.start r.0 r.1) (IsSame opened e) (SameAction at opened (roll-Action (Action-F.Assign x e)))
       (one_fault (target x scope opened)) (value every e scope opened) (λ p. nat_le p.1.width p.0.1) _ _
@@ -347,7 +359,8 @@ module _ (at : Standing) (scope : Scope) (once : Once scope.names) (seen : map s
       tested (IsProcedure at scope mean opened x) (OneByOne (λ a. Argument at scope mean opened a) arguments) (SameAction at opened (roll-Action (Action-F.Call x arguments)))
       (one_fault (procedure_use (find scope.names opened x.name) x.span.start)) (judged_arguments every scope.names opened arguments)
       (λ p. call_fits scope.names (slice_get scope.procedures p.0) arguments p.1) _ _
-      (λ i us (q, here, name) h is. same.call opened x arguments i q us here name (call_same at scope mean opened kinds i q here arguments us h is))
+      (λ i us (q, here, name) h is. let fits = call_same at scope mean opened kinds i q here arguments us h is in
+      same.call opened x arguments i q us here name fits.0 (channels_differ us (all_ok (new_channels [] us) fits.1)))
       (procedure_same at scope mean opened x) (arguments_same at scope mean opened arguments)
   action_same (Action-F.Sequence children) opened =
       let xs : List Command = map (λ (y : With CommandSame). y.0) children in

@@ -70,7 +70,7 @@ among (c ∷ bs) b e = by (same_binding b c) refl e (among bs b)
     by true is e rest = inl (binding_same b c is)
     by false is e rest = inr (rest e)
 
-not_among : (bs : List Binding) (b : Binding) → is_among bs b ≡ false → ¬ In b bs
+pub not_among : (bs : List Binding) (b : Binding) → is_among bs b ≡ false → ¬ In b bs
 not_among [] b e = λ never. absurd never
 not_among (c ∷ bs) b e = by (same_binding b c) refl e (not_among bs b)
   where
@@ -236,12 +236,14 @@ module _ (at : Standing) (scope : Scope) (mean : AllMean (StandsFor at.types at.
 
   pub call_same : (opened : List Binding) → scope.procedures ≡ map (λ (q : Procedure). kinds_of q.ports) at.earlier → (i : ℕ) (q : Procedure)
       → slice_get at.earlier i ≡ Some q → (arguments : List Identifier) (us : List ChannelUse) → OneByOne (λ a. Argument opened a) arguments us
-      → call_fits scope.names (slice_get scope.procedures i) arguments us ≡ true → SameArguments at opened q.ports arguments us
+      → call_fits scope.names (slice_get scope.procedures i) arguments us ≡ true
+      → SameArguments at opened q.ports arguments us × (list_all is_ok (new_channels [] us) ≡ true)
   call_same opened kinds i q here arguments us h e =
       let is : slice_get scope.procedures i ≡ Some (kinds_of q.ports) =
       ap (λ z. slice_get z i) kinds ∙ slice_get-map (λ (q : Procedure). kinds_of q.ports) at.earlier i ∙ ap (option_map (λ (q : Procedure). kinds_of q.ports)) here in
       let fits : call_fits scope.names (Some (kinds_of q.ports)) arguments us ≡ true = sym (ap (λ z. call_fits scope.names z arguments us) is) ∙ e in
-      fit_arguments opened q.ports arguments us h (two_true (all_fit scope.names (kinds_of q.ports) arguments) (list_all is_ok (new_channels [] us)) fits).0
+      let both = two_true (all_fit scope.names (kinds_of q.ports) arguments) (list_all is_ok (new_channels [] us)) fits in
+      (fit_arguments opened q.ports arguments us h both.0, both.1)
 
   -- ---- labels
 

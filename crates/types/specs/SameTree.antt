@@ -10,7 +10,7 @@ use Rattle.types.specs.Visible.{Declaration, element_width, outside, visible_in}
 use Rattle.types.specs.Widths.{TypeHasThisAlone}
 use Rattle.typed.specs.declared.tree.Action.{Action}
 use Rattle.typed.specs.declared.tree.Action.TheVariants as action
-use Rattle.typed.specs.declared.tree.Arm.{Arm, roll-Arm}
+use Rattle.typed.specs.declared.tree.Arm.{Arm, roll-Arm, out-Arm}
 use Rattle.typed.specs.declared.tree.Binding.{Binding}
 use Rattle.typed.specs.declared.tree.Binding.TheVariants as binding
 use Rattle.typed.specs.declared.tree.ChannelUse.{ChannelUse}
@@ -18,7 +18,7 @@ use Rattle.typed.specs.declared.tree.Command.{Command, roll-Command}
 use Rattle.typed.specs.declared.tree.Expression.{Expression}
 use Rattle.typed.specs.declared.tree.Expression.TheVariants as expression
 use Rattle.typed.specs.declared.tree.Guarded.{Guarded, roll-Guarded}
-use Rattle.typed.specs.declared.tree.Labelled.{Labelled, roll-Labelled}
+use Rattle.typed.specs.declared.tree.Labelled.{Labelled, roll-Labelled, out-Labelled}
 use Rattle.typed.specs.declared.tree.Local.{Local}
 use Rattle.typed.specs.declared.tree.LocalKind.{LocalKind}
 use Rattle.typed.specs.declared.tree.LocalKind.TheVariants as local
@@ -72,6 +72,19 @@ OneByOne Same [] [] = Unit {0}
 OneByOne Same [] (y ∷ ys) = ⊥
 OneByOne Same (x ∷ xs) [] = ⊥
 OneByOne Same (x ∷ xs) (y ∷ ys) = Same x y × OneByOne Same xs ys
+
+-- no element of the list stands there twice
+abbrev pub AllDiffer : {X : Type 0} → List X → Type 0
+AllDiffer [] = Unit {0}
+AllDiffer (x ∷ xs) = (¬ In x xs) × AllDiffer xs
+
+-- the values of all labels of the arms of a `case`
+abbrev pub all_labels : List Labelled → List ℕ
+all_labels arms = flat_map (λ (a : Labelled). (out-Labelled a).labels) arms
+
+-- the channels of the arms of a `select` or an `arbitrate`
+abbrev pub arm_channels : List Arm → List Binding
+arm_channels arms = map (λ (a : Arm). (out-Arm a).channel.channel) arms
 
 -- ---- names
 
@@ -130,7 +143,7 @@ deed_of (port.Input w) = receives w
 deed_of (port.Output w) = sends w
 deed_of port.Sync = meets
 
--- what stands between and behind the names of a declaration: each name with the kind
+-- the names of a declaration, each with the kind that it declares
 abbrev pub with_kind : {K : Type 0} → K → List Identifier → List (Identifier × K)
 with_kind kind names = map (λ name. (name, kind)) names
 
@@ -271,18 +284,22 @@ module _ (at : Standing) where
           (last : Option written_command.Command) (end : Option Command) →
           SameGuarded opened arms these → SameLast opened last end →
           SameAction opened (written.roll-Action (Action-F.If arms last)) (action.If these end)
+      -- no two labels have one value
       case : (opened : List Binding) (e : Expr) (f : Expression) (arms : List written_case_arm.CaseArm)
           (these : List Labelled) (last : Option written_command.Command) (end : Option Command) →
-          SameExpression opened e f → SameLabelled opened arms these → SameLast opened last end →
+          SameExpression opened e f → SameLabelled opened arms these → AllDiffer (all_labels these) →
+          SameLast opened last end →
           SameAction opened (written.roll-Action (Action-F.Case e arms last)) (action.Case f these end)
       -- inside of it the channel is open too
       input : (opened : List Binding) (x : Identifier) (u : ChannelUse) (w : ℕ) (c : written_command.Command)
           (d : Command) → SameChannel opened (receives w) x u → SameCommand (opened ++ u.channel ∷ []) c d →
           SameAction opened (written.roll-Action (Action-F.Input x c)) (action.Input u d)
-      select : (opened : List Binding) (arms : List written_arm.Arm) (these : List Arm) → SameArms opened arms these →
+      -- no two arms are on one channel
+      select : (opened : List Binding) (arms : List written_arm.Arm) (these : List Arm) →
+          SameArms opened arms these → AllDiffer (arm_channels these) →
           SameAction opened (written.roll-Action (Action-F.Select arms)) (action.Select these)
       arbitrate : (opened : List Binding) (first second : written_arm.Arm) (these : List Arm) →
-          SameArms opened (first ∷ second ∷ []) these →
+          SameArms opened (first ∷ second ∷ []) these → AllDiffer (arm_channels these) →
           SameAction opened (written.roll-Action (Action-F.Arbitrate first second)) (action.Arbitrate these)
       sequence : (opened : List Binding) (cs : List written_command.Command) (ds : List Command) →
           SameCommands opened cs ds →
@@ -290,10 +307,10 @@ module _ (at : Standing) where
       parallel : (opened : List Binding) (cs : List written_command.Command) (ds : List Command) →
           SameCommands opened cs ds →
           SameAction opened (written.roll-Action (Action-F.Parallel cs)) (action.Parallel ds)
-      -- of a procedure before, which has this name and these ports
+      -- of a procedure before, which has this name and these ports; no channel is passed for two of them
       call : (opened : List Binding) (x : Identifier) (arguments : List Identifier) (place : ℕ) (q : Procedure)
           (us : List ChannelUse) → slice_get at.earlier place ≡ Some q → q.name ≡ x.name →
-          SameArguments opened q.ports arguments us →
+          SameArguments opened q.ports arguments us → AllDiffer (map (λ (u : ChannelUse). u.channel) us) →
           SameAction opened (written.roll-Action (Action-F.Call x arguments)) (action.Call place us)
 
 -- ---- procedures
