@@ -3,7 +3,7 @@
 ghost use Rattle.std.specs.Prelude.{◌<◌, ◌+◌, ◌^◌, length};
 
 use crate::class::Class;
-use crate::piece::{blanks_length, longest_piece};
+use crate::piece::{blanks_length, has_one_space, longest_piece};
 use crate::position::Position;
 use crate::token::{add_token, refuse_piece, token_of};
 use crate::{Fault, Kind, Token};
@@ -88,6 +88,17 @@ impl<'a> Lexing<'a> {
     fn skip_blanks(&mut self)
         ensures { Skips self.old self.new }
     {
+        // Mostly it is one space.
+        if has_one_space(self.rest) {
+            *self = Lexing {
+                position: Position {
+                    offset: self.position.offset + 1,
+                    line: self.position.line,
+                },
+                rest: &self.rest[1..],
+            };
+            return;
+        }
         let Some(length) = blanks_length(self.rest) else {
             return;
         };

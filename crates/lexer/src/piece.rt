@@ -1,4 +1,4 @@
-ghost use Rattle.std.specs.Prelude.{◌≡◌, ◌+◌, ◌≤◌, length, take, drop, MatchOption, IsSome, IsTrue, is_some, nat_le, ◌&&◌};
+ghost use Rattle.std.specs.Prelude.{◌≡◌, ◌∷◌, [], ◌+◌, ◌≤◌, length, take, drop, MatchOption, IsSome, IsTrue, is_some, nat_le, ◌&&◌};
 ghost use Rattle.std.specs.List.{prefix_len};
 ghost use Rattle.std.specs.Option.{IfSome};
 ghost use Rattle.lexer.specs.Comment.{IsOpenComment, is_nested_comment, is_opening};
@@ -144,6 +144,17 @@ fn run(class: Class, rest: &[u8]) -> Piece
     Piece {
         class,
         length: run_length(class, rest),
+    }
+}
+
+/// Whether one space is at the front, and then no further blank.
+#[inline(always)]
+pub fn has_one_space(rest: &[u8]) -> bool
+    ensures { IsTrue result → IsFront Blank 1 rest.now × (take 1 rest.now ≡ 32 ∷ []) }
+{
+    match rest {
+        [first, next, ..] => *first == b' ' && !is_blank(*next),
+        _ => false,
     }
 }
 
