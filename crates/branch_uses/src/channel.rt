@@ -180,7 +180,7 @@ pub fn uses_in(command: &Command, asked: Asked<'_>) -> Result<ChannelUses, Alloc
         Action::Select(arms) => uses_in_arms(arms.as_slice(), asked),
         Action::Arbitrate(one, other) => {
             let mut uses = uses_in_arm(one, asked)?;
-            let others = uses_in_arm(other, asked)?;
+            let others = uses_in_arm(other.get(), asked)?;
             put_wider(asked.alloc, &mut uses.uses, others.uses.as_slice())?;
             Ok(uses)
         }

@@ -17,7 +17,7 @@ use crate::list::{Behind, next, one, separated, several};
 use crate::name::{labels, names};
 use crate::rule::Rule;
 use lexer::Kind;
-use syntax::{Action, Arm, CaseArm, Command, Expr, Guarded, Identifier, Items, Span};
+use syntax::{Action, Arm, Boxed, CaseArm, Command, Expr, Guarded, Identifier, Items, Span};
 
 /// A command, unless memory is out. It reads no token.
 fn new_command(cursor: &Cursor<'_, '_>, span: Span, action: Action) -> Result<Command, Halt>
@@ -379,6 +379,7 @@ impl<R: Rule<Tree = Command>> Parts<R> {
     {
         cursor.take(Kind::Bar)?;
         let second = ArmRule { parts: self }.read(cursor)?;
+        let second = Boxed::new(cursor.alloc(), second)?;
         ended(cursor, start, Action::Arbitrate(first, second))
     }
 

@@ -6,7 +6,7 @@ use crate::halt::Halt;
 use crate::list::separated;
 use crate::rule::Rule;
 use lexer::Kind;
-use syntax::{Identifier, Items, Label, LabelValue, TypeName, Width};
+use syntax::{Boxed, Identifier, Items, Label, LabelValue, TypeName, Width};
 
 #[derive(Drop)]
 struct NameRule;
@@ -54,7 +54,7 @@ pub fn type_name(cursor: &mut Cursor<'_, '_>) -> Result<TypeName, Halt>
         Ok(TypeName::Bits(bits))
     } else {
         let name = cursor.identifier()?;
-        Ok(TypeName::Named(name))
+        Ok(TypeName::Named(Boxed::new(cursor.alloc(), name)?))
     }
 }
 

@@ -30,8 +30,8 @@ pub enum Action {
     Case(Expr, Items<CaseArm>, Option<Command>),
     /// `select` with one arm or more.
     Select(Items<Arm>),
-    /// `arbitrate` with its two arms.
-    Arbitrate(Arm, Arm),
+    /// `arbitrate` with its two arms. The second has a place of its own: with both in it, each action would be larger.
+    Arbitrate(Arm, Boxed<Arm>),
     /// `variable := value`
     Assign(Identifier, Expr),
     /// `channel <- value`

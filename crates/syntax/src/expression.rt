@@ -14,7 +14,8 @@ pub struct Width {
 /// The type of a port, of a local or of a cast.
 #[derive(Drop)]
 pub enum TypeName {
-    Named(Identifier),
+    /// In a place of its own, so that a cast is no larger than other expressions.
+    Named(Boxed<Identifier>),
     Bits(Width),
 }
 

@@ -93,7 +93,7 @@ fn settled_action(
         syntax::Action::Select(arms) => settled_select(alloc, scope, opened, arms.as_slice()),
         syntax::Action::Arbitrate(first, second) => {
             let first = settled_arm(alloc, scope, opened, first)?;
-            settled_arbitrate(alloc, scope, opened, second, first)
+            settled_arbitrate(alloc, scope, opened, second.get(), first)
         }
         syntax::Action::Sequence(children) => {
             settled_sequence(alloc, scope, opened, children.as_slice())

@@ -42,7 +42,8 @@ pub(crate) fn type_width(names: &Names, opened: &[Binding], type_name: &TypeName
     ensures { result ≡ expressions.type_width (entries names.now) opened.now type_name.now }
 {
     match type_name {
-        TypeName::Named(identifier) => {
+        TypeName::Named(named) => {
+            let identifier = named.get();
             uses::type_use(names.find(opened, &identifier.name), identifier.span.start)
         }
         TypeName::Bits(width) => declared_width(width),

@@ -74,7 +74,7 @@ pub fn type_width(source: &[u8], types: &[Declared], name: &TypeName) -> Option<
     match name {
         TypeName::Bits(width) => Some(width.bits),
         TypeName::Named(identifier) => {
-            let found = find(source, types, identifier.name.text())?;
+            let found = find(source, types, identifier.get().name.text())?;
             if found.kind == Kind::Type {
                 found.width
             } else {

@@ -38,7 +38,7 @@ fn add_name(walk: &mut Walk<'_>, role: Role, name: &Identifier) -> Result<(), Al
 /// Adds the type of a cast.
 fn add_cast(walk: &mut Walk<'_>, name: &TypeName) -> Result<(), AllocError> {
     match name {
-        TypeName::Named(identifier) => add_name(walk, Role::CastType, identifier),
+        TypeName::Named(identifier) => add_name(walk, Role::CastType, identifier.get()),
         TypeName::Bits(_) => Ok(()),
     }
 }
@@ -174,7 +174,7 @@ fn add_command(command: &Command, walk: &mut Walk<'_>) -> Result<(), AllocError>
         Action::Select(arms) => add_arms(arms.as_slice(), walk, span.start),
         Action::Arbitrate(one, other) => {
             add_arm(one, walk, span.start)?;
-            add_arm(other, walk, span.start)
+            add_arm(other.get(), walk, span.start)
         }
         Action::Assign(variable, value) => {
             add_name(walk, Role::Assigned, variable)?;
