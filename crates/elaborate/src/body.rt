@@ -49,6 +49,7 @@ fn command_of(
         }
         typed::Action::Case(subject, arms, last) => {
             let arms = arms.as_slice();
+            let subject = subject.get();
             case_of(alloc, arms, last, line, subject, instance, earlier, made)
         }
         typed::Action::Input(channel, body) => {

@@ -104,7 +104,7 @@ fn size_of(command: &Command, sizes: &[Size]) -> Size
         Action::Case(subject, arms, last) => {
             let arms = size_of_labelled(arms.as_slice(), sizes);
             let parts = beside(arms, size_of_last(last, sizes));
-            around(beside(size_of_expression(subject), parts))
+            around(beside(size_of_expression(subject.get()), parts))
         }
         Action::Select(arms) | Action::Arbitrate(arms) => {
             around(size_of_arms(arms.as_slice(), sizes))

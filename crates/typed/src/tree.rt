@@ -144,8 +144,9 @@ pub enum Action {
     While(Expression, Command),
     /// the first guarded body whose guard is true, else the last
     If(Items<Guarded>, Option<Command>),
-    /// the first body with a label equal to the expression's value, else the last
-    Case(Expression, Items<Labelled>, Option<Command>),
+    /// the first body with a label equal to the expression's value, else the last; the expression has a place of its own:
+    /// with it, each action would be larger
+    Case(Boxed<Expression>, Items<Labelled>, Option<Command>),
     /// `c -> then body end`
     Input(ChannelUse, Command),
     Select(Items<Arm>),

@@ -71,7 +71,7 @@ pub(crate) fn cased(
     let Arms { arms, own } = arms;
     let (subject, (arms, last)) = both(subject, both(arms, last))?;
     own?;
-    Ok(Action::Case(subject.expression.into_inner(), arms, last))
+    Ok(Action::Case(subject.expression, arms, last))
 }
 
 /// How wide the expression is, if it is right.

@@ -285,7 +285,7 @@ command_of-returns-in-If t c =
 pub command_of-returns-in-Case : goal.command_of-returns-in-Case
 command_of-returns-in-Case t c =
     let is = case_makes (makers c.args.earlier.now) c.args.command.now c.args.instance.now c.args.made.now c.in-Case.subject c.in-Case.arms c.in-Case.last (sym c.get.ensures ∙ c.in-Case.is) in
-    record { tree = told_tree c.case_of.result _ _ is (rw c.as_slice-arms.ensures at c.case_of.ensures.tree); made = told_made c.case_of.result c.case_of.new.made _ _ is (rw c.as_slice-arms.ensures at c.case_of.ensures.made) }
+    record { tree = told_tree c.case_of.result _ _ is (rw (c.as_slice-arms.ensures, c.get-subject.ensures) at c.case_of.ensures.tree); made = told_made c.case_of.result c.case_of.new.made _ _ is (rw c.as_slice-arms.ensures at c.case_of.ensures.made) }
 
 pub command_of-returns-in-Continue : goal.command_of-returns-in-Continue
 command_of-returns-in-Continue t c =
