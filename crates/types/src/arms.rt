@@ -5,6 +5,7 @@ ghost use Rattle.types.specs.Findings as findings;
 ghost use Rattle.types.specs.internal.Least.{least};
 ghost use Rattle.types.specs.internal.Owed as owed;
 ghost use Rattle.types.specs.internal.Scopes.{entries};
+ghost use Rattle.typed.specs.declared.tree.Action.TheVariants as typed;
 
 use crate::expression::{Valued, least_value};
 use crate::scope::{Names, Scope};
@@ -12,8 +13,8 @@ use crate::verdict::{Settled, Verdict, and, both, with_next};
 use crate::{Fault, uses};
 use indexmap::IndexSet;
 use std::alloc::{AllocError, Global};
-use syntax::{Items, Label, LabelValue};
-use typed::{Action, Arm, Binding, ChannelUse, Command, Guarded, Labelled};
+use syntax::{Boxed, Items, Label, LabelValue};
+use typed::{Action, Arm, Binding, ChannelUse, Command, Expression, Guarded, Labelled};
 use value::Value;
 
 /// Arms, and what they owe as a whole where each of them is right.
@@ -39,7 +40,7 @@ pub(crate) fn guarded(guard: Verdict<Valued>, body: Verdict<Command>) -> Verdict
 {
     let (guard, body) = both(guard, body)?;
     Ok(Guarded {
-        guard: guard.expression.into_inner(),
+        guard: guard.expression,
         body,
     })
 }
@@ -62,16 +63,37 @@ pub(crate) fn one_bit(guard: &Verdict<Valued>, start: u64) -> Verdict<()>
 
 /// A `case` over the expression with these arms and what stands after `else`.
 pub(crate) fn cased(
+    alloc: Global,
     subject: Verdict<Valued>,
     arms: Arms<Labelled>,
     last: Verdict<Option<Command>>,
-) -> Verdict<Action>
-    ensures { result ≡ owed.case_owing subject arms.arms arms.own last }
+) -> Settled<Action>
+    ensures { IfOk result (λ made. made ≡ owed.case_owing subject arms.arms arms.own last) }
 {
     let Arms { arms, own } = arms;
-    let (subject, (arms, last)) = both(subject, both(arms, last))?;
-    own?;
-    Ok(Action::Case(subject.expression, arms, last))
+    match both(subject, both(arms, last)) {
+        Ok((subject, (arms, last))) => case_of(alloc, subject.expression, arms, last, own),
+        Err(fault) => Ok(Err(fault)),
+    }
+}
+
+/// A `case` over the expression with these arms, where it owes no more.
+fn case_of(
+    alloc: Global,
+    subject: Expression,
+    arms: Items<Labelled>,
+    last: Option<Command>,
+    own: Verdict<()>,
+) -> Settled<Action>
+    ensures { IfOk result (λ made. made ≡ findings.becomes (λ _. typed.Case subject arms last) own) }
+{
+    match own {
+        Ok(()) => {
+            let subject = Boxed::new(alloc, subject)?;
+            Ok(Ok(Action::Case(subject, arms, last)))
+        }
+        Err(fault) => Ok(Err(fault)),
+    }
 }
 
 /// How wide the expression is, if it is right.

@@ -200,7 +200,7 @@ fn settled_case(
 {
     let subject = settled_expression(alloc, &scope.names, opened, subject)?;
     let arms = settled_labelled(alloc, scope, opened, width_of(&subject), arms)?;
-    Ok(cased(subject, arms, last))
+    cased(alloc, subject, arms, last)
 }
 
 #[cycle(settled_command)]

@@ -19,7 +19,7 @@ use value::{MOST_BITS, Value, Width};
 /// A typed expression, and how many bits its value has.
 #[derive(Drop)]
 pub(crate) struct Valued {
-    pub(crate) expression: Boxed<Expression>,
+    pub(crate) expression: Expression,
     pub(crate) width: u8,
 }
 
@@ -62,8 +62,8 @@ pub(crate) fn settled_expression(
 {
     let start = expression.own_start;
     match expression.shape.get() {
-        Shape::Number(number) => constant(alloc, least_value(*number)),
-        Shape::Name(name) => named(alloc, names, opened, name, start),
+        Shape::Number(number) => Ok(Ok(constant(least_value(*number)))),
+        Shape::Name(name) => Ok(named(names, opened, name, start)),
         Shape::Binary(operator, left, right) => {
             let left = settled_expression(alloc, names, opened, left)?;
             let right = settled_expression(alloc, names, opened, right)?;
@@ -87,45 +87,38 @@ pub(crate) fn least_value(number: u64) -> Value
     Value::make(number, value::least_width(number))
 }
 
-fn constant(alloc: Global, constant: Value) -> Settled<Valued>
-    ensures { IfOk result (λ made. made ≡ Ok (expressions.constant constant)) }
+fn constant(constant: Value) -> Valued
+    ensures { result ≡ expressions.constant constant }
 {
-    Ok(Ok(Valued {
+    Valued {
         width: constant.width(),
-        expression: Boxed::new(alloc, Expression::Constant(constant))?,
-    }))
-}
-
-fn named(
-    alloc: Global,
-    names: &Names,
-    opened: &[Binding],
-    name: &Name,
-    offset: u64,
-) -> Settled<Valued>
-    ensures { IfOk result (λ made.
-        made
-        ≡ findings.becomes expressions.of_name (uses.value_use (find (entries names.now) opened.now name.now) offset)) }
-{
-    match uses::value_use(names.find(opened, name), offset) {
-        Ok(name) => settled_name(alloc, name),
-        Err(fault) => Ok(Err(fault)),
+        expression: Expression::Constant(constant),
     }
 }
 
-fn settled_name(alloc: Global, name: Named) -> Settled<Valued>
-    ensures { IfOk result (λ made. made ≡ Ok (expressions.of_name name)) }
+fn named(names: &Names, opened: &[Binding], name: &Name, offset: u64) -> Verdict<Valued>
+    ensures { result
+        ≡ findings.becomes expressions.of_name (uses.value_use (find (entries names.now) opened.now name.now) offset) }
+{
+    match uses::value_use(names.find(opened, name), offset) {
+        Ok(name) => Ok(settled_name(name)),
+        Err(fault) => Err(fault),
+    }
+}
+
+fn settled_name(name: Named) -> Valued
+    ensures { result ≡ expressions.of_name name }
 {
     match name {
-        Named::Element(element) => constant(alloc, element),
-        Named::Variable(variable, width) => Ok(Ok(Valued {
+        Named::Element(element) => constant(element),
+        Named::Variable(variable, width) => Valued {
             width: width.bits(),
-            expression: Boxed::new(alloc, Expression::Variable(variable, width))?,
-        })),
-        Named::Received(channel, width) => Ok(Ok(Valued {
+            expression: Expression::Variable(variable, width),
+        },
+        Named::Received(channel, width) => Valued {
             width: width.bits(),
-            expression: Boxed::new(alloc, Expression::Received(channel, width))?,
-        })),
+            expression: Expression::Received(channel, width),
+        },
     }
 }
 
@@ -168,15 +161,17 @@ fn binary(
 fn combined(
     alloc: Global,
     operator: Operator,
-    left: Boxed<Expression>,
-    right: Boxed<Expression>,
+    left: Expression,
+    right: Expression,
     width: u8,
 ) -> Settled<Valued>
     ensures { IfOk result (λ made.
         made ≡ Ok (record { expression = typed.Binary operator left right; width = width })) }
 {
+    let left = Boxed::new(alloc, left)?;
+    let right = Boxed::new(alloc, right)?;
     Ok(Ok(Valued {
-        expression: Boxed::new(alloc, Expression::Binary(operator, left, right))?,
+        expression: Expression::Binary(operator, left, right),
         width,
     }))
 }
@@ -187,7 +182,7 @@ fn complement(alloc: Global, operand: Verdict<Valued>) -> Settled<Valued>
     match operand {
         Ok(operand) => Ok(Ok(Valued {
             width: operand.width,
-            expression: Boxed::new(alloc, Expression::Not(operand.expression))?,
+            expression: Expression::Not(Boxed::new(alloc, operand.expression)?),
         })),
         Err(fault) => Ok(Err(fault)),
     }
@@ -200,7 +195,7 @@ fn cast(alloc: Global, operand: Verdict<Valued>, width: Verdict<Width>) -> Settl
     match both(operand, width) {
         Ok((operand, width)) => Ok(Ok(Valued {
             width: width.bits(),
-            expression: Boxed::new(alloc, Expression::Cast(operand.expression, width))?,
+            expression: Expression::Cast(Boxed::new(alloc, operand.expression)?, width),
         })),
         Err(fault) => Ok(Err(fault)),
     }

@@ -96,7 +96,7 @@ pub(crate) fn assignment(
     if value.width > width.bits() {
         return Err(Fault::TooWide(value_start));
     }
-    Ok(Action::Assign(variable, width, value.expression.into_inner()))
+    Ok(Action::Assign(variable, width, value.expression))
 }
 
 #[tactic(auto, unfolding(crate::specs::Commands::sending))]
@@ -111,7 +111,7 @@ pub(crate) fn sending(
     if value.width > width.bits() {
         return Err(Fault::TooWide(value_start));
     }
-    Ok(Action::Send(channel, width, value.expression.into_inner()))
+    Ok(Action::Send(channel, width, value.expression))
 }
 
 #[tactic(auto, unfolding(crate::specs::Commands::receiving))]
@@ -140,7 +140,7 @@ pub(crate) fn guarded_loop(
     if guard.width != 1 {
         return Err(Fault::GuardNotOneBit(guard_start));
     }
-    Ok(Action::While(guard.expression.into_inner(), body))
+    Ok(Action::While(guard.expression, body))
 }
 
 #[tactic(auto, unfolding(crate::specs::Commands::enclosing))]

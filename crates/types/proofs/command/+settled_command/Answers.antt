@@ -1,5 +1,6 @@
 -- What the arms of `if` and `case` owe, of right arms alone; and lists, with one part more.
-use Rattle.std.proofs.Common.{◌∙◌}
+use Rattle.std.proofs.Common.{◌≡◌, ◌∙◌, subst}
+use Rattle.std.specs.Prelude.{IfOk}
 use Rattle.types.specs.Commands.{Judged, judged_command}
 use Rattle.types.specs.internal.CommandParts.{judged_arm}
 use Rattle.types.specs.internal.Least.{least}
@@ -19,9 +20,9 @@ settled_if-returns t c =
 
 pub settled_case-returns : goal.settled_case-returns
 settled_case-returns t c =
-    c.cased.ensures
-    ∙ case_is (scope_of c.args.scope.now) c.args.opened.now c.args.arms.now c.in_ok-subject.subject _ c.width_of.result c.in_ok-arms.arms.arms c.in_ok-arms.arms.own c.args.last
-    c.in_ok-subject.ensures c.width_of.ensures c.in_ok-arms.ensures.arms c.in_ok-arms.ensures.own
+    let is = case_is (scope_of c.args.scope.now) c.args.opened.now c.args.arms.now c.in_ok-subject.subject _ c.width_of.result c.in_ok-arms.arms.arms c.in_ok-arms.arms.own c.args.last
+    c.in_ok-subject.ensures c.width_of.ensures c.in_ok-arms.ensures.arms c.in_ok-arms.ensures.own in
+    subst (λ owed. IfOk c.cased.result (λ made. made ≡ owed)) is c.cased.ensures
 
 pub settled_commands-loop-command-preserved : goal.settled_commands-loop-command-preserved
 settled_commands-loop-command-preserved t c =
