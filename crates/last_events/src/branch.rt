@@ -8,8 +8,8 @@ ghost use Rattle.last_events.specs.internal.Walks.{Related, AddedLast, AddedFrom
 
 use crate::children::is_first_child;
 use crate::inserts::insert_at;
-use crate::search::count_less;
-use crate::ways::{ends_at_branch, is_same, ordered, way_length};
+use crate::search::{count_less, count_less_near};
+use crate::ways::{end_number, ends_at_branch, is_same, ordered, way_length};
 use address::{Address, Entry};
 use std::alloc::{AllocError, Global};
 use std::marker::Model;
@@ -125,6 +125,7 @@ impl Seat {
     }
 
     /// The way to it.
+    #[inline]
     pub(crate) fn way(&self) -> &[Entry]
         ensures { result.now ≡ seat_way self.now }
     {
@@ -241,7 +242,8 @@ fn count_lesser(before: &[Seat], way: &[Entry]) -> usize
     ensures { Splits (map seat_way before.now) (ordered_of way.now) result }
 {
     if ends_at_branch(way) {
-        count_less(before, ordered(way))
+        let likely = before.len().saturating_sub(end_number(way));
+        count_less_near(before, ordered(way), likely)
     } else {
         before.len()
     }
@@ -264,6 +266,7 @@ fn remove_among(seats: &mut Vec<Seat>, place: &[Entry])
 }
 
 /// Whether there is something at this index that has this way.
+#[inline]
 fn has_way(seats: &[Seat], index: usize, way: &[Entry]) -> bool
     ensures yes { result ≡ true → HasSeat seats.now index way.now }
     ensures no { result ≡ false → HasSeat seats.now index way.now → ⊥ }
@@ -333,7 +336,11 @@ fn count_beside(seats: &[Seat], last: &Seat) -> usize
 {
     match last {
         Seat::Event(_, _) => seats.len() - 1,
-        Seat::Inner(_, _) => count_less(seats, ordered(last.way())),
+        Seat::Inner(way, _) => {
+            let others = seats.len().saturating_sub(1);
+            let likely = others.saturating_sub(end_number(way.entries()));
+            count_less_near(seats, ordered(last.way()), likely)
+        }
     }
 }
 

@@ -21,6 +21,7 @@ pub(crate) trait Placed {
 impl Placed for Seat {
     ghost place = { λ seat. seat_way seat };
 
+    #[inline]
     fn place(&self) -> &[Entry] {
         self.way()
     }
@@ -37,7 +38,7 @@ pub(crate) fn count_less<T: Placed>(seats: &[T], place: &[Entry]) -> usize
         return 0;
     }
     let count = seats.len();
-    let index = likely_index(count, place);
+    let index = likely_index(seats, place);
     if is_at(seats, index, place) {
         return index;
     }
@@ -51,13 +52,46 @@ pub(crate) fn count_less<T: Placed>(seats: &[T], place: &[Entry]) -> usize
     count_by_halves(seats, place)
 }
 
-/// Where this place stands most likely among so many: behind a branch number where that branch stands if each before it
-/// has events, else at the end.
-fn likely_index(count: usize, place: &[Entry]) -> usize {
-    match place.first() {
-        Some(Entry::Branch(number)) => *number as usize,
-        _ => count.saturating_sub(1),
+/// Where this place stands most likely: a branch so far before the last one as its number is less, if each between has
+/// events, and anything else behind all.
+fn likely_index<T: Placed>(seats: &[T], place: &[Entry]) -> usize {
+    let count = seats.len();
+    let Some(last) = seats.last() else {
+        return count;
+    };
+    match (last.place().last(), place.last()) {
+        (Some(Entry::Branch(end)), Some(Entry::Branch(number))) => count
+            .saturating_sub(1)
+            .saturating_sub(end.saturating_sub(*number) as usize),
+        _ => count,
     }
+}
+
+/// The same, where most likely `likely` of them are.
+pub(crate) fn count_less_near<T: Placed>(seats: &[T], place: &[Entry], likely: usize) -> usize
+    requires { Rising (map T.place seats.now) }
+    ensures { Splits (map T.place seats.now) place.now result }
+{
+    if likely <= seats.len() && parts_at(seats, likely, place) {
+        return likely;
+    }
+    count_less(seats, place)
+}
+
+/// Whether the first so many of these places, which rise, are less than this one, and no others.
+fn parts_at<T: Placed>(seats: &[T], count: usize, place: &[Entry]) -> bool
+    requires rising { Rising (map T.place seats.now) }
+    requires within { count ≤ length seats.now }
+    ensures { result ≡ true → Splits (map T.place seats.now) place.now count }
+{
+    if !is_behind(seats, count, place) {
+        return false;
+    }
+    if count == seats.len() {
+        return true;
+    }
+    let next = count + 1;
+    !is_behind(seats, next, place)
 }
 
 /// Whether this place stands at the index, among places that rise. Then so many are less.

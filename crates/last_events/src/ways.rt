@@ -51,6 +51,14 @@ pub(crate) fn ends_at_branch(way: &[Entry]) -> bool
     }
 }
 
+/// The branch number at the end of a way: of so many other branches it stands behind, if each has events.
+pub(crate) fn end_number(way: &[Entry]) -> usize {
+    match way.last() {
+        Some(Entry::Branch(number)) => *number as usize,
+        _ => 0,
+    }
+}
+
 /// Whether both are the same entries. The last ones are looked at first, since two ways of one branch mostly differ
 /// there.
 pub(crate) fn is_same(one: &[Entry], other: &[Entry]) -> bool
@@ -70,6 +78,7 @@ pub(crate) fn is_same(one: &[Entry], other: &[Entry]) -> bool
 }
 
 /// Whether both are the same entry.
+#[inline]
 fn is_entry(one: Entry, other: Entry) -> bool
     ensures { IsTrue result ↔ (one ≡ other) }
 {
