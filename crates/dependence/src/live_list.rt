@@ -92,6 +92,7 @@ impl LiveList {
     }
 
     /// Where the live event of this ticket stands.
+    #[inline]
     pub(crate) fn index_of_live(&self, ticket: u64) -> usize
         requires { IsLive self.now.live ticket }
         ensures { StandsAt self.now.live ticket result }
@@ -164,6 +165,7 @@ impl LiveList {
     }
 
     /// The live event of this ticket.
+    #[inline]
     pub(crate) fn event_of(&self, ticket: u64) -> &Event
         requires { IsLive self.now.live ticket }
         ensures { LiveAt self.now.live ticket result.now }
@@ -173,6 +175,7 @@ impl LiveList {
     }
 
     /// The links of the live event of this ticket.
+    #[inline]
     pub(crate) fn links_of(&self, ticket: u64) -> &Links
         requires { IsLive self.now.live ticket }
         ensures { LinksOf self.now ticket result.now }
@@ -281,6 +284,7 @@ impl LiveList {
 }
 
 /// The place of the live event of this ticket.
+#[inline]
 fn place_of(slots: &Slots<Kept>, ticket: u64) -> usize
     requires rising { RiseFrom 0 slots.now.entries }
     requires live { IsLive (events_kept (filled slots.now.entries)) ticket }
@@ -293,6 +297,7 @@ fn place_of(slots: &Slots<Kept>, ticket: u64) -> usize
 }
 
 /// What is kept of the live event of this ticket.
+#[inline]
 fn kept_of(slots: &Slots<Kept>, ticket: u64) -> &Kept
     requires rising { RiseFrom 0 slots.now.entries }
     requires live { IsLive (events_kept (filled slots.now.entries)) ticket }

@@ -6,7 +6,6 @@ ghost use Rattle.last_events.specs.internal.Seats.{seat_way};
 
 use crate::branch::Seat;
 use crate::forks::{fork, is_less};
-use crate::ways::is_same;
 use address::Entry;
 
 /// What stands at a place.
@@ -27,9 +26,8 @@ impl Placed for Seat {
     }
 }
 
-/// How many of these places, which rise, are less than this one. Before the place of no entries there is none. It is
-/// looked first where the place stands most likely, then at the last two, since a new place is behind all others nearly
-/// always.
+/// How many of these places, which rise, are less than this one. Before the place of no entries there is none. The last
+/// two are looked at first, since a new place is behind all others nearly always.
 pub(crate) fn count_less<T: Placed>(seats: &[T], place: &[Entry]) -> usize
     requires { Rising (map T.place seats.now) }
     ensures { Splits (map T.place seats.now) place.now result }
@@ -38,10 +36,6 @@ pub(crate) fn count_less<T: Placed>(seats: &[T], place: &[Entry]) -> usize
         return 0;
     }
     let count = seats.len();
-    let index = likely_index(seats, place);
-    if is_at(seats, index, place) {
-        return index;
-    }
     if is_behind(seats, count, place) {
         return count;
     }
@@ -50,21 +44,6 @@ pub(crate) fn count_less<T: Placed>(seats: &[T], place: &[Entry]) -> usize
         return fewer;
     }
     count_by_halves(seats, place)
-}
-
-/// Where this place stands most likely: a branch so far before the last one as its number is less, if each between has
-/// events, and anything else behind all.
-fn likely_index<T: Placed>(seats: &[T], place: &[Entry]) -> usize {
-    let count = seats.len();
-    let Some(last) = seats.last() else {
-        return count;
-    };
-    match (last.place().last(), place.last()) {
-        (Some(Entry::Branch(end)), Some(Entry::Branch(number))) => count
-            .saturating_sub(1)
-            .saturating_sub(end.saturating_sub(*number) as usize),
-        _ => count,
-    }
 }
 
 /// The same, where most likely `likely` of them are.
@@ -94,20 +73,9 @@ fn parts_at<T: Placed>(seats: &[T], count: usize, place: &[Entry]) -> bool
     !is_behind(seats, next, place)
 }
 
-/// Whether this place stands at the index, among places that rise. Then so many are less.
-fn is_at<T: Placed>(seats: &[T], index: usize, place: &[Entry]) -> bool
-    requires { Rising (map T.place seats.now) }
-    ensures { result ≡ true → Splits (map T.place seats.now) place.now index }
-{
-    if index >= seats.len() {
-        return false;
-    }
-    let seat = seats[index].place();
-    is_same(seat, place)
-}
-
 /// Whether the first so many of these places, which rise, are less than this one. Else there is a last of them, and it
 /// is not.
+#[inline]
 fn is_behind<T: Placed>(seats: &[T], count: usize, place: &[Entry]) -> bool
     requires rising { Rising (map T.place seats.now) }
     requires within { count ≤ length seats.now }
