@@ -84,6 +84,7 @@ impl LiveList {
     }
 
     /// Where the event of this ticket stands.
+    #[inline]
     pub(crate) fn index_of(&self, ticket: u64) -> Option<usize>
         ensures { MatchOption result (NoneAt self.now.live ticket) (λ i. StandsAt self.now.live ticket i) }
     {
@@ -104,6 +105,7 @@ impl LiveList {
     }
 
     /// The ticket at an index.
+    #[inline]
     pub(crate) fn ticket_at(&self, index: usize) -> u64
         requires { index < length self.now.live }
         ensures { (e : Event) × (slice_get self.now.live index ≡ Some (result, e)) }
@@ -122,6 +124,7 @@ impl LiveList {
     }
 
     /// The links of the event at an index.
+    #[inline]
     pub(crate) fn links_at(&self, index: usize) -> &Links
         requires { index < length self.now.live }
         ensures { slice_get self.now.links index ≡ Some result.now }
@@ -131,6 +134,7 @@ impl LiveList {
     }
 
     /// The ticket and the links of the event at an index.
+    #[inline]
     pub(crate) fn linked_at(&self, index: usize) -> (u64, &Links)
         requires { index < length self.now.live }
         ensures ticket { (e : Event) × (slice_get self.now.live index ≡ Some (result.0, e)) }
@@ -141,6 +145,7 @@ impl LiveList {
     }
 
     /// The ticket, the event and the links at an index.
+    #[inline]
     fn kept_at(&self, index: usize) -> (u64, &Kept)
         requires { index < length self.now.live }
         ensures event { slice_get self.now.live index ≡ Some (result.0, result.1.now.event) }
