@@ -84,6 +84,7 @@ impl LiveList {
     }
 
     /// Where the event of this ticket stands.
+    #[inline]
     pub(crate) fn index_of(&self, ticket: u64) -> Option<usize>
         ensures { MatchOption result (NoneAt self.now.live ticket) (λ i. StandsAt self.now.live ticket i) }
     {
@@ -92,6 +93,7 @@ impl LiveList {
     }
 
     /// Where the live event of this ticket stands.
+    #[inline]
     pub(crate) fn index_of_live(&self, ticket: u64) -> usize
         requires { IsLive self.now.live ticket }
         ensures { StandsAt self.now.live ticket result }
@@ -103,6 +105,7 @@ impl LiveList {
     }
 
     /// The ticket at an index.
+    #[inline]
     pub(crate) fn ticket_at(&self, index: usize) -> u64
         requires { index < length self.now.live }
         ensures { (e : Event) × (slice_get self.now.live index ≡ Some (result, e)) }
@@ -121,6 +124,7 @@ impl LiveList {
     }
 
     /// The links of the event at an index.
+    #[inline]
     pub(crate) fn links_at(&self, index: usize) -> &Links
         requires { index < length self.now.live }
         ensures { slice_get self.now.links index ≡ Some result.now }
@@ -130,6 +134,7 @@ impl LiveList {
     }
 
     /// The ticket and the links of the event at an index.
+    #[inline]
     pub(crate) fn linked_at(&self, index: usize) -> (u64, &Links)
         requires { index < length self.now.live }
         ensures ticket { (e : Event) × (slice_get self.now.live index ≡ Some (result.0, e)) }
@@ -140,6 +145,7 @@ impl LiveList {
     }
 
     /// The ticket, the event and the links at an index.
+    #[inline]
     fn kept_at(&self, index: usize) -> (u64, &Kept)
         requires { index < length self.now.live }
         ensures event { slice_get self.now.live index ≡ Some (result.0, result.1.now.event) }
@@ -164,6 +170,7 @@ impl LiveList {
     }
 
     /// The live event of this ticket.
+    #[inline]
     pub(crate) fn event_of(&self, ticket: u64) -> &Event
         requires { IsLive self.now.live ticket }
         ensures { LiveAt self.now.live ticket result.now }
@@ -173,6 +180,7 @@ impl LiveList {
     }
 
     /// The links of the live event of this ticket.
+    #[inline]
     pub(crate) fn links_of(&self, ticket: u64) -> &Links
         requires { IsLive self.now.live ticket }
         ensures { LinksOf self.now ticket result.now }
@@ -281,6 +289,7 @@ impl LiveList {
 }
 
 /// The place of the live event of this ticket.
+#[inline]
 fn place_of(slots: &Slots<Kept>, ticket: u64) -> usize
     requires rising { RiseFrom 0 slots.now.entries }
     requires live { IsLive (events_kept (filled slots.now.entries)) ticket }
@@ -293,6 +302,7 @@ fn place_of(slots: &Slots<Kept>, ticket: u64) -> usize
 }
 
 /// What is kept of the live event of this ticket.
+#[inline]
 fn kept_of(slots: &Slots<Kept>, ticket: u64) -> &Kept
     requires rising { RiseFrom 0 slots.now.entries }
     requires live { IsLive (events_kept (filled slots.now.entries)) ticket }

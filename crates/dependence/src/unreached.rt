@@ -1,6 +1,6 @@
 // Which of some live events no other of them depends on, where a few looks along their followers tell it: as a rule
 // they do, and what lies between the events need not be swept.
-ghost use Rattle.std.specs.Prelude.{◌≡◌, ◌<◌, ◌↔◌, ◌-◌, ℕ, suc, length, true, false, Some, drop, slice_index, IfSome, IfOk, ◌&&◌};
+ghost use Rattle.std.specs.Prelude.{◌≡◌, [], ◌<◌, ◌↔◌, ◌-◌, ℕ, suc, length, true, false, Some, drop, slice_index, IfSome, IfOk, ◌&&◌};
 ghost use Rattle.std.specs.List.Sorted.{IsNonDecreasing};
 ghost use Rattle.syntax.specs.Lists.{In};
 ghost use Rattle.runs.specs.InOrder.{InOrder};
@@ -35,7 +35,7 @@ pub(crate) fn told_topmost(
         (t : ℕ) → In t kept.items ↔ Topmost list.now.live tickets.now t)) }
 {
     let last = tickets[tickets.len() - 1];
-    let mut kept = SmallVec::new(alloc);
+    let mut kept = room_for(alloc, tickets.len())?;
     let mut index = tickets.len();
     while index > 0 {
         index -= 1;
@@ -47,6 +47,16 @@ pub(crate) fn told_topmost(
         keep_if(both(is_top, is_new), ticket, &mut kept)?;
     }
     Ok(Some(kept))
+}
+
+/// Room for so many, where they are many: then mostly all of them are kept.
+fn room_for(alloc: Global, count: usize) -> Result<Leads, AllocError>
+    ensures { IfOk result (λ made. made.items ≡ []) }
+{
+    if count > MANY {
+        return SmallVec::with_capacity(alloc, count);
+    }
+    Ok(SmallVec::new(alloc))
 }
 
 /// Whether no other of these events, of which `last` is the last, depends on this one of them; `None` where a few looks

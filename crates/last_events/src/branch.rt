@@ -8,8 +8,8 @@ ghost use Rattle.last_events.specs.internal.Walks.{Related, AddedLast, AddedFrom
 
 use crate::children::is_first_child;
 use crate::inserts::insert_at;
-use crate::search::count_less;
-use crate::ways::{ends_at_branch, is_same, ordered, way_length};
+use crate::search::{count_less, count_less_near};
+use crate::ways::{end_number, ends_at_branch, is_same, ordered, way_length};
 use address::{Address, Entry};
 use std::alloc::{AllocError, Global};
 use std::marker::Model;
@@ -125,6 +125,7 @@ impl Seat {
     }
 
     /// The way to it.
+    #[inline]
     pub(crate) fn way(&self) -> &[Entry]
         ensures { result.now ≡ seat_way self.now }
     {
@@ -205,8 +206,8 @@ fn put_among(
     ensures refused { OnErr result (flat seats.new.items ≡ flat seats.old.items) }
 {
     let (way, rest) = place.split_at(way_length(place));
-    let index = count_less(seats.as_slice(), way);
-    if has_way(seats.as_slice(), index, way) {
+    let (index, is_there) = find_way(seats.as_slice(), way);
+    if is_there {
         let (before, behind) = seats.as_mut_slice().split_at_mut(index);
         let nearer = nearer(before, way, nearest);
         return behind[0].put(alloc, nearer, rest, ticket, found);
@@ -241,7 +242,8 @@ fn count_lesser(before: &[Seat], way: &[Entry]) -> usize
     ensures { Splits (map seat_way before.now) (ordered_of way.now) result }
 {
     if ends_at_branch(way) {
-        count_less(before, ordered(way))
+        let likely = before.len().saturating_sub(end_number(way));
+        count_less_near(before, ordered(way), likely)
     } else {
         before.len()
     }
@@ -255,15 +257,47 @@ fn remove_among(seats: &mut Vec<Seat>, place: &[Entry])
     ensures removed { RemovedAt (flat seats.old.items) place.now (flat seats.new.items) }
 {
     let (way, rest) = place.split_at(way_length(place));
-    let index = count_less(seats.as_slice(), way);
-    if has_way(seats.as_slice(), index, way) {
+    let (index, is_there) = find_way(seats.as_slice(), way);
+    if is_there {
         if seats[index].remove(rest) {
             seats.remove(index);
         }
     }
 }
 
+/// Behind how many of these a way stands or would stand, and whether it does.
+fn find_way(seats: &[Seat], way: &[Entry]) -> (usize, bool)
+    requires { IsBranch seats.now }
+    ensures splits { Splits (map seat_way seats.now) way.now result.0 }
+    ensures yes { result.1 ≡ true → HasSeat seats.now result.0 way.now }
+    ensures no { result.1 ≡ false → HasSeat seats.now result.0 way.now → ⊥ }
+{
+    let likely = likely_index(seats, way);
+    if has_way(seats, likely, way) {
+        return (likely, true);
+    }
+    let index = count_less(seats, way);
+    let is_there = has_way(seats, index, way);
+    (index, is_there)
+}
+
+/// Where a way stands most likely: a branch so far before the last one as its number is less, if each between has
+/// events, and anything else at the end.
+fn likely_index(seats: &[Seat], way: &[Entry]) -> usize {
+    let others = seats.len().saturating_sub(1);
+    let Some(last) = seats.last() else {
+        return others;
+    };
+    match (last.way().last(), way.last()) {
+        (Some(Entry::Branch(end)), Some(Entry::Branch(number))) => {
+            others.saturating_sub(end.saturating_sub(*number) as usize)
+        }
+        _ => others,
+    }
+}
+
 /// Whether there is something at this index that has this way.
+#[inline]
 fn has_way(seats: &[Seat], index: usize, way: &[Entry]) -> bool
     ensures yes { result ≡ true → HasSeat seats.now index way.now }
     ensures no { result ≡ false → HasSeat seats.now index way.now → ⊥ }
@@ -333,7 +367,11 @@ fn count_beside(seats: &[Seat], last: &Seat) -> usize
 {
     match last {
         Seat::Event(_, _) => seats.len() - 1,
-        Seat::Inner(_, _) => count_less(seats, ordered(last.way())),
+        Seat::Inner(way, _) => {
+            let others = seats.len().saturating_sub(1);
+            let likely = others.saturating_sub(end_number(way.entries()));
+            count_less_near(seats, ordered(last.way()), likely)
+        }
     }
 }
 
@@ -357,11 +395,11 @@ fn first_child_among(seats: &[Seat], place: &[Entry]) -> Option<u64>
     ensures { result ≡ ticket_at (flat seats.now) (first_child place.now) }
 {
     let (way, rest) = place.split_at(way_length(place));
-    let index = count_less(seats, way);
+    let (index, is_there) = find_way(seats, way);
     if !ends_at_branch(way) {
         return event_behind(seats, index, place);
     }
-    if !has_way(seats, index, way) {
+    if !is_there {
         return None;
     }
     match &seats[index] {

@@ -6,7 +6,6 @@ ghost use Rattle.last_events.specs.internal.Seats.{seat_way};
 
 use crate::branch::Seat;
 use crate::forks::{fork, is_less};
-use crate::ways::is_same;
 use address::Entry;
 
 /// What stands at a place.
@@ -21,14 +20,14 @@ pub(crate) trait Placed {
 impl Placed for Seat {
     ghost place = { λ seat. seat_way seat };
 
+    #[inline]
     fn place(&self) -> &[Entry] {
         self.way()
     }
 }
 
-/// How many of these places, which rise, are less than this one. Before the place of no entries there is none. It is
-/// looked first where the place stands most likely, then at the last two, since a new place is behind all others nearly
-/// always.
+/// How many of these places, which rise, are less than this one. Before the place of no entries there is none. The last
+/// two are looked at first, since a new place is behind all others nearly always.
 pub(crate) fn count_less<T: Placed>(seats: &[T], place: &[Entry]) -> usize
     requires { Rising (map T.place seats.now) }
     ensures { Splits (map T.place seats.now) place.now result }
@@ -37,10 +36,6 @@ pub(crate) fn count_less<T: Placed>(seats: &[T], place: &[Entry]) -> usize
         return 0;
     }
     let count = seats.len();
-    let index = likely_index(count, place);
-    if is_at(seats, index, place) {
-        return index;
-    }
     if is_behind(seats, count, place) {
         return count;
     }
@@ -51,29 +46,36 @@ pub(crate) fn count_less<T: Placed>(seats: &[T], place: &[Entry]) -> usize
     count_by_halves(seats, place)
 }
 
-/// Where this place stands most likely among so many: behind a branch number where that branch stands if each before it
-/// has events, else at the end.
-fn likely_index(count: usize, place: &[Entry]) -> usize {
-    match place.first() {
-        Some(Entry::Branch(number)) => *number as usize,
-        _ => count.saturating_sub(1),
+/// The same, where most likely `likely` of them are.
+pub(crate) fn count_less_near<T: Placed>(seats: &[T], place: &[Entry], likely: usize) -> usize
+    requires { Rising (map T.place seats.now) }
+    ensures { Splits (map T.place seats.now) place.now result }
+{
+    if likely <= seats.len() && parts_at(seats, likely, place) {
+        return likely;
     }
+    count_less(seats, place)
 }
 
-/// Whether this place stands at the index, among places that rise. Then so many are less.
-fn is_at<T: Placed>(seats: &[T], index: usize, place: &[Entry]) -> bool
-    requires { Rising (map T.place seats.now) }
-    ensures { result ≡ true → Splits (map T.place seats.now) place.now index }
+/// Whether the first so many of these places, which rise, are less than this one, and no others.
+fn parts_at<T: Placed>(seats: &[T], count: usize, place: &[Entry]) -> bool
+    requires rising { Rising (map T.place seats.now) }
+    requires within { count ≤ length seats.now }
+    ensures { result ≡ true → Splits (map T.place seats.now) place.now count }
 {
-    if index >= seats.len() {
+    if !is_behind(seats, count, place) {
         return false;
     }
-    let seat = seats[index].place();
-    is_same(seat, place)
+    if count == seats.len() {
+        return true;
+    }
+    let next = count + 1;
+    !is_behind(seats, next, place)
 }
 
 /// Whether the first so many of these places, which rise, are less than this one. Else there is a last of them, and it
 /// is not.
+#[inline]
 fn is_behind<T: Placed>(seats: &[T], count: usize, place: &[Entry]) -> bool
     requires rising { Rising (map T.place seats.now) }
     requires within { count ≤ length seats.now }

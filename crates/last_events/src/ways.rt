@@ -23,6 +23,7 @@ pub(crate) fn way_length(place: &[Entry]) -> usize
 }
 
 /// The ordered entries of a way.
+#[inline]
 pub(crate) fn ordered(way: &[Entry]) -> &[Entry]
     requires { IsWay way.now }
     ensures { result.now ≡ ordered_of way.now }
@@ -37,6 +38,7 @@ pub(crate) fn ordered(way: &[Entry]) -> &[Entry]
 }
 
 /// Whether a way ends with a branch number.
+#[inline]
 pub(crate) fn ends_at_branch(way: &[Entry]) -> bool
     requires { IsWay way.now }
     ensures event { result ≡ false → AllOrdered way.now }
@@ -51,8 +53,18 @@ pub(crate) fn ends_at_branch(way: &[Entry]) -> bool
     }
 }
 
+/// The branch number at the end of a way: of so many other branches it stands behind, if each has events.
+#[inline]
+pub(crate) fn end_number(way: &[Entry]) -> usize {
+    match way.last() {
+        Some(Entry::Branch(number)) => *number as usize,
+        _ => 0,
+    }
+}
+
 /// Whether both are the same entries. The last ones are looked at first, since two ways of one branch mostly differ
 /// there.
+#[inline]
 pub(crate) fn is_same(one: &[Entry], other: &[Entry]) -> bool
     ensures { IsTrue result ↔ (one.now ≡ other.now) }
 {
@@ -70,6 +82,7 @@ pub(crate) fn is_same(one: &[Entry], other: &[Entry]) -> bool
 }
 
 /// Whether both are the same entry.
+#[inline]
 fn is_entry(one: Entry, other: Entry) -> bool
     ensures { IsTrue result ↔ (one ≡ other) }
 {

@@ -15,35 +15,36 @@ use address::{Address, before};
 pub fn depends_directly(earlier: &Event, later: &Event) -> bool
     ensures { IsTrue result ↔ Directly earlier.now later.now }
 {
-    let by_place = some_before(earlier, later);
     let by_channel = on_one_channel(earlier, later);
     let by_writing = writes_for(earlier, later);
     let by_reading = writes_for(later, earlier);
-    by_place || by_channel || by_writing || by_reading
+    by_channel || by_writing || by_reading || some_before(earlier, later)
 }
 
 /// Whether an address of the first event is before an address of the second.
 pub fn some_before(earlier: &Event, later: &Event) -> bool
     ensures { IsTrue result ↔ SomeBefore earlier.now later.now }
 {
-    let first = before_some(&earlier.first, later);
-    let second = match &earlier.second {
+    if before_some(&earlier.first, later) {
+        return true;
+    }
+    match &earlier.second {
         Some(place) => before_some(place, later),
         None => false,
-    };
-    first || second
+    }
 }
 
 /// Whether the address is before one of the event's.
 fn before_some(place: &Address, later: &Event) -> bool
     ensures { IsTrue result ↔ ((b : Place) × In b (places later.now) × Before place.now b) }
 {
-    let first = before(place, &later.first);
-    let second = match &later.second {
+    if before(place, &later.first) {
+        return true;
+    }
+    match &later.second {
         Some(other) => before(place, other),
         None => false,
-    };
-    first || second
+    }
 }
 
 /// Whether both are on one channel.

@@ -9,6 +9,7 @@ pub(crate) const BLOCK: usize = 64;
 
 /// The place of the item at this index among those that are there, of which there are `count`. Where no place is empty
 /// it is the index, else it takes as long as to go through the counts.
+#[inline]
 pub fn place_at<T>(slots: &Slots<T>, counts: &[u8], count: usize, index: usize) -> usize
     requires counted { Counted slots.now.entries counts.now }
     requires count { count ≡ length (filled slots.now.entries) }
@@ -70,6 +71,7 @@ fn items_at<T>(slots: &Slots<T>, place: usize) -> usize
 }
 
 /// How many items are there before this place; there are `count` in all. It takes as long as `place_at`.
+#[inline]
 pub fn index_at<T>(slots: &Slots<T>, counts: &[u8], count: usize, place: usize) -> usize
     requires counted { Counted slots.now.entries counts.now }
     requires count { count ≡ length (filled slots.now.entries) }
@@ -81,19 +83,34 @@ pub fn index_at<T>(slots: &Slots<T>, counts: &[u8], count: usize, place: usize) 
     }
     let number = place / BLOCK;
     let start = BLOCK * number;
-    before_block(slots, counts, number) + between(slots, start, place)
+    before_block(slots, counts, count, number) + between(slots, start, place)
 }
 
-/// How many items are there before this block.
-fn before_block<T>(slots: &Slots<T>, counts: &[u8], number: usize) -> usize
+/// How many items are there before this block; there are `count` in all. The counts are gone through on the shorter side.
+fn before_block<T>(slots: &Slots<T>, counts: &[u8], count: usize, number: usize) -> usize
     requires counted { Counted slots.now.entries counts.now }
+    requires count { count ≡ length (filled slots.now.entries) }
     requires within { number ≤ length counts.now }
     ensures { result ≡ rank slots.now.entries (64 * number) }
+{
+    let blocks = counts.len();
+    if number <= blocks / 2 {
+        return in_blocks(slots, counts, 0, number);
+    }
+    count - in_blocks(slots, counts, number, blocks)
+}
+
+/// How many items the blocks have from one number on and before another.
+fn in_blocks<T>(slots: &Slots<T>, counts: &[u8], from: usize, to: usize) -> usize
+    requires counted { Counted slots.now.entries counts.now }
+    requires order { from ≤ to }
+    requires within { to ≤ length counts.now }
+    ensures { rank slots.now.entries (64 * from) + result ≡ rank slots.now.entries (64 * to) }
 {
     // The length is what says that the sum fits.
     let _len = slots.len();
     let mut sum = 0;
-    for at in 0..number {
+    for at in from..to {
         sum += counts[at] as usize;
     }
     sum

@@ -10,8 +10,8 @@ loop-index-init c =
     let ts : List ℕ = c.args.tickets.now in
     record {
       range = omega arith;
-      falling = subst (λ (k : List ℕ). Falling k) (sym c.new-kept.ensures.items) tt;
-      told = λ t. subst (λ (k : List ℕ). In t k ↔ (In t (drop (length ts) ts) × Topmost c.args.list.now.live ts t)) (sym c.new-kept.ensures.items)
+      falling = subst (λ (k : List ℕ). Falling k) (sym c.in_ok-kept.ensures) tt;
+      told = λ t. subst (λ (k : List ℕ). In t k ↔ (In t (drop (length ts) ts) × Topmost c.args.list.now.live ts t)) (sym c.in_ok-kept.ensures)
           (subst (λ (k : List ℕ). In t [] ↔ (In t k × Topmost c.args.list.now.live ts t)) (sym (drop-all ts (length ts) (omega arith))) ((λ i. absurd i), (λ k. k.0)));
     }
 

@@ -50,31 +50,31 @@ Seat::put-returns-in-Inner-clause-found t c =
 
 pub put_among-nearer-nearer-requires-clause-branch : goal.put_among-nearer-nearer-requires-clause-branch
 put_among-nearer-nearer-requires-clause-branch t c =
-    subst IsBranch (sym (c.split_at_mut-before.ensures.front ∙ ap (λ (ss : List Seat). take c.count_less-index.result ss) c.as_mut_slice.ensures.value))
-    (branch-taken c.args.seats.now.items c.count_less-index.result c.requires.branch)
+    subst IsBranch (sym (c.split_at_mut-before.ensures.front ∙ ap (λ (ss : List Seat). take c.find_way-index.result.0 ss) c.as_mut_slice.ensures.value))
+    (branch-taken c.args.seats.now.items c.find_way-index.result.0 c.requires.branch)
 
 pub put_among-nearer-nearer-requires-clause-way : goal.put_among-nearer-nearer-requires-clause-way
 put_among-nearer-nearer-requires-clause-way t c = is-way c.split_at.result.0.now _ c.args.place.now c.split_at.ensures.front c.way_length.ensures.way
 
 pub put_among-nearer-nearer-requires-clause-less : goal.put_among-nearer-nearer-requires-clause-less
 put_among-nearer-nearer-requires-clause-less t c =
-    less-before c.args.seats.now.items c.as_slice.result.now c.split_at_mut-before.result.0.now c.split_at.result.0.now c.count_less-index.result c.as_slice.ensures.value
-    c.count_less-index.ensures (c.split_at_mut-before.ensures.front ∙ ap (λ (ss : List Seat). take c.count_less-index.result ss) c.as_mut_slice.ensures.value)
+    less-before c.args.seats.now.items c.as_slice.result.now c.split_at_mut-before.result.0.now c.split_at.result.0.now c.find_way-index.result.0 c.as_slice.ensures.value
+    c.find_way-index.ensures.splits (c.split_at_mut-before.ensures.front ∙ ap (λ (ss : List Seat). take c.find_way-index.result.0 ss) c.as_mut_slice.ensures.value)
 
 pub put_among-bounds-behind-0 : goal.put_among-bounds-behind-0
 put_among-bounds-behind-0 t c =
-    let within = has-within c.as_slice-2.result.now c.count_less-index.result c.split_at.result.0.now (c.has_way.ensures.yes c.if-has_way.true) in
-    let one : length c.as_slice-2.result.now ≡ length c.args.seats.now.items = ap length c.as_slice-2.ensures.value in
+    let within = has-within c.as_slice.result.now c.find_way-index.result.0 c.split_at.result.0.now (c.find_way-index.ensures.yes c.if-is_there.true) in
+    let one : length c.as_slice.result.now ≡ length c.args.seats.now.items = ap length c.as_slice.ensures.value in
     let two : length c.as_mut_slice.result.now ≡ length c.args.seats.now.items = ap length c.as_mut_slice.ensures.value in
     omega (arith, within, one, two, c.split_at_mut-before.ensures.back_len)
 
 pub put_among-put-requires : goal.put_among-put-requires
 put_among-put-requires t c =
-    let st : Stands c.args.seats.now.items c.count_less-index.result (get_or c.split_at_mut-before.result.1.now 0 c.index-behind-0.result) c.args.place.now =
-    stands-behind c.args.seats.now.items c.as_slice-2.result.now c.split_at_mut-before.result.1.now c.count_less-index.result c.split_at.result.0.now _ c.args.place.now
-    c.index-behind-0.result c.as_slice-2.ensures.value c.split_at.ensures.front c.way_length.ensures.way (c.has_way.ensures.yes c.if-has_way.true)
-    (c.split_at_mut-before.ensures.back ∙ ap (λ (ss : List Seat). drop c.count_less-index.result ss) c.as_mut_slice.ensures.value) in
-    let sound = stands-sound c.args.seats.now.items c.count_less-index.result (get_or c.split_at_mut-before.result.1.now 0 c.index-behind-0.result) c.args.place.now c.requires.branch st in
+    let st : Stands c.args.seats.now.items c.find_way-index.result.0 (get_or c.split_at_mut-before.result.1.now 0 c.index-behind-0.result) c.args.place.now =
+    stands-behind c.args.seats.now.items c.as_slice.result.now c.split_at_mut-before.result.1.now c.find_way-index.result.0 c.split_at.result.0.now _ c.args.place.now
+    c.index-behind-0.result c.as_slice.ensures.value c.split_at.ensures.front c.way_length.ensures.way (c.find_way-index.ensures.yes c.if-is_there.true)
+    (c.split_at_mut-before.ensures.back ∙ ap (λ (ss : List Seat). drop c.find_way-index.result.0 ss) c.as_mut_slice.ensures.value) in
+    let sound = stands-sound c.args.seats.now.items c.find_way-index.result.0 (get_or c.split_at_mut-before.result.1.now 0 c.index-behind-0.result) c.args.place.now c.requires.branch st in
     let rest = c.split_at.ensures.back ∙ c.way_length.ensures.rest in
     let less = left-less (get_or c.split_at_mut-before.result.1.now 0 c.index-behind-0.result) c.args.place.now c.split_at.result.1.now sound st.way rest in (
       omega (arith, less, c.decreases),
@@ -83,124 +83,124 @@ put_among-put-requires t c =
         (
           subst (λ (r : List Entry). FitsBehind (get_or c.split_at_mut-before.result.1.now 0 c.index-behind-0.result) r) (sym rest) (fits-behind (get_or c.split_at_mut-before.result.1.now 0 c.index-behind-0.result) c.args.place.now sound st.way),
           (
-            group-near c.args.seats.now.items c.as_slice.result.now c.split_at.result.0.now _ c.args.place.now c.count_less-index.result c.split_at_mut-before.result.0.now
-                c.args.nearest.now c.nearer-nearer.result.now c.requires.branch c.as_slice.ensures.value c.split_at.ensures.front c.way_length.ensures.way c.count_less-index.ensures
-                (c.split_at_mut-before.ensures.front ∙ ap (λ (ss : List Seat). take c.count_less-index.result ss) c.as_mut_slice.ensures.value) c.nearer-nearer.ensures
+            group-near c.args.seats.now.items c.as_slice.result.now c.split_at.result.0.now _ c.args.place.now c.find_way-index.result.0 c.split_at_mut-before.result.0.now
+                c.args.nearest.now c.nearer-nearer.result.now c.requires.branch c.as_slice.ensures.value c.split_at.ensures.front c.way_length.ensures.way c.find_way-index.ensures.splits
+                (c.split_at_mut-before.ensures.front ∙ ap (λ (ss : List Seat). take c.find_way-index.result.0 ss) c.as_mut_slice.ensures.value) c.nearer-nearer.ensures
                 c.requires.nearest c.requires.orderly.inside,
-            orderly-seat c.args.seats.now.items c.count_less-index.result (get_or c.split_at_mut-before.result.1.now 0 c.index-behind-0.result) c.args.place.now c.requires.branch st _
+            orderly-seat c.args.seats.now.items c.find_way-index.result.0 (get_or c.split_at_mut-before.result.1.now 0 c.index-behind-0.result) c.args.place.now c.requires.branch st _
                 (whole-place (get_or c.split_at_mut-before.result.1.now 0 c.index-behind-0.result) c.args.place.now c.split_at.result.1.now st.way rest) c.requires.orderly,
           ),
         ),
       ),
     )
 
-pub put_among-returns-then-has_way-clause-branch : goal.put_among-returns-then-has_way-clause-branch
-put_among-returns-then-has_way-clause-branch t c =
-    let st : Stands c.args.seats.now.items c.count_less-index.result (get_or c.split_at_mut-before.result.1.now 0 c.index-behind-0.result) c.args.place.now =
-    stands-behind c.args.seats.now.items c.as_slice-2.result.now c.split_at_mut-before.result.1.now c.count_less-index.result c.split_at.result.0.now _ c.args.place.now
-    c.index-behind-0.result c.as_slice-2.ensures.value c.split_at.ensures.front c.way_length.ensures.way (c.has_way.ensures.yes c.if-has_way.true)
-    (c.split_at_mut-before.ensures.back ∙ ap (λ (ss : List Seat). drop c.count_less-index.result ss) c.as_mut_slice.ensures.value) in
+pub put_among-returns-then-is_there-clause-branch : goal.put_among-returns-then-is_there-clause-branch
+put_among-returns-then-is_there-clause-branch t c =
+    let st : Stands c.args.seats.now.items c.find_way-index.result.0 (get_or c.split_at_mut-before.result.1.now 0 c.index-behind-0.result) c.args.place.now =
+    stands-behind c.args.seats.now.items c.as_slice.result.now c.split_at_mut-before.result.1.now c.find_way-index.result.0 c.split_at.result.0.now _ c.args.place.now
+    c.index-behind-0.result c.as_slice.ensures.value c.split_at.ensures.front c.way_length.ensures.way (c.find_way-index.ensures.yes c.if-is_there.true)
+    (c.split_at_mut-before.ensures.back ∙ ap (λ (ss : List Seat). drop c.find_way-index.result.0 ss) c.as_mut_slice.ensures.value) in
     let changed =
-    set-behind c.args.seats.now.items c.split_at_mut-before.result.0.now c.split_at_mut-before.result.1.now c.count_less-index.result c.args.seats.now.len c.put.new.self
-    (c.split_at_mut-before.ensures.front ∙ ap (λ (ss : List Seat). take c.count_less-index.result ss) c.as_mut_slice.ensures.value)
-    (c.split_at_mut-before.ensures.back ∙ ap (λ (ss : List Seat). drop c.count_less-index.result ss) c.as_mut_slice.ensures.value) st.within
+    set-behind c.args.seats.now.items c.split_at_mut-before.result.0.now c.split_at_mut-before.result.1.now c.find_way-index.result.0 c.args.seats.now.len c.put.new.self
+    (c.split_at_mut-before.ensures.front ∙ ap (λ (ss : List Seat). take c.find_way-index.result.0 ss) c.as_mut_slice.ensures.value)
+    (c.split_at_mut-before.ensures.back ∙ ap (λ (ss : List Seat). drop c.find_way-index.result.0 ss) c.as_mut_slice.ensures.value) st.within
     (sym c.as_mut_slice.ensures.len ∙ ap length c.as_mut_slice.ensures.value) in
     let rest = c.split_at.ensures.back ∙ c.way_length.ensures.rest in
     subst IsBranch (sym changed)
-    (kept-branch c.args.seats.now.items c.count_less-index.result (get_or c.split_at_mut-before.result.1.now 0 c.index-behind-0.result) c.put.new.self c.args.place.now c.split_at.result.1.now c.requires.branch st rest c.put.ensures.sound c.put.ensures.way)
+    (kept-branch c.args.seats.now.items c.find_way-index.result.0 (get_or c.split_at_mut-before.result.1.now 0 c.index-behind-0.result) c.put.new.self c.args.place.now c.split_at.result.1.now c.requires.branch st rest c.put.ensures.sound c.put.ensures.way)
 
-pub put_among-returns-then-has_way-clause-put : goal.put_among-returns-then-has_way-clause-put
-put_among-returns-then-has_way-clause-put t c =
-    let st : Stands c.args.seats.now.items c.count_less-index.result (get_or c.split_at_mut-before.result.1.now 0 c.index-behind-0.result) c.args.place.now =
-    stands-behind c.args.seats.now.items c.as_slice-2.result.now c.split_at_mut-before.result.1.now c.count_less-index.result c.split_at.result.0.now _ c.args.place.now
-    c.index-behind-0.result c.as_slice-2.ensures.value c.split_at.ensures.front c.way_length.ensures.way (c.has_way.ensures.yes c.if-has_way.true)
-    (c.split_at_mut-before.ensures.back ∙ ap (λ (ss : List Seat). drop c.count_less-index.result ss) c.as_mut_slice.ensures.value) in
+pub put_among-returns-then-is_there-clause-put : goal.put_among-returns-then-is_there-clause-put
+put_among-returns-then-is_there-clause-put t c =
+    let st : Stands c.args.seats.now.items c.find_way-index.result.0 (get_or c.split_at_mut-before.result.1.now 0 c.index-behind-0.result) c.args.place.now =
+    stands-behind c.args.seats.now.items c.as_slice.result.now c.split_at_mut-before.result.1.now c.find_way-index.result.0 c.split_at.result.0.now _ c.args.place.now
+    c.index-behind-0.result c.as_slice.ensures.value c.split_at.ensures.front c.way_length.ensures.way (c.find_way-index.ensures.yes c.if-is_there.true)
+    (c.split_at_mut-before.ensures.back ∙ ap (λ (ss : List Seat). drop c.find_way-index.result.0 ss) c.as_mut_slice.ensures.value) in
     let changed =
-    set-behind c.args.seats.now.items c.split_at_mut-before.result.0.now c.split_at_mut-before.result.1.now c.count_less-index.result c.args.seats.now.len c.put.new.self
-    (c.split_at_mut-before.ensures.front ∙ ap (λ (ss : List Seat). take c.count_less-index.result ss) c.as_mut_slice.ensures.value)
-    (c.split_at_mut-before.ensures.back ∙ ap (λ (ss : List Seat). drop c.count_less-index.result ss) c.as_mut_slice.ensures.value) st.within
+    set-behind c.args.seats.now.items c.split_at_mut-before.result.0.now c.split_at_mut-before.result.1.now c.find_way-index.result.0 c.args.seats.now.len c.put.new.self
+    (c.split_at_mut-before.ensures.front ∙ ap (λ (ss : List Seat). take c.find_way-index.result.0 ss) c.as_mut_slice.ensures.value)
+    (c.split_at_mut-before.ensures.back ∙ ap (λ (ss : List Seat). drop c.find_way-index.result.0 ss) c.as_mut_slice.ensures.value) st.within
     (sym c.as_mut_slice.ensures.len ∙ ap length c.as_mut_slice.ensures.value) in
     let rest = c.split_at.ensures.back ∙ c.way_length.ensures.rest in
     on-ok c.put.result
     (λ put. subst (λ (ss : List Seat). PutAt (flat c.args.seats.now.items) c.args.place.now c.args.ticket (flat ss)) (sym changed)
-    (kept-put c.args.seats.now.items c.count_less-index.result (get_or c.split_at_mut-before.result.1.now 0 c.index-behind-0.result) c.put.new.self c.args.place.now c.split_at.result.1.now c.requires.branch st rest c.args.ticket put))
+    (kept-put c.args.seats.now.items c.find_way-index.result.0 (get_or c.split_at_mut-before.result.1.now 0 c.index-behind-0.result) c.put.new.self c.args.place.now c.split_at.result.1.now c.requires.branch st rest c.args.ticket put))
     c.put.ensures.put
 
-pub put_among-returns-then-has_way-clause-refused : goal.put_among-returns-then-has_way-clause-refused
-put_among-returns-then-has_way-clause-refused t c =
-    let st : Stands c.args.seats.now.items c.count_less-index.result (get_or c.split_at_mut-before.result.1.now 0 c.index-behind-0.result) c.args.place.now =
-    stands-behind c.args.seats.now.items c.as_slice-2.result.now c.split_at_mut-before.result.1.now c.count_less-index.result c.split_at.result.0.now _ c.args.place.now
-    c.index-behind-0.result c.as_slice-2.ensures.value c.split_at.ensures.front c.way_length.ensures.way (c.has_way.ensures.yes c.if-has_way.true)
-    (c.split_at_mut-before.ensures.back ∙ ap (λ (ss : List Seat). drop c.count_less-index.result ss) c.as_mut_slice.ensures.value) in
+pub put_among-returns-then-is_there-clause-refused : goal.put_among-returns-then-is_there-clause-refused
+put_among-returns-then-is_there-clause-refused t c =
+    let st : Stands c.args.seats.now.items c.find_way-index.result.0 (get_or c.split_at_mut-before.result.1.now 0 c.index-behind-0.result) c.args.place.now =
+    stands-behind c.args.seats.now.items c.as_slice.result.now c.split_at_mut-before.result.1.now c.find_way-index.result.0 c.split_at.result.0.now _ c.args.place.now
+    c.index-behind-0.result c.as_slice.ensures.value c.split_at.ensures.front c.way_length.ensures.way (c.find_way-index.ensures.yes c.if-is_there.true)
+    (c.split_at_mut-before.ensures.back ∙ ap (λ (ss : List Seat). drop c.find_way-index.result.0 ss) c.as_mut_slice.ensures.value) in
     let changed =
-    set-behind c.args.seats.now.items c.split_at_mut-before.result.0.now c.split_at_mut-before.result.1.now c.count_less-index.result c.args.seats.now.len c.put.new.self
-    (c.split_at_mut-before.ensures.front ∙ ap (λ (ss : List Seat). take c.count_less-index.result ss) c.as_mut_slice.ensures.value)
-    (c.split_at_mut-before.ensures.back ∙ ap (λ (ss : List Seat). drop c.count_less-index.result ss) c.as_mut_slice.ensures.value) st.within
+    set-behind c.args.seats.now.items c.split_at_mut-before.result.0.now c.split_at_mut-before.result.1.now c.find_way-index.result.0 c.args.seats.now.len c.put.new.self
+    (c.split_at_mut-before.ensures.front ∙ ap (λ (ss : List Seat). take c.find_way-index.result.0 ss) c.as_mut_slice.ensures.value)
+    (c.split_at_mut-before.ensures.back ∙ ap (λ (ss : List Seat). drop c.find_way-index.result.0 ss) c.as_mut_slice.ensures.value) st.within
     (sym c.as_mut_slice.ensures.len ∙ ap length c.as_mut_slice.ensures.value) in
     let rest = c.split_at.ensures.back ∙ c.way_length.ensures.rest in
     err-on c.put.result
     (λ same. ap flat changed
-    ∙ kept-same c.args.seats.now.items c.count_less-index.result (get_or c.split_at_mut-before.result.1.now 0 c.index-behind-0.result) c.put.new.self c.args.place.now c.split_at.result.1.now c.requires.branch st rest same)
+    ∙ kept-same c.args.seats.now.items c.find_way-index.result.0 (get_or c.split_at_mut-before.result.1.now 0 c.index-behind-0.result) c.put.new.self c.args.place.now c.split_at.result.1.now c.requires.branch st rest same)
     c.put.ensures.refused
 
-pub put_among-returns-then-has_way-clause-found : goal.put_among-returns-then-has_way-clause-found
-put_among-returns-then-has_way-clause-found t c =
-    let st : Stands c.args.seats.now.items c.count_less-index.result (get_or c.split_at_mut-before.result.1.now 0 c.index-behind-0.result) c.args.place.now =
-    stands-behind c.args.seats.now.items c.as_slice-2.result.now c.split_at_mut-before.result.1.now c.count_less-index.result c.split_at.result.0.now _ c.args.place.now
-    c.index-behind-0.result c.as_slice-2.ensures.value c.split_at.ensures.front c.way_length.ensures.way (c.has_way.ensures.yes c.if-has_way.true)
-    (c.split_at_mut-before.ensures.back ∙ ap (λ (ss : List Seat). drop c.count_less-index.result ss) c.as_mut_slice.ensures.value) in
+pub put_among-returns-then-is_there-clause-found : goal.put_among-returns-then-is_there-clause-found
+put_among-returns-then-is_there-clause-found t c =
+    let st : Stands c.args.seats.now.items c.find_way-index.result.0 (get_or c.split_at_mut-before.result.1.now 0 c.index-behind-0.result) c.args.place.now =
+    stands-behind c.args.seats.now.items c.as_slice.result.now c.split_at_mut-before.result.1.now c.find_way-index.result.0 c.split_at.result.0.now _ c.args.place.now
+    c.index-behind-0.result c.as_slice.ensures.value c.split_at.ensures.front c.way_length.ensures.way (c.find_way-index.ensures.yes c.if-is_there.true)
+    (c.split_at_mut-before.ensures.back ∙ ap (λ (ss : List Seat). drop c.find_way-index.result.0 ss) c.as_mut_slice.ensures.value) in
     on-ok c.put.result
-    (found-seat c.args.seats.now.items c.as_slice.result.now c.split_at.result.0.now _ c.args.place.now c.count_less-index.result c.split_at_mut-before.result.0.now
-    c.args.nearest.now c.nearer-nearer.result.now c.requires.branch c.as_slice.ensures.value c.split_at.ensures.front c.way_length.ensures.way c.count_less-index.ensures
-    (c.split_at_mut-before.ensures.front ∙ ap (λ (ss : List Seat). take c.count_less-index.result ss) c.as_mut_slice.ensures.value) c.nearer-nearer.ensures
+    (found-seat c.args.seats.now.items c.as_slice.result.now c.split_at.result.0.now _ c.args.place.now c.find_way-index.result.0 c.split_at_mut-before.result.0.now
+    c.args.nearest.now c.nearer-nearer.result.now c.requires.branch c.as_slice.ensures.value c.split_at.ensures.front c.way_length.ensures.way c.find_way-index.ensures.splits
+    (c.split_at_mut-before.ensures.front ∙ ap (λ (ss : List Seat). take c.find_way-index.result.0 ss) c.as_mut_slice.ensures.value) c.nearer-nearer.ensures
     (get_or c.split_at_mut-before.result.1.now 0 c.index-behind-0.result) _ c.args.found.now.items c.put.new.found.items c.requires.orderly st
-    (stands-sound c.args.seats.now.items c.count_less-index.result (get_or c.split_at_mut-before.result.1.now 0 c.index-behind-0.result) c.args.place.now c.requires.branch st)
+    (stands-sound c.args.seats.now.items c.find_way-index.result.0 (get_or c.split_at_mut-before.result.1.now 0 c.index-behind-0.result) c.args.place.now c.requires.branch st)
     (whole-place (get_or c.split_at_mut-before.result.1.now 0 c.index-behind-0.result) c.args.place.now c.split_at.result.1.now st.way (c.split_at.ensures.back ∙ c.way_length.ensures.rest)))
     c.put.ensures.found
 
 pub put_among-nearer-requires-clause-branch : goal.put_among-nearer-requires-clause-branch
 put_among-nearer-requires-clause-branch t c =
-    subst IsBranch (sym (c.split_at-2.ensures.front ∙ ap (λ (ss : List Seat). take c.count_less-index.result ss) c.as_slice-3.ensures.value))
-    (branch-taken c.args.seats.now.items c.count_less-index.result c.requires.branch)
+    subst IsBranch (sym (c.split_at-2.ensures.front ∙ ap (λ (ss : List Seat). take c.find_way-index.result.0 ss) c.as_slice-2.ensures.value))
+    (branch-taken c.args.seats.now.items c.find_way-index.result.0 c.requires.branch)
 
 pub put_among-nearer-requires-clause-way : goal.put_among-nearer-requires-clause-way
 put_among-nearer-requires-clause-way t c = is-way c.split_at.result.0.now _ c.args.place.now c.split_at.ensures.front c.way_length.ensures.way
 
 pub put_among-nearer-requires-clause-less : goal.put_among-nearer-requires-clause-less
 put_among-nearer-requires-clause-less t c =
-    less-before c.args.seats.now.items c.as_slice.result.now c.split_at-2.result.0.now c.split_at.result.0.now c.count_less-index.result c.as_slice.ensures.value
-    c.count_less-index.ensures (c.split_at-2.ensures.front ∙ ap (λ (ss : List Seat). take c.count_less-index.result ss) c.as_slice-3.ensures.value)
+    less-before c.args.seats.now.items c.as_slice.result.now c.split_at-2.result.0.now c.split_at.result.0.now c.find_way-index.result.0 c.as_slice.ensures.value
+    c.find_way-index.ensures.splits (c.split_at-2.ensures.front ∙ ap (λ (ss : List Seat). take c.find_way-index.result.0 ss) c.as_slice-2.ensures.value)
 
 pub put_among-add_last_among-requires-clause-branch : goal.put_among-add_last_among-requires-clause-branch
 put_among-add_last_among-requires-clause-branch t c =
-    (group-near c.args.seats.now.items c.as_slice.result.now c.split_at.result.0.now _ c.args.place.now c.count_less-index.result c.split_at-2.result.0.now
-    c.args.nearest.now c.nearer.result.now c.requires.branch c.as_slice.ensures.value c.split_at.ensures.front c.way_length.ensures.way c.count_less-index.ensures
-    (c.split_at-2.ensures.front ∙ ap (λ (ss : List Seat). take c.count_less-index.result ss) c.as_slice-3.ensures.value) c.nearer.ensures
+    (group-near c.args.seats.now.items c.as_slice.result.now c.split_at.result.0.now _ c.args.place.now c.find_way-index.result.0 c.split_at-2.result.0.now
+    c.args.nearest.now c.nearer.result.now c.requires.branch c.as_slice.ensures.value c.split_at.ensures.front c.way_length.ensures.way c.find_way-index.ensures.splits
+    (c.split_at-2.ensures.front ∙ ap (λ (ss : List Seat). take c.find_way-index.result.0 ss) c.as_slice-2.ensures.value) c.nearer.ensures
     c.requires.nearest c.requires.orderly.inside).branch
 
 pub put_among-add_last_among-requires-clause-related : goal.put_among-add_last_among-requires-clause-related
 put_among-add_last_among-requires-clause-related t c =
-    (group-near c.args.seats.now.items c.as_slice.result.now c.split_at.result.0.now _ c.args.place.now c.count_less-index.result c.split_at-2.result.0.now
-    c.args.nearest.now c.nearer.result.now c.requires.branch c.as_slice.ensures.value c.split_at.ensures.front c.way_length.ensures.way c.count_less-index.ensures
-    (c.split_at-2.ensures.front ∙ ap (λ (ss : List Seat). take c.count_less-index.result ss) c.as_slice-3.ensures.value) c.nearer.ensures
+    (group-near c.args.seats.now.items c.as_slice.result.now c.split_at.result.0.now _ c.args.place.now c.find_way-index.result.0 c.split_at-2.result.0.now
+    c.args.nearest.now c.nearer.result.now c.requires.branch c.as_slice.ensures.value c.split_at.ensures.front c.way_length.ensures.way c.find_way-index.ensures.splits
+    (c.split_at-2.ensures.front ∙ ap (λ (ss : List Seat). take c.find_way-index.result.0 ss) c.as_slice-2.ensures.value) c.nearer.ensures
     c.requires.nearest c.requires.orderly.inside).related
 
 pub put_among-returns-clause-branch : goal.put_among-returns-clause-branch
 put_among-returns-clause-branch t c =
-    inserted-branch c.args.seats.now.items c.as_slice.result.now c.as_slice-2.result.now c.insert_at.new.items.items c.split_at.result.0.now _ c.args.place.now c.count_less-index.result _
-    c.args.ticket c.requires.branch c.as_slice.ensures.value c.as_slice-2.ensures.value c.split_at.ensures.front c.way_length.ensures.way c.count_less-index.ensures
-    (c.has_way.ensures.no c.if-has_way.false) c.in_ok-seat.ensures c.in_ok-insert_at.ensures.put
+    inserted-branch c.args.seats.now.items c.as_slice.result.now c.as_slice.result.now c.insert_at.new.items.items c.split_at.result.0.now _ c.args.place.now c.find_way-index.result.0 _
+    c.args.ticket c.requires.branch c.as_slice.ensures.value c.as_slice.ensures.value c.split_at.ensures.front c.way_length.ensures.way c.find_way-index.ensures.splits
+    (c.find_way-index.ensures.no c.if-is_there.false) c.in_ok-seat.ensures c.in_ok-insert_at.ensures.put
 
 pub put_among-returns-clause-put : goal.put_among-returns-clause-put
 put_among-returns-clause-put t c =
-    inserted-put c.args.seats.now.items c.as_slice.result.now c.as_slice-2.result.now c.insert_at.new.items.items c.split_at.result.0.now _ c.args.place.now c.count_less-index.result _
-    c.args.ticket c.requires.branch c.as_slice.ensures.value c.as_slice-2.ensures.value c.split_at.ensures.front c.way_length.ensures.way c.count_less-index.ensures
-    (c.has_way.ensures.no c.if-has_way.false) c.in_ok-seat.ensures c.in_ok-insert_at.ensures.put
+    inserted-put c.args.seats.now.items c.as_slice.result.now c.as_slice.result.now c.insert_at.new.items.items c.split_at.result.0.now _ c.args.place.now c.find_way-index.result.0 _
+    c.args.ticket c.requires.branch c.as_slice.ensures.value c.as_slice.ensures.value c.split_at.ensures.front c.way_length.ensures.way c.find_way-index.ensures.splits
+    (c.find_way-index.ensures.no c.if-is_there.false) c.in_ok-seat.ensures c.in_ok-insert_at.ensures.put
 
 pub put_among-returns-clause-found : goal.put_among-returns-clause-found
 put_among-returns-clause-found t c =
-    found-none c.args.seats.now.items c.as_slice.result.now c.split_at.result.0.now _ c.args.place.now c.count_less-index.result c.split_at-2.result.0.now
-    c.args.nearest.now c.nearer.result.now c.requires.branch c.as_slice.ensures.value c.split_at.ensures.front c.way_length.ensures.way c.count_less-index.ensures
-    (c.split_at-2.ensures.front ∙ ap (λ (ss : List Seat). take c.count_less-index.result ss) c.as_slice-3.ensures.value) c.nearer.ensures
-    c.as_slice-2.result.now c.args.found.now.items c.add_last_among.new.found.items c.as_slice-2.ensures.value (c.has_way.ensures.no c.if-has_way.false)
+    found-none c.args.seats.now.items c.as_slice.result.now c.split_at.result.0.now _ c.args.place.now c.find_way-index.result.0 c.split_at-2.result.0.now
+    c.args.nearest.now c.nearer.result.now c.requires.branch c.as_slice.ensures.value c.split_at.ensures.front c.way_length.ensures.way c.find_way-index.ensures.splits
+    (c.split_at-2.ensures.front ∙ ap (λ (ss : List Seat). take c.find_way-index.result.0 ss) c.as_slice-2.ensures.value) c.nearer.ensures
+    c.as_slice.result.now c.args.found.now.items c.add_last_among.new.found.items c.as_slice.ensures.value (c.find_way-index.ensures.no c.if-is_there.false)
     c.requires.orderly c.in_ok-add_last_among.ensures

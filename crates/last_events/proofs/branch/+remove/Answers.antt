@@ -17,10 +17,10 @@ Seat::remove-returns-in-Inner t c =
 
 pub remove_among-remove-requires : goal.remove_among-remove-requires
 remove_among-remove-requires t c =
-    let st : Stands c.args.seats.now.items c.count_less-index.result c.index_mut.result.now c.args.place.now =
-    stands-at c.args.seats.now.items c.as_slice-2.result.now c.count_less-index.result c.split_at.result.0.now _ c.args.place.now c.index_mut.result.now
-    c.as_slice-2.ensures.value c.split_at.ensures.front c.way_length.ensures.way (c.has_way.ensures.yes c.if-has_way.true) c.index_mut.ensures.value in
-    let sound = stands-sound c.args.seats.now.items c.count_less-index.result c.index_mut.result.now c.args.place.now c.requires st in
+    let st : Stands c.args.seats.now.items c.find_way-index.result.0 c.index_mut.result.now c.args.place.now =
+    stands-at c.args.seats.now.items c.as_slice.result.now c.find_way-index.result.0 c.split_at.result.0.now _ c.args.place.now c.index_mut.result.now
+    c.as_slice.ensures.value c.split_at.ensures.front c.way_length.ensures.way (c.find_way-index.ensures.yes c.if-is_there.true) c.index_mut.ensures.value in
+    let sound = stands-sound c.args.seats.now.items c.find_way-index.result.0 c.index_mut.result.now c.args.place.now c.requires st in
     let rest = c.split_at.ensures.back ∙ c.way_length.ensures.rest in
     let less = left-less c.index_mut.result.now c.args.place.now c.split_at.result.1.now sound st.way rest in (
       omega (arith, less, c.decreases),
@@ -29,50 +29,50 @@ remove_among-remove-requires t c =
 
 pub remove_among-remove-requires-then-remove : goal.remove_among-remove-requires-then-remove
 remove_among-remove-requires-then-remove t c =
-    let st : Stands c.args.seats.now.items c.count_less-index.result c.index_mut.result.now c.args.place.now =
-    stands-at c.args.seats.now.items c.as_slice-2.result.now c.count_less-index.result c.split_at.result.0.now _ c.args.place.now c.index_mut.result.now
-    c.as_slice-2.ensures.value c.split_at.ensures.front c.way_length.ensures.way (c.has_way.ensures.yes c.if-has_way.true) c.index_mut.ensures.value in
+    let st : Stands c.args.seats.now.items c.find_way-index.result.0 c.index_mut.result.now c.args.place.now =
+    stands-at c.args.seats.now.items c.as_slice.result.now c.find_way-index.result.0 c.split_at.result.0.now _ c.args.place.now c.index_mut.result.now
+    c.as_slice.ensures.value c.split_at.ensures.front c.way_length.ensures.way (c.find_way-index.ensures.yes c.if-is_there.true) c.index_mut.ensures.value in
     omega (arith, st.within, c.args.seats.now.ok)
 
 pub remove_among-returns-then-remove-clause-branch : goal.remove_among-returns-then-remove-clause-branch
 remove_among-returns-then-remove-clause-branch t c =
-    let st : Stands c.args.seats.now.items c.count_less-index.result c.index_mut.result.now c.args.place.now =
-    stands-at c.args.seats.now.items c.as_slice-2.result.now c.count_less-index.result c.split_at.result.0.now _ c.args.place.now c.index_mut.result.now
-    c.as_slice-2.ensures.value c.split_at.ensures.front c.way_length.ensures.way (c.has_way.ensures.yes c.if-has_way.true) c.index_mut.ensures.value in
+    let st : Stands c.args.seats.now.items c.find_way-index.result.0 c.index_mut.result.now c.args.place.now =
+    stands-at c.args.seats.now.items c.as_slice.result.now c.find_way-index.result.0 c.split_at.result.0.now _ c.args.place.now c.index_mut.result.now
+    c.as_slice.ensures.value c.split_at.ensures.front c.way_length.ensures.way (c.find_way-index.ensures.yes c.if-is_there.true) c.index_mut.ensures.value in
     let rest = c.split_at.ensures.back ∙ c.way_length.ensures.rest in
-    gone-branch c.args.seats.now.items c.count_less-index.result c.index_mut.result.now c.remove.new.self c.args.place.now c.split_at.result.1.now c.requires st rest
+    gone-branch c.args.seats.now.items c.find_way-index.result.0 c.index_mut.result.now c.remove.new.self c.args.place.now c.split_at.result.1.now c.requires st rest
     c.remove-then-remove.new.self.items c.remove-then-remove.ensures.items
 
 pub remove_among-returns-then-remove-clause-removed : goal.remove_among-returns-then-remove-clause-removed
 remove_among-returns-then-remove-clause-removed t c =
-    let st : Stands c.args.seats.now.items c.count_less-index.result c.index_mut.result.now c.args.place.now =
-    stands-at c.args.seats.now.items c.as_slice-2.result.now c.count_less-index.result c.split_at.result.0.now _ c.args.place.now c.index_mut.result.now
-    c.as_slice-2.ensures.value c.split_at.ensures.front c.way_length.ensures.way (c.has_way.ensures.yes c.if-has_way.true) c.index_mut.ensures.value in
+    let st : Stands c.args.seats.now.items c.find_way-index.result.0 c.index_mut.result.now c.args.place.now =
+    stands-at c.args.seats.now.items c.as_slice.result.now c.find_way-index.result.0 c.split_at.result.0.now _ c.args.place.now c.index_mut.result.now
+    c.as_slice.ensures.value c.split_at.ensures.front c.way_length.ensures.way (c.find_way-index.ensures.yes c.if-is_there.true) c.index_mut.ensures.value in
     let rest = c.split_at.ensures.back ∙ c.way_length.ensures.rest in
-    gone-removed c.args.seats.now.items c.count_less-index.result c.index_mut.result.now c.remove.new.self c.args.place.now c.split_at.result.1.now c.requires st rest
+    gone-removed c.args.seats.now.items c.find_way-index.result.0 c.index_mut.result.now c.remove.new.self c.args.place.now c.split_at.result.1.now c.requires st rest
     c.remove-then-remove.new.self.items c.remove-then-remove.ensures.items (taken-all c.index_mut.result.now c.split_at.result.1.now c.remove.result c.remove.new.self c.remove.ensures c.if-remove.true)
 
 pub remove_among-returns-else-remove-clause-branch : goal.remove_among-returns-else-remove-clause-branch
 remove_among-returns-else-remove-clause-branch t c =
-    let st : Stands c.args.seats.now.items c.count_less-index.result c.index_mut.result.now c.args.place.now =
-    stands-at c.args.seats.now.items c.as_slice-2.result.now c.count_less-index.result c.split_at.result.0.now _ c.args.place.now c.index_mut.result.now
-    c.as_slice-2.ensures.value c.split_at.ensures.front c.way_length.ensures.way (c.has_way.ensures.yes c.if-has_way.true) c.index_mut.ensures.value in
+    let st : Stands c.args.seats.now.items c.find_way-index.result.0 c.index_mut.result.now c.args.place.now =
+    stands-at c.args.seats.now.items c.as_slice.result.now c.find_way-index.result.0 c.split_at.result.0.now _ c.args.place.now c.index_mut.result.now
+    c.as_slice.ensures.value c.split_at.ensures.front c.way_length.ensures.way (c.find_way-index.ensures.yes c.if-is_there.true) c.index_mut.ensures.value in
     let rest = c.split_at.ensures.back ∙ c.way_length.ensures.rest in
     let left = taken-some c.index_mut.result.now c.split_at.result.1.now c.remove.result c.remove.new.self c.remove.ensures c.if-remove.false in
-    kept-branch c.args.seats.now.items c.count_less-index.result c.index_mut.result.now c.remove.new.self c.args.place.now c.split_at.result.1.now c.requires st rest
+    kept-branch c.args.seats.now.items c.find_way-index.result.0 c.index_mut.result.now c.remove.new.self c.args.place.now c.split_at.result.1.now c.requires st rest
     left.0 left.1
 
 pub remove_among-returns-else-remove-clause-removed : goal.remove_among-returns-else-remove-clause-removed
 remove_among-returns-else-remove-clause-removed t c =
-    let st : Stands c.args.seats.now.items c.count_less-index.result c.index_mut.result.now c.args.place.now =
-    stands-at c.args.seats.now.items c.as_slice-2.result.now c.count_less-index.result c.split_at.result.0.now _ c.args.place.now c.index_mut.result.now
-    c.as_slice-2.ensures.value c.split_at.ensures.front c.way_length.ensures.way (c.has_way.ensures.yes c.if-has_way.true) c.index_mut.ensures.value in
+    let st : Stands c.args.seats.now.items c.find_way-index.result.0 c.index_mut.result.now c.args.place.now =
+    stands-at c.args.seats.now.items c.as_slice.result.now c.find_way-index.result.0 c.split_at.result.0.now _ c.args.place.now c.index_mut.result.now
+    c.as_slice.ensures.value c.split_at.ensures.front c.way_length.ensures.way (c.find_way-index.ensures.yes c.if-is_there.true) c.index_mut.ensures.value in
     let rest = c.split_at.ensures.back ∙ c.way_length.ensures.rest in
     let left = taken-some c.index_mut.result.now c.split_at.result.1.now c.remove.result c.remove.new.self c.remove.ensures c.if-remove.false in
-    kept-removed c.args.seats.now.items c.count_less-index.result c.index_mut.result.now c.remove.new.self c.args.place.now c.split_at.result.1.now c.requires st rest
+    kept-removed c.args.seats.now.items c.find_way-index.result.0 c.index_mut.result.now c.remove.new.self c.args.place.now c.split_at.result.1.now c.requires st rest
     left.2
 
-pub remove_among-returns-else-has_way-clause-removed : goal.remove_among-returns-else-has_way-clause-removed
-remove_among-returns-else-has_way-clause-removed t c =
-    absent-as c.args.seats.now.items c.as_slice.result.now c.as_slice-2.result.now c.split_at.result.0.now _ c.args.place.now c.count_less-index.result c.requires
-    c.as_slice.ensures.value c.as_slice-2.ensures.value c.split_at.ensures.front c.way_length.ensures.way c.count_less-index.ensures (c.has_way.ensures.no c.if-has_way.false)
+pub remove_among-returns-else-is_there-clause-removed : goal.remove_among-returns-else-is_there-clause-removed
+remove_among-returns-else-is_there-clause-removed t c =
+    absent-as c.args.seats.now.items c.as_slice.result.now c.as_slice.result.now c.split_at.result.0.now _ c.args.place.now c.find_way-index.result.0 c.requires
+    c.as_slice.ensures.value c.as_slice.ensures.value c.split_at.ensures.front c.way_length.ensures.way c.find_way-index.ensures.splits (c.find_way-index.ensures.no c.if-is_there.false)

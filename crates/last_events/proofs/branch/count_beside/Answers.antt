@@ -35,4 +35,4 @@ ordered-requires c =
 
 pub returns-in-Inner : goal.returns-in-Inner
 returns-in-Inner c =
-    subst (λ (w : List Entry). Splits (map seat_way c.args.seats.now) w c.count_less.result) (c.ordered.ensures ∙ ap ordered_of c.way.ensures) c.count_less.ensures
+    subst (λ (w : List Entry). Splits (map seat_way c.args.seats.now) w c.count_less_near.result) (c.ordered.ensures ∙ ap ordered_of c.way.ensures) c.count_less_near.ensures

@@ -8,7 +8,7 @@ use Rattle.last_events.proofs.branch.count_lesser.Goals as goal
 
 pub returns-then-ends_at_branch : goal.returns-then-ends_at_branch
 returns-then-ends_at_branch c =
-    subst (λ (w : List Entry). Splits (map seat_way c.args.before.now) w c.count_less.result) c.ordered.ensures c.count_less.ensures
+    subst (λ (w : List Entry). Splits (map seat_way c.args.before.now) w c.count_less_near.result) c.ordered.ensures c.count_less_near.ensures
 
 pub returns-else-ends_at_branch : goal.returns-else-ends_at_branch
 returns-else-ends_at_branch c =

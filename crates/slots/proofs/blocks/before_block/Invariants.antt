@@ -1,6 +1,0 @@
-use Rattle.std.proofs.Common.{◌≡◌, ◌*◌}
-use Rattle.slots.specs.Places.{rank}
-use Rattle.slots.proofs.blocks.before_block.Given as goal
-
-abbrev pub invariant-loop-at : goal.invariant-loop-at
-invariant-loop-at g l = l.sum ≡ rank l.slots.entries (64 * l.at)
