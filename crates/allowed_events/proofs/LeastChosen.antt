@@ -23,7 +23,7 @@ use Rattle.local_actions.specs.Actions.{Offered}
 use Rattle.local_actions.specs.declared.action.LocalAction.{LocalAction}
 use Rattle.local_actions.specs.declared.action.ActionKind.{ActionKind}
 use Rattle.local_actions.specs.declared.action.ActionKind.TheVariants.{Assigns, Tests, Turns, Sends, Receives, Syncs, Opens, Releases, Closes}
-use Rattle.channel_uses.specs.OnChannel.{is_on}
+use Rattle.channel_uses.specs.OnChannel.{is_partner_on}
 use Rattle.allowed_events.specs.internal.Acting.{ActedBy}
 use Rattle.allowed_events.specs.internal.Least.{arm_of, is_less, least_of, ActedWith, LeastOfOne, LeastActed}
 use Rattle.allowed_events.specs.internal.Meeting.{solo, met, met_with}
@@ -178,8 +178,8 @@ taken-alone S k n x made old new told same is none taken = record {
 
 -- those that it makes with others
 pub taken-met : (S : State) (k n c : ℕ) (x : LocalAction) (others found : List LocalAction) (old new : Option Event) → n ≡ arm_of x.action → n ≡ k → ((a : Place) → solo a x.action ≡ None)
-    → others ≡ found → ((y : LocalAction) → In y found ↔ (Offered S y × (is_on c y.action ≡ true)))
-    → ((b a : Place) (y : ActionKind) (e : Event) → met b x.action a y ≡ Some e → is_on c y ≡ true) → new ≡ least_of old (met_with x others) → LeastOfOne S k x old new
+    → others ≡ found → ((y : LocalAction) → In y found ↔ (Offered S y × (is_partner_on c y.action ≡ true)))
+    → ((b a : Place) (y : ActionKind) (e : Event) → met b x.action a y ≡ Some e → is_partner_on c y ≡ true) → new ≡ least_of old (met_with x others) → LeastOfOne S k x old new
 taken-met S k n c x others found old new told same none is exactly looks taken = record {
   events = met_with x others;
   exactly = λ e. (

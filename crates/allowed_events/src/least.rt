@@ -81,7 +81,7 @@ fn take_acted(
     }
     match channel_of(&one.action) {
         Some(channel) => {
-            let others = uses.actions_on(alloc, tree, store, channel)?;
+            let others = uses.partners_on(alloc, tree, store, channel)?;
             take_met(alloc, &one, others.as_slice(), least)
         }
         None => {
