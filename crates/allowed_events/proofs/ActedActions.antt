@@ -17,7 +17,7 @@ use Rattle.local_actions.specs.Actions.{Offered, Under}
 use Rattle.local_actions.specs.declared.action.LocalAction.{LocalAction}
 use Rattle.local_actions.specs.declared.action.ActionKind.{ActionKind}
 use Rattle.local_actions.specs.declared.action.ActionKind.TheVariants.{Sends, Receives, Syncs, Opens, Releases, Closes}
-use Rattle.channel_uses.specs.OnChannel.{is_on}
+use Rattle.channel_uses.specs.OnChannel.{is_partner_on}
 use Rattle.allowed_events.specs.ReadyBelow.{ReadyBelow}
 use Rattle.allowed_events.specs.internal.Acting.{ActedBy, ActedByOne, SortedOf}
 use Rattle.allowed_events.specs.internal.Meeting.{solo, met, met_with}
@@ -25,32 +25,32 @@ use Rattle.allowed_events.proofs.FromActions.{ByActions, alone, meets, by_action
 use Rattle.allowed_events.proofs.Listed.{in-those-first, those-in, in-met, met-in}
 
 -- ---- a partner is on the channel on which the action looks
-pub receives-on : (x : ActionKind) (c : ℕ) (v : Option ℕ) → x ≡ Receives c v → (b a : Place) (y : ActionKind) (e : Event) → met b x a y ≡ Some e → is_on c y ≡ true
+pub receives-on : (x : ActionKind) (c : ℕ) (v : Option ℕ) → x ≡ Receives c v → (b a : Place) (y : ActionKind) (e : Event) → met b x a y ≡ Some e → is_partner_on c y ≡ true
 receives-on x c v is b a y e h = partner y (ap (λ (z : ActionKind). met b z a y) (sym is) ∙ h)
   where
-    partner : (y : ActionKind) → met b (Receives c v) a y ≡ Some e → is_on c y ≡ true
+    partner : (y : ActionKind) → met b (Receives c v) a y ≡ Some e → is_partner_on c y ≡ true
     partner (Sends f w read) h = eq-eqb f c (sym (eqb-true c f (cond-some (c == f) _ e h).0))
     partner _ h = none-some e h
 
-pub opens-on : (x : ActionKind) (c k : ℕ) → x ≡ Opens c k → (b a : Place) (y : ActionKind) (e : Event) → met b x a y ≡ Some e → is_on c y ≡ true
+pub opens-on : (x : ActionKind) (c k : ℕ) → x ≡ Opens c k → (b a : Place) (y : ActionKind) (e : Event) → met b x a y ≡ Some e → is_partner_on c y ≡ true
 opens-on x c k is b a y e h = partner y (ap (λ (z : ActionKind). met b z a y) (sym is) ∙ h)
   where
-    partner : (y : ActionKind) → met b (Opens c k) a y ≡ Some e → is_on c y ≡ true
+    partner : (y : ActionKind) → met b (Opens c k) a y ≡ Some e → is_partner_on c y ≡ true
     partner (Sends f w read) h = eq-eqb f c (sym (eqb-true c f (cond-some (c == f) _ e h).0))
     partner (Syncs f) h = eq-eqb f c (sym (eqb-true c f (cond-some (c == f) _ e h).0))
     partner _ h = none-some e h
 
-pub closes-on : (x : ActionKind) (c : ℕ) → x ≡ Closes c → (b a : Place) (y : ActionKind) (e : Event) → met b x a y ≡ Some e → is_on c y ≡ true
+pub closes-on : (x : ActionKind) (c : ℕ) → x ≡ Closes c → (b a : Place) (y : ActionKind) (e : Event) → met b x a y ≡ Some e → is_partner_on c y ≡ true
 closes-on x c is b a y e h = partner y (ap (λ (z : ActionKind). met b z a y) (sym is) ∙ h)
   where
-    partner : (y : ActionKind) → met b (Closes c) a y ≡ Some e → is_on c y ≡ true
+    partner : (y : ActionKind) → met b (Closes c) a y ≡ Some e → is_partner_on c y ≡ true
     partner (Releases f) h = eq-eqb f c (sym (eqb-true c f (cond-some (c == f) _ e h).0))
     partner _ h = none-some e h
 
-pub syncs-on : (x : ActionKind) (c : ℕ) → x ≡ Syncs c → (b a : Place) (y : ActionKind) (e : Event) → met b x a y ≡ Some e → is_on c y ≡ true
+pub syncs-on : (x : ActionKind) (c : ℕ) → x ≡ Syncs c → (b a : Place) (y : ActionKind) (e : Event) → met b x a y ≡ Some e → is_partner_on c y ≡ true
 syncs-on x c is b a y e h = partner y (ap (λ (z : ActionKind). met b z a y) (sym is) ∙ h)
   where
-    partner : (y : ActionKind) → met b (Syncs c) a y ≡ Some e → is_on c y ≡ true
+    partner : (y : ActionKind) → met b (Syncs c) a y ≡ Some e → is_partner_on c y ≡ true
     partner (Syncs f) h =
         let both = and_parts (c == f) (is_lt (order_of b a)) (cond-some ((c == f) && is_lt (order_of b a)) _ e h).0 in eq-eqb f c (sym (eqb-true c f both.0))
     partner _ h = none-some e h
@@ -76,8 +76,8 @@ acted-alone S x old new made is added none e = (
 
 -- and with others
 pub acted-met : (S : State) (x : LocalAction) (c : ℕ) (others found : List LocalAction) (old mid new : List Event) (made : Option Event) → made ≡ solo x.place x.action → mid ≡ old ++ those made []
-    → new ≡ mid ++ met_with x others → others ≡ found → ((y : LocalAction) → In y found ↔ (Offered S y × (is_on c y.action ≡ true)))
-    → ((b a : Place) (y : ActionKind) (e : Event) → met b x.action a y ≡ Some e → is_on c y ≡ true) → (e : Event) → In e new ↔ (In e old ⊎ ActedBy S x e)
+    → new ≡ mid ++ met_with x others → others ≡ found → ((y : LocalAction) → In y found ↔ (Offered S y × (is_partner_on c y.action ≡ true)))
+    → ((b a : Place) (y : ActionKind) (e : Event) → met b x.action a y ≡ Some e → is_partner_on c y ≡ true) → (e : Event) → In e new ↔ (In e old ⊎ ActedBy S x e)
 acted-met S x c others found old mid new made is first added same exactly looks e = (
   λ i. elim (in-parts e mid (met_with x others) (subst (λ (l : List Event). In e l) added i)) [
     | inl u ↦ elim (in-parts e old (those made []) (subst (λ (l : List Event). In e l) first u)) [

@@ -17,7 +17,7 @@ use Rattle.local_actions.specs.Actions.{Offered, OffersExactly}
 use Rattle.local_actions.specs.declared.action.LocalAction.{LocalAction}
 use Rattle.local_actions.specs.declared.action.ActionKind.{ActionKind}
 use Rattle.local_actions.specs.declared.action.ActionKind.TheVariants.{Sends, Receives, Syncs, Opens, Releases, Closes}
-use Rattle.channel_uses.specs.OnChannel.{is_on}
+use Rattle.channel_uses.specs.OnChannel.{is_partner_on}
 use Rattle.allowed_events.specs.internal.Acting.{ActedBy, ActedByOne, SortedOf}
 use Rattle.allowed_events.specs.internal.Among.{partner_on, IsPartner, HasPartners, MetFrom}
 use Rattle.allowed_events.specs.internal.Meeting.{solo, met}
@@ -140,7 +140,7 @@ made-all table xs old new x c below has none so_far e = (
 
 -- ---- the events of one action
 -- who makes an event with one that acts, and is on its channel, is a partner on it
-met-on : (x y : ActionKind) (b a : Place) (e : Event) (c : ℕ) → met b x a y ≡ Some e → is_on c y ≡ true → partner_on y ≡ Some c
+met-on : (x y : ActionKind) (b a : Place) (e : Event) (c : ℕ) → met b x a y ≡ Some e → is_partner_on c y ≡ true → partner_on y ≡ Some c
 met-on (Receives f v) (Sends d w read) b a e c h on = ap (λ (k : ℕ). Some k) (eqb-true d c on)
 met-on (Receives f v) _ b a e c h on = none-some e h
 met-on (Opens f k) (Sends d w read) b a e c h on = ap (λ (k : ℕ). Some k) (eqb-true d c on)
@@ -153,7 +153,7 @@ met-on (Syncs f) _ b a e c h on = none-some e h
 met-on _ y b a e c h on = none-some e h
 
 pub acted-among : (S : State) (x : LocalAction) (c : ℕ) (xs : List LocalAction) (old mid new : List Event) (made : Option Event) → made ≡ solo x.place x.action → mid ≡ old ++ those made []
-    → MadeFrom mid new 0 x c xs → OffersExactly S xs → ((b a : Place) (y : ActionKind) (e : Event) → met b x.action a y ≡ Some e → is_on c y ≡ true)
+    → MadeFrom mid new 0 x c xs → OffersExactly S xs → ((b a : Place) (y : ActionKind) (e : Event) → met b x.action a y ≡ Some e → is_partner_on c y ≡ true)
     → (e : Event) → In e new ↔ (In e old ⊎ ActedBy S x e)
 acted-among S x c xs old mid new made is first added offers looks e = (
   λ i. elim ((added e).0 i) [

@@ -1,5 +1,5 @@
 -- The least event in which an action at the place of a choice acts, and opens its arm, is the one that the choice means.
-use Rattle.std.proofs.Common.{◌≡◌, ◌⊎◌, inl, inr, ℕ, ◌==◌, ◌&&◌, List, [], ◌∷◌, ◌++◌, Bool, true, false, cond, Option, Some, None, refl, sym, ◌∙◌, ap, subst, append-nil}
+use Rattle.std.proofs.Common.{◌≡◌, ◌⊎◌, inl, inr, ℕ, ◌==◌, ◌&&◌, List, [], ◌∷◌, ◌++◌, Bool, true, false, cond, Option, Some, None, refl, sym, ◌∙◌, ap, subst}
 use Rattle.std.specs.Prelude.{◌↔◌, MatchOption}
 use Rattle.std.specs.Ordering.{is_lt}
 use Rattle.std.specs.declared.cmp.Ordering.{Ordering}
@@ -23,7 +23,7 @@ use Rattle.local_actions.specs.Actions.{Offered}
 use Rattle.local_actions.specs.declared.action.LocalAction.{LocalAction}
 use Rattle.local_actions.specs.declared.action.ActionKind.{ActionKind}
 use Rattle.local_actions.specs.declared.action.ActionKind.TheVariants.{Assigns, Tests, Turns, Sends, Receives, Syncs, Opens, Releases, Closes}
-use Rattle.channel_uses.specs.OnChannel.{is_on}
+use Rattle.channel_uses.specs.OnChannel.{is_partner_on}
 use Rattle.allowed_events.specs.internal.Acting.{ActedBy}
 use Rattle.allowed_events.specs.internal.Least.{arm_of, is_less, least_of, ActedWith, LeastOfOne, LeastActed}
 use Rattle.allowed_events.specs.internal.Meeting.{solo, met, met_with}
@@ -122,14 +122,9 @@ least-more o new None rest h = ap (λ (p : Option Event). least_of p rest) h
 least-more o new (Some e) rest h = ap (λ (p : Option Event). least_of p rest) h
 
 -- one event at most
-pub none-taken : (made o : Option Event) → made ≡ None → o ≡ least_of o (those made [])
-none-taken made o is = sym (ap (λ (m : Option Event). least_of o (those m [])) is)
-
-pub not-taken : (made : Option Event) (e : Event) (o : Option Event) (b : Bool) → made ≡ Some e → b ≡ is_less e o → b ≡ false → o ≡ least_of o (those made [])
-not-taken made e o b is told off = sym (ap (λ (m : Option Event). least_of o (those m [])) is ∙ ap (λ t. cond t (Some e) o) (sym told ∙ off))
-
-pub taken-now : (made : Option Event) (e : Event) (o : Option Event) (b : Bool) → made ≡ Some e → b ≡ is_less e o → b ≡ true → Some e ≡ least_of o (those made [])
-taken-now made e o b is told on = sym (ap (λ (m : Option Event). least_of o (those m [])) is ∙ ap (λ t. cond t (Some e) o) (sym told ∙ on))
+pub taken-so : (made o : Option Event) (b : Bool) → MatchOption made (b ≡ false) (λ e. b ≡ is_less e o) → cond b made o ≡ least_of o (those made [])
+taken-so None o b h = ap (λ t. cond t None o) h
+taken-so (Some e) o b h = ap (λ t. cond t (Some e) o) h
 
 -- ---- the arm that an event opens
 solo-arm : (a : Place) (x : ActionKind) (e : Event) → solo a x ≡ Some e → (choice_of e).arm ≡ arm_of x
@@ -178,8 +173,8 @@ taken-alone S k n x made old new told same is none taken = record {
 
 -- those that it makes with others
 pub taken-met : (S : State) (k n c : ℕ) (x : LocalAction) (others found : List LocalAction) (old new : Option Event) → n ≡ arm_of x.action → n ≡ k → ((a : Place) → solo a x.action ≡ None)
-    → others ≡ found → ((y : LocalAction) → In y found ↔ (Offered S y × (is_on c y.action ≡ true)))
-    → ((b a : Place) (y : ActionKind) (e : Event) → met b x.action a y ≡ Some e → is_on c y ≡ true) → new ≡ least_of old (met_with x others) → LeastOfOne S k x old new
+    → others ≡ found → ((y : LocalAction) → In y found ↔ (Offered S y × (is_partner_on c y.action ≡ true)))
+    → ((b a : Place) (y : ActionKind) (e : Event) → met b x.action a y ≡ Some e → is_partner_on c y ≡ true) → new ≡ least_of old (met_with x others) → LeastOfOne S k x old new
 taken-met S k n c x others found old new told same none is exactly looks taken = record {
   events = met_with x others;
   exactly = λ e. (

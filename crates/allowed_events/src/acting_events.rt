@@ -9,7 +9,7 @@ ghost use Rattle.process_tree.specs.Tidy.{Tidy};
 ghost use Rattle.process_tree.specs.View.{tree_view};
 ghost use Rattle.local_actions.specs.View.{state_of};
 ghost use Rattle.local_actions.specs.declared.action.ActionKind as any_action;
-ghost use Rattle.channel_uses.specs.OnChannel.{is_on};
+ghost use Rattle.channel_uses.specs.OnChannel.{is_partner_on};
 ghost use Rattle.channel_uses.specs.StemsFrom.{StemsFrom};
 ghost use Rattle.channel_uses.specs.Table.{IsTableOf};
 ghost use Rattle.allowed_events.specs.internal.Acting.{ActedBy, ActedByOne};
@@ -60,7 +60,7 @@ fn add_acted(
 {
     match channel_of(&one.action) {
         Some(channel) => {
-            let others = uses.actions_on(alloc, tree, store, channel)?;
+            let others = uses.partners_on(alloc, tree, store, channel)?;
             add_met(alloc, one, others.as_slice(), events)
         }
         None => add_alone(alloc, one, events),
@@ -129,7 +129,7 @@ pub(crate) fn add(made: Option<Event>, events: &mut Items<Event>) -> Result<(), 
 pub(crate) fn channel_of(action: &ActionKind) -> Option<u32>
     ensures looks { MatchOption result ((b a : Place) (y : any_action.ActionKind) → model.met b action.now a y ≡ None)
         (λ c. (b a : Place) (y : any_action.ActionKind) (e : any.Event) → model.met b action.now a y ≡ Some e →
-        is_on c y ≡ true) }
+        is_partner_on c y ≡ true) }
     ensures never_alone { IfSome result (λ _. (a : Place) → model.solo a action.now ≡ None) }
 {
     match action {

@@ -1,5 +1,5 @@
 // Of the events in which actions act, and open one arm, the one whose other address is the least.
-ghost use Rattle.std.specs.Prelude.{◌≡◌, [], IfOk, OnOk};
+ghost use Rattle.std.specs.Prelude.{◌≡◌, [], false, IfOk, OnOk, MatchOption};
 ghost use Rattle.runs.specs.internal.AllowedEvents.{those};
 ghost use Rattle.process_tree.specs.Code.{Code};
 ghost use Rattle.process_tree.specs.Tidy.{Tidy};
@@ -81,7 +81,7 @@ fn take_acted(
     }
     match channel_of(&one.action) {
         Some(channel) => {
-            let others = uses.actions_on(alloc, tree, store, channel)?;
+            let others = uses.partners_on(alloc, tree, store, channel)?;
             take_met(alloc, &one, others.as_slice(), least)
         }
         None => {
@@ -111,13 +111,20 @@ fn take_met(
 fn take(made: Option<Event>, least: &mut Option<Event>)
     ensures { least.new ≡ spec.least_of least.old (those made []) }
 {
-    let Some(event) = made else {
-        return;
-    };
-    if !is_less(&event, least) {
+    if !is_wanted(&made, least) {
         return;
     }
-    *least = Some(event);
+    *least = made;
+}
+
+/// Whether there is an event, and it is less than the least so far.
+fn is_wanted(made: &Option<Event>, least: &Option<Event>) -> bool
+    ensures { MatchOption made.now (result ≡ false) (λ event. result ≡ spec.is_less event least.now) }
+{
+    match made {
+        Some(event) => is_less(event, least),
+        None => false,
+    }
 }
 
 /// Whether the other address of the event is less than that of the least so far, or it is the first.

@@ -1,5 +1,5 @@
 -- What a walk for one channel finds, child by child.
-use Rattle.std.proofs.Common.{◌≡◌, inl, inr, ℕ, zero, suc, ◌+◌, ◌*◌, ◌<◌, ◌≤◌, List, [], ◌∷◌, ◌++◌, length, map, Bool, true, false, cond, Option, Some, None, slice_index_or, refl, sym, ap, ap₂, ◌∙◌, subst, ne_eqb, arith}
+use Rattle.std.proofs.Common.{◌≡◌, inl, inr, ℕ, zero, suc, ◌+◌, ◌*◌, ◌<◌, ◌≤◌, List, [], ◌∷◌, ◌++◌, length, map, Bool, true, false, cond, Option, Some, None, slice_index_or, refl, sym, ap, ap₂, ◌∙◌, subst, arith}
 use Rattle.address.specs.declared.Entry.{Entry}
 use Rattle.address.specs.declared.Entry.TheVariants.{Ordered, Branch}
 use Rattle.syntax.specs.Lists.{In}
@@ -8,9 +8,10 @@ use Rattle.runs.proofs.public.Options.{none-some, some-injective}
 use Rattle.process_tree.specs.Children.{proc_at}
 use Rattle.process_tree.specs.Code.{Once, assigning, receiving, Sender, sending, syncing, Code, Codes, no_code, code, code_at}
 use Rattle.process_tree.specs.Remaining.{Received, with_value, residual_once, residual_sender, channel_of}
-use Rattle.process_tree.specs.Proc.{waiting, holding, past, Proc, idle, stopped, once, sender, fresh, turn, ended_at_once, ended, untested, skipped, took, unopened, entered, closed, sequence, parallel, drained, Procs, no_procs, proc, all_started}
+use Rattle.process_tree.specs.Proc.{waiting, holding, past, Proc, idle, stopped, once, sender, fresh, turn, ended_at_once, ended, untested, skipped, took, unopened, entered, closed, sequence, parallel, drained, Procs, no_procs, proc, started, all_started}
 use Rattle.process_tree.specs.Translation.{row_of}
 use Rattle.process_tree.specs.View.{code_view}
+use Rattle.process_tree.specs.declared.code.Await.{Await}
 use Rattle.process_tree.specs.declared.code.Code as made
 use Rattle.process_tree.specs.Tidy.{last_moved}
 use Rattle.process_tree.specs.internal.Received.{puts_once, puts_sender, puts_guard}
@@ -22,12 +23,13 @@ use Rattle.local_actions.proofs.public.OneByOne.{step-here}
 use Rattle.local_actions.proofs.public.Walks.{added-none, added-both, through}
 use Rattle.channel_uses.specs.OnChannel.{on}
 use Rattle.channel_uses.specs.StemsFrom.{StemsFrom, AllStemFrom}
-use Rattle.channel_uses.specs.Uses.{used_once, used, all_used}
+use Rattle.channel_uses.specs.Uses.{used, all_used}
 use Rattle.std.proofs.lemmas.Bool.{cases_lt}
 use Rattle.channel_uses.specs.internal.Located.{finds, finds_at}
 use Rattle.channel_uses.specs.internal.Parts.{UnusedBetween}
+use Rattle.channel_uses.proofs.Parts.{is-await}
 use Rattle.channel_uses.proofs.Stems.{all-stem}
-use Rattle.channel_uses.proofs.OnChannel.{dropped, on-behind, on-both, other-channel, opens-none, in-first, in-second, in-arm, at-in}
+use Rattle.channel_uses.proofs.OnChannel.{dropped, on-behind, on-both, other-channel, opens_none, in-first, in-second, in-arm}
 
 -- ---- what does not use the channel
 pub after-none : (e i : ℕ) (x rest : Listing) → on e x.actions ≡ [] → on e rest.actions ≡ [] → on e (one_after i x rest).actions ≡ []
@@ -45,9 +47,13 @@ again-listed-none : (e : ℕ) (s : Store) (n : ℕ) (g : Option Expression) → 
 again-listed-none e s n None = refl
 again-listed-none e s n (Some x) = refl
 
-once-listed-none : (e : ℕ) (s : Store) (env : Received) (o : Once) → (In e (used_once o) → ⊥) → on e (actions_of_residual s (residual_once (puts_once env o))) ≡ []
-once-listed-none e s env (assigning x w v) h = refl
-once-listed-none e s env (receiving d x) h = dropped _ _ [] (other-channel d e [] h)
+pub once_listed_none : (e : ℕ) (s : Store) (env : Received) (o : Once) → on e (actions_of_residual s (residual_once (puts_once env o))) ≡ []
+once_listed_none e s env (assigning x w v) = refl
+once_listed_none e s env (receiving d x) = refl
+
+pub once_none : (e : ℕ) (s : Store) (env : Received) (o : Once) (made : Bool) → on e (listed s env (once o made)).actions ≡ []
+once_none e s env o true = refl
+once_none e s env o false = once_listed_none e s env o
 
 waiting-listed-none : (e : ℕ) (s : Store) (env : Received) (x : Sender) → (In e (channel_of x ∷ []) → ⊥) → on e (actions_of_residual s (residual_sender (puts_sender env x))) ≡ []
 waiting-listed-none e s env (sending d w v) h = dropped _ _ [] (other-channel d e [] h)
@@ -62,8 +68,7 @@ mutual
   pub listed-none : (s : Store) (p : Proc) (env : Received) (c : Code) (e : ℕ) → StemsFrom p c → Unused e (used c) → on e (listed s env p).actions ≡ []
   listed-none s idle env c e t h = refl
   listed-none s stopped env c e t h = refl
-  listed-none s (once o true) env c e t h = refl
-  listed-none s (once o false) env c e t h = once-listed-none e s env o (subst (λ k. Unused e (used k)) t h)
+  listed-none s (once o made) env c e t h = once_none e s env o made
   listed-none s (sender x waiting) env c e t h = waiting-listed-none e s env x (subst (λ k. Unused e (used k)) t h)
   listed-none s (sender x holding) env c e t h = dropped _ _ [] (other-channel (channel_of x) e [] (subst (λ k. Unused e (used k)) t h))
   listed-none s (sender x past) env c e t h = refl
@@ -77,16 +82,14 @@ mutual
   listed-none s (skipped d cs) env c e t h = refl
   listed-none s (took d cs j q) env c e t h =
       after-none e 1 (listed s env q) nothing (listed-none s q env (code_at cs j) e t.1 (λ i. subst (λ k. Unused e (used k)) t.0 h (in-arm e cs j i))) refl
-  listed-none s (unopened ds cs) env c e t h = opens-none e 0 ds (λ i. subst (λ k. Unused e (used k)) t h (in-first e ds (all_used cs) i))
+  listed-none s (unopened ds cs) env c e t h = opens_none e 0 ds
   listed-none s (entered ds cs d v q) env c e t h =
-      let all = subst (λ k. Unused e (used k)) t.0 h in
       after-none e 1 (listed s (with_value d v env) q) (at_work (action_at (Ordered 2 ∷ []) (Closes d) ∷ []))
-      (listed-none s q (with_value d v env) (code_at cs t.1) e t.3 (λ i. all (in-second e ds (all_used cs) (in-arm e cs t.1 i))))
-      (dropped _ _ [] (ne_eqb d e (λ same. all (in-first e ds (all_used cs) (subst (λ x. In x ds) same (at-in d ds t.1 t.2))))))
+      (listed-none s q (with_value d v env) (code_at cs t.1) e t.3 (λ i. subst (λ k. Unused e (used k)) t.0 h (in-arm e cs t.1 i))) refl
   listed-none s (closed ds cs d v q) env c e t h = refl
   listed-none s (sequence ps) env c e t h = sequence-none s ps env t.0 (last_moved ps) 0 e t.2 (subst (λ k. Unused e (used k)) t.1 h)
   listed-none s (parallel ps) env c e t h = parallel-none s ps env t.0 0 e t.2 (subst (λ k. Unused e (used k)) t.1 h)
-  listed-none s (drained d n) env c e t h = dropped _ _ [] (other-channel d e [] (subst (λ k. Unused e (used k)) t h))
+  listed-none s (drained d n) env c e t h = refl
 
   sequence-none : (s : Store) (ps : Procs) (env : Received) (cs : Codes) (k n e : ℕ) → AllStemFrom ps cs → Unused e (all_used cs) → on e (listed_sequence s env k n ps).actions ≡ []
   sequence-none s no_procs env cs zero n e t h = refl
@@ -103,6 +106,10 @@ mutual
   parallel-none s (proc p ps) env (code c cs) n e t h =
       both-none e n (listed s env p) (listed_parallel s env (n + 1) ps) (listed-none s p env c e t.0 (λ i. h (in-first e (used c) (all_used cs) i)))
       (parallel-none s ps env cs (n + 1) e t.1 (λ i. h (in-second e (used c) (all_used cs) i)))
+
+-- arms that have not opened offer none
+pub awaits-none : (e : ℕ) (s : Store) (env : Received) (c : made.Code) (w : Await) → c ≡ made.Await w → on e (listed s env (started (code_view c))).actions ≡ []
+awaits-none e s env c w is = ap (λ (k : Code). on e (listed s env (started k)).actions) (is-await c w w w.arms is refl refl) ∙ opens_none e 0 w.channels
 
 -- ---- branches by their numbers
 -- what branches from number k on offer on the channel, the first of all in branch n

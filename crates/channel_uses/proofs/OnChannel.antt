@@ -1,12 +1,11 @@
 -- What a process offers on a channel, form by form.
-use Rattle.std.proofs.Common.{◌≡◌, inl, inr, ℕ, zero, suc, ◌+◌, ◌*◌, ◌==◌, List, [], ◌∷◌, ◌++◌, Bool, true, false, cond, Option, Some, None, slice_get, refl, sym, ap, ap₂, ◌∙◌, subst, ne_eqb}
+use Rattle.std.proofs.Common.{◌≡◌, inl, inr, ℕ, zero, suc, ◌+◌, ◌*◌, ◌==◌, List, [], ◌∷◌, ◌++◌, Bool, true, false, cond, Option, Some, None, refl, sym, ap, ap₂, ◌∙◌, subst, ne_eqb}
 use Rattle.address.specs.declared.Entry.{Entry}
 use Rattle.address.specs.declared.Entry.TheVariants.{Ordered, Branch}
 use Rattle.syntax.specs.Lists.{In}
 use Rattle.system.specs.Expression.{Store, Expression, Decision}
 use Rattle.system.specs.Residual.{Residual, done, test, choose, closing, within, along}
 use Rattle.runs.specs.internal.After.{is_done}
-use Rattle.runs.proofs.public.Options.{none-some, some-injective}
 use Rattle.process_tree.specs.Code.{Once, assigning, receiving, Sender, sending, syncing, Codes, no_code, code, code_at}
 use Rattle.process_tree.specs.Proc.{waiting, holding, past, idle, stopped, once, sender, fresh, turn, ended_at_once, ended, untested, skipped, took, unopened, entered, closed, sequence, parallel, drained, Procs, no_procs, proc}
 use Rattle.process_tree.specs.Remaining.{Received, with_value, puts, residual_once, residual_sender, channel_of, again, residual, residual_arms, remaining, remaining_sequence, remaining_parallel}
@@ -14,9 +13,9 @@ use Rattle.process_tree.proofs.public.Puts.{puts-once, puts-sender, puts-again, 
 use Rattle.local_actions.specs.Walk.{action_at}
 use Rattle.local_actions.specs.internal.Listed.{behind, open_actions, actions_of_residual}
 use Rattle.local_actions.specs.declared.action.LocalAction.{LocalAction}
-use Rattle.channel_uses.specs.OnChannel.{is_on, on, OffersNothingUnused}
+use Rattle.channel_uses.specs.OnChannel.{is_partner_on, on, OffersNothingUnused}
 use Rattle.channel_uses.specs.StemsFrom.{AllStemFrom}
-use Rattle.channel_uses.specs.Uses.{used_once, used, all_used}
+use Rattle.channel_uses.specs.Uses.{used, all_used}
 
 -- ---- lists
 behind-cond : (x : Entry) (b : Bool) (r : LocalAction) (rs : List LocalAction) → behind x (cond b (r ∷ rs) rs) ≡ cond b (action_at (x ∷ r.place) r.action ∷ behind x rs) (behind x rs)
@@ -27,7 +26,7 @@ behind-cond x false r rs = refl
 pub on-behind : (e : ℕ) (x : Entry) (rs : List LocalAction) → on e (behind x rs) ≡ behind x (on e rs)
 on-behind e x [] = refl
 on-behind e x (r ∷ rs) =
-    ap (λ l. cond (is_on e r.action) (action_at (x ∷ r.place) r.action ∷ l) l) (on-behind e x rs) ∙ sym (behind-cond x (is_on e r.action) r (on e rs))
+    ap (λ l. cond (is_partner_on e r.action) (action_at (x ∷ r.place) r.action ∷ l) l) (on-behind e x rs) ∙ sym (behind-cond x (is_partner_on e r.action) r (on e rs))
 
 both-cond : (b : Bool) (r : LocalAction) (xs ys : List LocalAction) → cond b (r ∷ xs) xs ++ ys ≡ cond b (r ∷ (xs ++ ys)) (xs ++ ys)
 both-cond true r xs ys = refl
@@ -36,10 +35,10 @@ both-cond false r xs ys = refl
 -- of two lists
 pub on-both : (e : ℕ) (xs ys : List LocalAction) → on e (xs ++ ys) ≡ on e xs ++ on e ys
 on-both e [] ys = refl
-on-both e (r ∷ xs) ys = ap (λ l. cond (is_on e r.action) (r ∷ l) l) (on-both e xs ys) ∙ sym (both-cond (is_on e r.action) r (on e xs) (on e ys))
+on-both e (r ∷ xs) ys = ap (λ l. cond (is_partner_on e r.action) (r ∷ l) l) (on-both e xs ys) ∙ sym (both-cond (is_partner_on e r.action) r (on e xs) (on e ys))
 
 -- one that is not on the channel
-pub on-other : (e : ℕ) (r : LocalAction) (rs : List LocalAction) → is_on e r.action ≡ false → on e (r ∷ rs) ≡ on e rs
+pub on-other : (e : ℕ) (r : LocalAction) (rs : List LocalAction) → is_partner_on e r.action ≡ false → on e (r ∷ rs) ≡ on e rs
 on-other e r rs h = ap (λ b. cond b (r ∷ on e rs) (on e rs)) h
 
 -- the same, by the test
@@ -47,7 +46,7 @@ pub dropped : (b : Bool) (r : LocalAction) (rs : List LocalAction) → b ≡ fal
 dropped b r rs h = ap (λ c. cond c (r ∷ rs) rs) h
 
 -- one that is
-pub on-one : (e : ℕ) (r : LocalAction) (rs : List LocalAction) → is_on e r.action ≡ true → on e (r ∷ rs) ≡ r ∷ on e rs
+pub on-one : (e : ℕ) (r : LocalAction) (rs : List LocalAction) → is_partner_on e r.action ≡ true → on e (r ∷ rs) ≡ r ∷ on e rs
 on-one e r rs h = ap (λ b. cond b (r ∷ on e rs) (on e rs)) h
 
 -- ---- residuals
@@ -88,10 +87,9 @@ again-none e s n env (Some x) r = ap (λ q. on e (actions_of_residual s q)) (put
 pub test-none : (e : ℕ) (s : Store) (env : Received) (d : Decision) (cs : Codes) → on e (actions_of_residual s (puts env (test d (residual_arms cs)))) ≡ []
 test-none e s env d cs = ap (λ q. on e (actions_of_residual s q)) (puts-test env d (residual_arms cs))
 
-once-none : (e : ℕ) (s : Store) (env : Received) (o : Once) → (In e (used_once o) → ⊥) → on e (actions_of_residual s (puts env (residual_once o))) ≡ []
-once-none e s env (assigning x w v) h = ap (λ q. on e (actions_of_residual s q)) (puts-once env (assigning x w v))
-once-none e s env (receiving d x) h =
-    ap (λ q. on e (actions_of_residual s q)) (puts-once env (receiving d x)) ∙ dropped _ _ [] (other-channel d e [] h)
+once-none : (e : ℕ) (s : Store) (env : Received) (o : Once) → on e (actions_of_residual s (puts env (residual_once o))) ≡ []
+once-none e s env (assigning x w v) = ap (λ q. on e (actions_of_residual s q)) (puts-once env (assigning x w v))
+once-none e s env (receiving d x) = ap (λ q. on e (actions_of_residual s q)) (puts-once env (receiving d x))
 
 waiting-none : (e : ℕ) (s : Store) (env : Received) (x : Sender) → (In e (channel_of x ∷ []) → ⊥) → on e (actions_of_residual s (puts env (residual_sender x))) ≡ []
 waiting-none e s env (sending d w v) h =
@@ -99,12 +97,12 @@ waiting-none e s env (sending d w v) h =
 waiting-none e s env (syncing d) h =
     ap (λ q. on e (actions_of_residual s q)) (puts-sender env (syncing d)) ∙ dropped _ _ [] (other-channel d e [] h)
 
-pub opens-none : (e k : ℕ) (ds : List ℕ) → (In e ds → ⊥) → on e (open_actions k ds) ≡ []
-opens-none e k [] h = refl
-opens-none e k (d ∷ ds) h = dropped _ _ (on e (open_actions (suc k) ds)) (other-channel d e ds h) ∙ opens-none e (suc k) ds (λ i. h (inr i))
+pub opens_none : (e k : ℕ) (ds : List ℕ) → on e (open_actions k ds) ≡ []
+opens_none e k [] = refl
+opens_none e k (d ∷ ds) = opens_none e (suc k) ds
 
-choose-none : (e : ℕ) (s : Store) (env : Received) (ds : List ℕ) (cs : Codes) → (In e ds → ⊥) → on e (actions_of_residual s (puts env (choose ds (residual_arms cs)))) ≡ []
-choose-none e s env ds cs h = ap (λ q. on e (actions_of_residual s q)) (puts-choose env ds (residual_arms cs)) ∙ opens-none e 0 ds h
+choose-none : (e : ℕ) (s : Store) (env : Received) (ds : List ℕ) (cs : Codes) → on e (actions_of_residual s (puts env (choose ds (residual_arms cs)))) ≡ []
+choose-none e s env ds cs = ap (λ q. on e (actions_of_residual s q)) (puts-choose env ds (residual_arms cs)) ∙ opens_none e 0 ds
 
 -- ---- uses of parts
 pub in-first : (e : ℕ) (xs ys : List ℕ) → In e xs → In e (xs ++ ys)
@@ -121,18 +119,9 @@ in-arm e no_code j i = absurd i
 in-arm e (code c cs) zero i = in-first e (used c) (all_used cs) i
 in-arm e (code c cs) (suc j) i = in-second e (used c) (all_used cs) (in-arm e cs j i)
 
--- the channel of an opened arm is used
-pub at-in : (e : ℕ) (ds : List ℕ) (j : ℕ) → slice_get ds j ≡ Some e → In e ds
-at-in e [] j h = none-some e h
-at-in e (d ∷ ds) zero h = inl (sym (some-injective d e h))
-at-in e (d ∷ ds) (suc j) h = inr (at-in e ds j h)
-
 -- no use of the whole is none of a part
 abbrev Unused : ℕ → List ℕ → Type 0
 Unused e ds = In e ds → ⊥
-
-close-none : (e d : ℕ) (s : Store) (ds : List ℕ) (j : ℕ) → slice_get ds j ≡ Some d → Unused e ds → on e (actions_of_residual s (closing d)) ≡ []
-close-none e d s ds j is h = dropped _ _ [] (ne_eqb d e (λ same. h (subst (λ x. In x ds) same (at-in d ds j is))))
 
 mutual
   -- a process offers nothing on a channel that its command does not use
@@ -140,7 +129,7 @@ mutual
   none-unused s idle env c e t h = refl
   none-unused s stopped env c e t h = refl
   none-unused s (once o true) env c e t h = refl
-  none-unused s (once o false) env c e t h = once-none e s env o (subst (λ k. Unused e (used k)) t h)
+  none-unused s (once o false) env c e t h = once-none e s env o
   none-unused s (sender x waiting) env c e t h = waiting-none e s env x (subst (λ k. Unused e (used k)) t h)
   none-unused s (sender x holding) env c e t h =
       dropped _ _ [] (other-channel (channel_of x) e [] (subst (λ k. Unused e (used k)) t h))
@@ -155,16 +144,14 @@ mutual
   none-unused s (skipped d cs) env c e t h = refl
   none-unused s (took d cs j q) env c e t h =
       within-none e s 1 (remaining env q) done (none-unused s q env (code_at cs j) e t.1 (λ i. subst (λ k. Unused e (used k)) t.0 h (in-arm e cs j i))) refl
-  none-unused s (unopened ds cs) env c e t h = choose-none e s env ds cs (λ i. subst (λ k. Unused e (used k)) t h (in-first e ds (all_used cs) i))
+  none-unused s (unopened ds cs) env c e t h = choose-none e s env ds cs
   none-unused s (entered ds cs d v q) env c e t h =
-      let all = subst (λ k. Unused e (used k)) t.0 h in
       within-none e s 1 (remaining (with_value d v env) q) (closing d)
-      (none-unused s q (with_value d v env) (code_at cs t.1) e t.3 (λ i. all (in-second e ds (all_used cs) (in-arm e cs t.1 i))))
-      (close-none e d s ds t.1 t.2 (λ i. all (in-first e ds (all_used cs) i)))
+      (none-unused s q (with_value d v env) (code_at cs t.1) e t.3 (λ i. subst (λ k. Unused e (used k)) t.0 h (in-arm e cs t.1 i))) refl
   none-unused s (closed ds cs d v q) env c e t h = refl
   none-unused s (sequence ps) env c e t h = none-in-turn s ps env t.0 0 e t.2 (subst (λ k. Unused e (used k)) t.1 h)
   none-unused s (parallel ps) env c e t h = none-side-by-side s ps env t.0 0 e t.2 (subst (λ k. Unused e (used k)) t.1 h)
-  none-unused s (drained d n) env c e t h = dropped _ _ [] (other-channel d e [] (subst (λ k. Unused e (used k)) t h))
+  none-unused s (drained d n) env c e t h = refl
 
   none-in-turn : (s : Store) (ps : Procs) (env : Received) (cs : Codes) (n e : ℕ) → AllStemFrom ps cs → Unused e (all_used cs) → on e (actions_of_residual s (remaining_sequence env n ps)) ≡ []
   none-in-turn s no_procs env cs n e t h = refl

@@ -11,34 +11,34 @@ use Rattle.local_actions.specs.Walk.{Walk}
 use Rattle.local_actions.specs.declared.action.LocalAction.{LocalAction}
 use Rattle.local_actions.proofs.public.Exactly.{state}
 use Rattle.local_actions.proofs.public.Walked.{below-root, offers-exactly}
-use Rattle.channel_uses.specs.OnChannel.{is_on, on}
+use Rattle.channel_uses.specs.OnChannel.{is_partner_on, on}
 use Rattle.channel_uses.specs.internal.Located.{finds}
 
-on-in : (e : ℕ) (x : LocalAction) (rs : List LocalAction) → In x (on e rs) → In x rs × (is_on e x.action ≡ true)
+on-in : (e : ℕ) (x : LocalAction) (rs : List LocalAction) → In x (on e rs) → In x rs × (is_partner_on e x.action ≡ true)
 on-in e x [] i = absurd i
-on-in e x (r ∷ rs) i = pick (is_on e r.action) refl (on-in e x rs) i
+on-in e x (r ∷ rs) i = pick (is_partner_on e r.action) refl (on-in e x rs) i
   where
-    pick : (b : Bool) → is_on e r.action ≡ b → (In x (on e rs) → In x rs × (is_on e x.action ≡ true)) → In x (cond b (r ∷ on e rs) (on e rs)) → In x (r ∷ rs) × (is_on e x.action ≡ true)
+    pick : (b : Bool) → is_partner_on e r.action ≡ b → (In x (on e rs) → In x rs × (is_partner_on e x.action ≡ true)) → In x (cond b (r ∷ on e rs) (on e rs)) → In x (r ∷ rs) × (is_partner_on e x.action ≡ true)
     pick true t later j = elim j [
-      | inl u ↦ (inl u, ap (λ (y : LocalAction). is_on e y.action) u ∙ t)
+      | inl u ↦ (inl u, ap (λ (y : LocalAction). is_partner_on e y.action) u ∙ t)
       | inr u ↦ let rest = later u in (inr rest.0, rest.1)
     ]
     pick false t later j = let rest = later j in (inr rest.0, rest.1)
 
-in-on : (e : ℕ) (x : LocalAction) (rs : List LocalAction) → In x rs → is_on e x.action ≡ true → In x (on e rs)
+in-on : (e : ℕ) (x : LocalAction) (rs : List LocalAction) → In x rs → is_partner_on e x.action ≡ true → In x (on e rs)
 in-on e x [] i t = absurd i
-in-on e x (r ∷ rs) i t = pick (is_on e r.action) refl (λ u. in-on e x rs u t) i
+in-on e x (r ∷ rs) i t = pick (is_partner_on e r.action) refl (λ u. in-on e x rs u t) i
   where
-    pick : (b : Bool) → is_on e r.action ≡ b → (In x rs → In x (on e rs)) → In x (r ∷ rs) → In x (cond b (r ∷ on e rs) (on e rs))
+    pick : (b : Bool) → is_partner_on e r.action ≡ b → (In x rs → In x (on e rs)) → In x (r ∷ rs) → In x (cond b (r ∷ on e rs) (on e rs))
     pick true f later j = elim j [ inl u ↦ inl u | inr u ↦ inr (later u) ]
     pick false f later j = elim j [
-      | inl u ↦ let told : is_on e r.action ≡ true = sym (ap (λ (y : LocalAction). is_on e y.action) u) ∙ t in cc
+      | inl u ↦ let told : is_partner_on e r.action ≡ true = sym (ap (λ (y : LocalAction). is_partner_on e y.action) u) ∙ t in cc
       | inr u ↦ later u
     ]
 
 -- a walk from the root for one channel
 pub offered-on : (e : ℕ) (s t : Store) (p q : Proc) (w v : Walk) (rs : List LocalAction) → Tidy p → w ≡ record { place = []; received = []; actions = [] } → v ≡ finds e t q w → t ≡ s → q ≡ p → rs ≡ v.actions
-    → (x : LocalAction) → In x rs ↔ (Offered (state (remaining [] p) s) x × (is_on e x.action ≡ true))
+    → (x : LocalAction) → In x rs ↔ (Offered (state (remaining [] p) s) x × (is_partner_on e x.action ≡ true))
 offered-on e s t p q w v rs tidy start found st qp is x =
     let all = offers-exactly s p (listed s [] p).actions tidy refl in
     let list : rs ≡ on e (listed s [] p).actions =

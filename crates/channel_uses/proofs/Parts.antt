@@ -1,12 +1,11 @@
 -- The numbers of the uses within the parts of a command.
 use Rattle.std.proofs.Common.{◌≡◌, ℕ, List, [], ◌∷◌, ◌++◌, length, map, refl, sym, ap, ◌∙◌, subst, append_assoc, append-nil, length-append, Option, option_map, rules}
-use Rattle.process_tree.specs.Code.{Once, Sender, Code, continues, halts, moves_once, may_be_held, repeats, decides, awaits, in_turn, side_by_side, drains, Codes, no_code, code}
+use Rattle.process_tree.specs.Code.{Sender, Code, continues, halts, moves_once, may_be_held, repeats, decides, awaits, in_turn, side_by_side, drains, Codes, no_code, code}
 use Rattle.process_tree.specs.Remaining.{channel_of}
 use Rattle.system.specs.Expression.{Expression, Decision}
 use Rattle.system.specs.Translation.{expression_of, decision_of}
 use Rattle.process_tree.specs.Translation.{row_of}
-use Rattle.process_tree.specs.View.{once_view, sender_view, code_view}
-use Rattle.process_tree.specs.declared.code.Once as made_once
+use Rattle.process_tree.specs.View.{sender_view, code_view}
 use Rattle.process_tree.specs.declared.code.Sender as made_sender
 use Rattle.process_tree.specs.declared.code.Await.{Await}
 use Rattle.process_tree.specs.declared.code.Code as made
@@ -14,7 +13,7 @@ use Rattle.process_tree.specs.declared.code.Code.TheFolds.{the_lemmas}
 use Rattle.process_tree.specs.declared.code.Decide.{Decide}
 use Rattle.process_tree.specs.declared.code.Repeat.{Repeat}
 use Rattle.process_tree.specs.declared.code.Row.{Row}
-use Rattle.channel_uses.specs.Uses.{used_once, used, all_used}
+use Rattle.channel_uses.specs.Uses.{used, all_used}
 use Rattle.channel_uses.specs.internal.Parts.{first, end, parts, Spans, IsPart, AreParts, AddedUses, Numbered, NumberedRow}
 use Rattle.channel_uses.specs.declared.part.Part.{Part}
 
@@ -59,14 +58,7 @@ row-end all rest from old new ps p h none f e is = record {
   are = subst (AreParts all (length old)) (append-nil ps ∙ sym is) (h.are [] (subst (λ r. AreParts r (length new) []) (sym none) refl));
 }
 
--- what makes one move
-pub once-numbered : (o : Once) (old new : List ℕ) (p : Part) → AddedUses (used_once o) old new p → Numbered (moves_once o) old new p
-once-numbered o old new p h = record { added = h.added; is = h.spans }
-
--- what may be held
-pub drain-numbered : (c : ℕ) (old new : List ℕ) (p : Part) → AddedUses (c ∷ []) old new p → Numbered (drains c) old new p
-drain-numbered c old new p h = record { added = h.added; is = h.spans }
-
+-- what may be held, and what is in others
 pub repeat-numbered : (g : Option Expression) (c : Code) (old new : List ℕ) (p : Part) → Numbered c old new p → Numbered (repeats g c) old new p
 repeat-numbered g c old new p h = record { added = h.added; is = h.is }
 
@@ -89,23 +81,15 @@ in-turn-numbered cs n old new p is h = record { added = h.added; is = (row-spans
 pub side-by-side-numbered : (cs : Codes) (n : ℕ) (old new : List ℕ) (p : Part) → n ≡ length old → NumberedRow cs n old new p → Numbered (side_by_side cs) old new p
 side-by-side-numbered cs n old new p is h = record { added = h.added; is = (row-spans cs n old new p is h, h.are) }
 
--- arms that wait, with their channels in front
-pub awaits-numbered : (ds : List ℕ) (cs : Codes) (n : ℕ) (old more new : List ℕ) (p : Part) → n ≡ length old → more ≡ old ++ ds → NumberedRow cs n more new p → Numbered (awaits ds cs) old new p
-awaits-numbered ds cs n old more new p is e h =
-    let added = h.added ∙ ap (λ xs. xs ++ all_used cs) e ∙ append_assoc old ds (all_used cs) in
-    record {
-      added = added;
-      is = ((h.begins ∙ is, h.ends ∙ ap length added ∙ length-append old (ds ++ all_used cs)), subst (λ m. AreParts cs m (parts p)) (ap length e ∙ length-append old ds) h.are);
-    }
+-- and arms that wait
+pub awaits-numbered : (ds : List ℕ) (cs : Codes) (n : ℕ) (old new : List ℕ) (p : Part) → n ≡ length old → NumberedRow cs n old new p → Numbered (awaits ds cs) old new p
+awaits-numbered ds cs n old new p is h = record { added = h.added; is = (row-spans cs n old new p is h, h.are) }
 
 -- by what a command is
 pub numbered-as : (c d : Code) (old new : List ℕ) (p : Part) → c ≡ d → Numbered d old new p → Numbered c old new p
 numbered-as c d old new p e h = subst (λ k. Numbered k old new p) (sym e) h
 
 -- what the commands in memory are
-pub is-once : (c : made.Code) (o g : made_once.Once) → c ≡ made.Once o → g ≡ o → code_view c ≡ moves_once (once_view g)
-is-once c o g e f = ap code_view (e ∙ ap made.Once (sym f)) ∙ search (rules, the_lemmas)
-
 pub is-sender : (c : made.Code) (s g : made_sender.Sender) → c ≡ made.Sender s → g ≡ s → code_view c ≡ may_be_held (sender_view g)
 is-sender c s g e f = ap code_view (e ∙ ap made.Sender (sym f)) ∙ search (rules, the_lemmas)
 
@@ -135,6 +119,3 @@ side-by-side-view r = search (rules, the_lemmas)
 
 pub is-side-by-side : (c : made.Code) (r g : Row) (xs : List made.Code) → c ≡ made.SideBySide r → g ≡ r → xs ≡ g.codes → code_view c ≡ side_by_side (row_of (map code_view xs))
 is-side-by-side c r g xs e f is = ap code_view (e ∙ ap made.SideBySide (sym f)) ∙ side-by-side-view g ∙ ap (λ ys. side_by_side (row_of (map code_view ys))) (sym is)
-
-pub is-drain : (c : made.Code) (d : ℕ) → c ≡ made.Drain d → code_view c ≡ drains d
-is-drain c d e = ap code_view e ∙ search (rules, the_lemmas)

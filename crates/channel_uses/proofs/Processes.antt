@@ -1,16 +1,15 @@
 -- What processes offer on a channel, form by form, and child by child.
-use Rattle.std.proofs.Common.{◌≡◌, ℕ, zero, suc, ◌+◌, ◌*◌, ◌<◌, ◌≤◌, min, List, [], ◌∷◌, ◌++◌, length, map, Bool, true, false, cond, Option, Some, None, IfSome, slice_get, Bor, refl, sym, ap, ap₂, ◌∙◌, subst, append-nil, length-append, arith, rules}
+use Rattle.std.proofs.Common.{◌≡◌, ℕ, zero, suc, ◌+◌, ◌*◌, ◌<◌, ◌≤◌, min, List, [], ◌∷◌, length, map, Bool, true, false, cond, Option, Some, None, IfSome, slice_get, Bor, refl, sym, ap, ap₂, ◌∙◌, subst, arith, rules}
 use Rattle.std.specs.Global.{Box}
 use Rattle.address.specs.declared.Entry.TheVariants.{Ordered}
 use Rattle.value.specs.Word.{Word}
 use Rattle.system.specs.Expression.{Store, Expression, Decision}
 use Rattle.runs.proofs.public.Options.{none-some, some-injective}
-use Rattle.last_events.specs.LastEvents.{Uses}
 use Rattle.last_events.specs.declared.uses.UseTable.{UseTable}
 use Rattle.process_tree.specs.Children.{proc_at}
 use Rattle.process_tree.specs.Code.{Code, continues, halts, moves_once, may_be_held, repeats, decides, awaits, in_turn, side_by_side, drains, Codes, no_code, code, code_at}
 use Rattle.process_tree.specs.Remaining.{Received, with_value}
-use Rattle.process_tree.specs.Proc.{Proc, turn, took, entered, sequence, parallel, drained, Procs, no_procs, proc, started, all_started}
+use Rattle.process_tree.specs.Proc.{Proc, turn, took, unopened, entered, sequence, parallel, Procs, no_procs, proc, started, all_started}
 use Rattle.process_tree.specs.Translation.{row_of}
 use Rattle.process_tree.specs.View.{code_view, await_view, proc_view, begun_of, turn_of, opened_of}
 use Rattle.process_tree.specs.internal.Parts.{tested_view, gate_view}
@@ -27,20 +26,17 @@ use Rattle.process_tree.specs.declared.proc.Tested as made_tested
 use Rattle.process_tree.specs.declared.proc.Tested.{Tested}
 use Rattle.local_actions.specs.Walk.{Walk, action_at, added}
 use Rattle.local_actions.specs.internal.Listed.{behind, again_at, Listing, nothing, at_work, one_after, listed, listed_sequence}
-use Rattle.local_actions.specs.declared.action.LocalAction.{LocalAction}
 use Rattle.local_actions.specs.declared.action.ActionKind.TheVariants.{Closes}
 use Rattle.local_actions.proofs.public.Begun.{begun-row, row-is, row-past}
 use Rattle.local_actions.proofs.public.OneByOne.{over-nothing, listed-step}
-use Rattle.local_actions.proofs.public.Walks.{added-none, added-both}
+use Rattle.local_actions.proofs.public.Walks.{added-none}
 use Rattle.channel_uses.specs.OnChannel.{on}
 use Rattle.channel_uses.specs.StemsFrom.{StemsFrom, AllStemFrom}
-use Rattle.channel_uses.specs.Uses.{all_used}
-use Rattle.channel_uses.specs.internal.Located.{LocatedCode, LocatedRow, LocatedProc, LocatedProcs, AgreeFrom, ClosesOn, finds, finds_at}
-use Rattle.channel_uses.specs.internal.Parts.{end, InTable, UnusedBetween}
+use Rattle.channel_uses.specs.internal.Located.{LocatedCode, LocatedRow, LocatedProc, LocatedProcs, AgreeFrom, finds, finds_at}
+use Rattle.channel_uses.specs.internal.Parts.{UnusedBetween}
 use Rattle.channel_uses.specs.declared.part.Part.{Part}
 use Rattle.channel_uses.proofs.Finding.{after-none, listed-none}
-use Rattle.channel_uses.proofs.OnChannel.{on-behind}
-use Rattle.channel_uses.proofs.Searches.{get-second}
+use Rattle.channel_uses.proofs.OnChannel.{on-behind, opens_none}
 
 -- ---- what a process stems from, part by part
 -- a loop has the part of its body
@@ -66,18 +62,10 @@ took-located table part own d cs j q known h = record {
   stems = h.stems.1;
 }
 
--- arms that wait, behind the uses of their channels
-told-behind : (table : UseTable) (n : ℕ) (ds es : List ℕ) → InTable table n (ds ++ es) → InTable table (n + length ds) es
-told-behind table n ds es h c i is =
-    let same : n + (length ds + i) ≡ n + length ds + i = omega arith in
-    subst (Uses table c) same (h c (length ds + i) (get-second ds es i ∙ is))
-
+-- arms that wait
 row-awaits : (table : UseTable) (part : Option (Bor Part)) (ds : List ℕ) (cs : Codes) → LocatedCode table part (awaits ds cs) → LocatedRow table part cs
-row-awaits table None ds cs h = record { number = h.number + length ds; told = told-behind table h.number ds (all_used cs) h.told; are = tt }
-row-awaits table (Some q) ds cs h =
-    let ends : end q.now ≡ h.number + length (ds ++ all_used cs) = h.is.0.1 in
-    let both : length (ds ++ all_used cs) ≡ length ds + length (all_used cs) = length-append ds (all_used cs) in
-    record { number = h.number + length ds; told = told-behind table h.number ds (all_used cs) h.told; are = (h.is.1, omega (arith, ends, both)) }
+row-awaits table None ds cs h = record { number = h.number; told = h.told; are = tt }
+row-awaits table (Some q) ds cs h = record { number = h.number; told = h.told; are = (h.is.1, h.is.0.1) }
 
 pub opened-located : (table : UseTable) (part own : Option (Bor Part)) (only : Option ℕ) (ds : List ℕ) (cs : Codes) (e : ℕ) (v : Option Word) (q : Proc)
     → ((table : UseTable) (cs : Codes) (j : ℕ) → LocatedRow table part cs → IfSome only (λ k. j ≡ k) → LocatedCode table own (code_at cs j))
@@ -104,10 +92,6 @@ gate-located table part own only ds cs e v q false known one h = opened-located 
 -- the channels of arms in memory
 pub await-channels : (a : Await) → (await_view a).0 ≡ a.channels
 await-channels a = search (rules, code_lemmas)
-
--- an output port in memory
-pub is-drained : (p : made.Proc) (c n : ℕ) → p ≡ made.Drained c n → proc_view p ≡ drained c n
-is-drained p c n is = ap proc_view is ∙ search (rules, the_lemmas)
 
 -- children of a sequence and of a parallel
 pub in-turn-located : (table : UseTable) (part : Option (Bor Part)) (ps : Procs) → LocatedProc table part (sequence ps) → LocatedProcs table part ps
@@ -226,23 +210,20 @@ gate-view ds cs e v over t q p is here = ap (λ (z : Gate). gate_view z ds cs) i
     view : gate_view (made_gate.Opened e v over q) ds cs ≡ opened_of over ds cs e v (proc_view q.value)
     view = search (rules, the_lemmas)
 
--- an arm offers what its body does, and its close
-arm-only : (e d : ℕ) (x : Listing) → (x.over ≡ true → x.actions ≡ [])
-    → behind (Ordered 1) (on e x.actions) ++ cond x.over (on e (action_at (Ordered 2 ∷ []) (Closes d) ∷ [])) [] ≡ on e (one_after 1 x (at_work (action_at (Ordered 2 ∷ []) (Closes d) ∷ []))).actions
-arm-only e d x h = pick x.over h
+-- arms that have not opened offer none
+pub unopened-none : (e : ℕ) (s : Store) (env : Received) (g : Gate) (ds : List ℕ) (cs : Codes) → g ≡ made_gate.Unopened → on e (listed s env (gate_view g ds cs)).actions ≡ []
+unopened-none e s env g ds cs is =
+    ap (λ (z : Gate). on e (listed s env (gate_view z ds cs)).actions) is ∙ ap (λ (p : Proc). on e (listed s env p).actions) view ∙ opens_none e 0 ds
   where
-    pick : (b : Bool) → (b ≡ true → x.actions ≡ [])
-        → behind (Ordered 1) (on e x.actions) ++ cond b (on e (action_at (Ordered 2 ∷ []) (Closes d) ∷ [])) [] ≡ on e (cond b (at_work (action_at (Ordered 2 ∷ []) (Closes d) ∷ [])) (at_work (behind (Ordered 1) x.actions))).actions
-    pick true h = ap (λ l. behind (Ordered 1) (on e l) ++ on e (action_at (Ordered 2 ∷ []) (Closes d) ∷ [])) (h refl)
-    pick false h = append-nil (behind (Ordered 1) (on e x.actions)) ∙ sym (on-behind e (Ordered 1) x.actions)
+    view : gate_view made_gate.Unopened ds cs ≡ unopened ds cs
+    view = search (rules, the_lemmas)
 
-pub arm-found : (e d : ℕ) (s : Store) (ds : List ℕ) (cs : Codes) (x : Option Word) (q : Proc) (over : Bool) (w u v : Walk) → over ≡ false
-    → u ≡ added (behind (Ordered 1) (on e (listed s (with_value d x w.received) q).actions)) w → ClosesOn e d q u v → v ≡ finds e s (opened_of over ds cs d x q) w
-arm-found e d s ds cs x q over w u v f h k =
+-- of an arm the body is all that is on a channel
+pub arm-found : (e d : ℕ) (s : Store) (ds : List ℕ) (cs : Codes) (x : Option Word) (q : Proc) (over : Bool) (w u : Walk) → over ≡ false
+    → u ≡ added (behind (Ordered 1) (on e (listed s (with_value d x w.received) q).actions)) w → u ≡ finds e s (opened_of over ds cs d x q) w
+arm-found e d s ds cs x q over w u f h =
     let env = with_value d x w.received in
-    let close : List LocalAction = cond (listed s env q).over (on e (action_at (Ordered 2 ∷ []) (Closes d) ∷ [])) [] in
-    k s env ∙ ap (added close) h ∙ added-both (behind (Ordered 1) (on e (listed s env q).actions)) close w
-    ∙ ap (λ l. added l w) (arm-only e d (listed s env q) (over-nothing s env q))
+    h ∙ ap (λ l. added l w) (sym (child-only e 1 (listed s env q) (at_work (action_at (Ordered 2 ∷ []) (Closes d) ∷ [])) (over-nothing s env q) refl))
     ∙ sym (ap (λ o. finds e s (opened_of o ds cs d x q) w) f)
 
 -- ---- children of a sequence

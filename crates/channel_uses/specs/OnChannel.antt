@@ -1,5 +1,4 @@
--- The actions of events on a channel, and the law that a process offers none on a channel that its command does not
--- use.
+-- The partners on a channel, and the law that a process offers none on a channel that its command does not use.
 use Rattle.std.specs.Prelude.{◌≡◌, ℕ, ◌==◌, List, [], ◌∷◌, Bool, false, cond}
 use Rattle.syntax.specs.Lists.{In}
 use Rattle.system.specs.Expression.{Store}
@@ -9,24 +8,21 @@ use Rattle.process_tree.specs.Remaining.{Received, remaining}
 use Rattle.local_actions.specs.internal.Listed.{actions_of_residual}
 use Rattle.local_actions.specs.declared.action.LocalAction.{LocalAction}
 use Rattle.local_actions.specs.declared.action.ActionKind.{ActionKind}
-use Rattle.local_actions.specs.declared.action.ActionKind.TheVariants.{Sends, Receives, Syncs, Opens, Releases, Closes}
+use Rattle.local_actions.specs.declared.action.ActionKind.TheVariants.{Sends, Syncs, Releases}
 use Rattle.channel_uses.specs.StemsFrom.{StemsFrom}
 use Rattle.channel_uses.specs.Uses.{used}
 
--- whether the action is that of an event on channel c
-abbrev pub is_on : ℕ → ActionKind → Bool
-is_on c (Sends d v read) = d == c
-is_on c (Receives d x) = d == c
-is_on c (Syncs d) = d == c
-is_on c (Opens d k) = d == c
-is_on c (Releases d) = d == c
-is_on c (Closes d) = d == c
-is_on c _ = false
+-- whether the action is the partner of one that acts on channel c: it sends or syncs, or is held until a close
+abbrev pub is_partner_on : ℕ → ActionKind → Bool
+is_partner_on c (Sends d v read) = d == c
+is_partner_on c (Syncs d) = d == c
+is_partner_on c (Releases d) = d == c
+is_partner_on c _ = false
 
--- those of the actions that are on channel c
+-- those of the actions that are
 abbrev pub on : ℕ → List LocalAction → List LocalAction
 on c [] = []
-on c (r ∷ rs) = cond (is_on c r.action) (r ∷ on c rs) (on c rs)
+on c (r ∷ rs) = cond (is_partner_on c r.action) (r ∷ on c rs) (on c rs)
 
 -- a process that stems from a command which does not use channel e offers nothing on it
 abbrev pub OffersNothingUnused : Type 0

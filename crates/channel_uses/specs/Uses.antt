@@ -1,29 +1,24 @@
--- The uses of channels by a command, in the order of the text, and the tables that are made of them.
+-- The uses of channels by a command, which are its sends and syncs in the order of the text, and the tables that are
+-- made of them.
 use Rattle.std.specs.Prelude.{◌≡◌, ◌↔◌, ℕ, List, [], ◌∷◌, ◌++◌, Some, slice_get}
-use Rattle.process_tree.specs.Code.{Once, assigning, receiving, Code, continues, halts, moves_once, may_be_held, repeats, decides, awaits, in_turn, side_by_side, drains, Codes, no_code, code}
+use Rattle.process_tree.specs.Code.{Code, continues, halts, moves_once, may_be_held, repeats, decides, awaits, in_turn, side_by_side, drains, Codes, no_code, code}
 use Rattle.process_tree.specs.Remaining.{channel_of}
 use Rattle.last_events.specs.LastEvents.{Uses}
 use Rattle.last_events.specs.declared.uses.UseTable.{UseTable}
 
--- a receive uses its channel
-abbrev pub used_once : Once → List ℕ
-used_once (assigning x w e) = []
-used_once (receiving c x) = c ∷ []
-
 abbrev mutual
-  -- The channels that a command uses, in the order of the text, one as often as it stands there. Where arms wait, their
-  -- channels come before what the arms do.
+  -- the channels on which a command sends or syncs, in the order of the text, one as often as it does
   pub used : Code → List ℕ
   used continues = []
   used halts = []
-  used (moves_once o) = used_once o
+  used (moves_once o) = []
   used (may_be_held s) = channel_of s ∷ []
   used (repeats g c) = used c
   used (decides d cs) = all_used cs
-  used (awaits ds cs) = ds ++ all_used cs
+  used (awaits ds cs) = all_used cs
   used (in_turn cs) = all_used cs
   used (side_by_side cs) = all_used cs
-  used (drains c) = c ∷ []
+  used (drains c) = []
 
   -- the same of commands in a row
   pub all_used : Codes → List ℕ

@@ -5,25 +5,26 @@ ghost use Rattle.system.specs.Expression as model_expression;
 ghost use Rattle.process_tree.specs.Code as model_code;
 ghost use Rattle.process_tree.specs.Remaining.{with_value};
 ghost use Rattle.process_tree.specs.Proc as model;
-ghost use Rattle.process_tree.specs.View.{once_view, sender_view, phase_view, proc_view, procs_of, begun_of, row_view, await_view, turn_of, opened_of};
+ghost use Rattle.process_tree.specs.View.{sender_view, phase_view, proc_view, procs_of, begun_of, row_view, await_view, turn_of, opened_of};
 ghost use Rattle.process_tree.specs.internal.Parts.{turns_view, tested_view, gate_view};
 ghost use Rattle.local_actions.specs.internal.Listed.{behind, listed};
 ghost use Rattle.local_actions.specs.Walk.{added};
 ghost use Rattle.channel_uses.specs.OnChannel.{on};
-ghost use Rattle.channel_uses.specs.internal.Located.{ClosesOn, LocatedProc, LocatedProcs, finds, finds_at};
+ghost use Rattle.channel_uses.specs.internal.Located.{LocatedProc, LocatedProcs, finds, finds_at};
 
 use crate::fresh::fresh_in_turn_on;
-use crate::leaves::{arms_on, drain_on, held_on, once_on, waiting_on};
+use crate::leaves::{held_on, waiting_on};
 use crate::located::{next_user, none_later, only_arm, part_at, part_of_only};
 use crate::part::Part;
 use last_events::UseTable;
-use local_actions::{Cursor, body_of_turn, first_at_work, is_over, list_close};
-use process_tree::{Await, Gate, Once, Phase, Proc, Row, Sender, Tested, Turns};
+use local_actions::{Cursor, body_of_turn, first_at_work, is_over};
+use process_tree::{Await, Gate, Phase, Proc, Row, Sender, Tested, Turns};
 use std::alloc::{AllocError, Global};
 use value::Value;
 
 /// Lists what the process offers on the channel. Of a parallel only the branches are looked at that use the channel.
 #[cycle(list_on)]
+#[tactic(auto, using(crate::proofs::Finding::once_none))]
 pub(crate) fn list_on(
     alloc: Global,
     proc: &Proc,
@@ -37,8 +38,7 @@ pub(crate) fn list_on(
         OnOk result (cursor.new ≡ finds channel values.now (proc_view proc.now) cursor.old) }
 {
     match proc {
-        Proc::Idle | Proc::Stopped => Ok(()),
-        Proc::Once(once, made) => unmade_on(alloc, once.get(), *made, channel, values, cursor),
+        Proc::Idle | Proc::Stopped | Proc::Once(_, _) | Proc::Drained(_, _) => Ok(()),
         Proc::Sender(sender, phase) => {
             phase_on(alloc, sender.get(), *phase, channel, values, cursor)
         }
@@ -65,25 +65,7 @@ pub(crate) fn list_on(
             let procs = procs.as_slice();
             parallel_on(alloc, procs, part, table, channel, values, cursor)
         }
-        Proc::Drained(port, count) => drain_on(alloc, *port, *count, channel, cursor),
     }
-}
-
-/// Lists what makes one move, unless it has made it.
-fn unmade_on(
-    alloc: Global,
-    once: &Once,
-    made: bool,
-    channel: u32,
-    values: &[Value],
-    cursor: &mut Cursor,
-) -> Result<(), AllocError>
-    ensures { OnOk result (cursor.new ≡ finds channel values.now (model.once (once_view once.now) made) cursor.old) }
-{
-    if made {
-        return Ok(());
-    }
-    once_on(alloc, once, channel, values, cursor)
 }
 
 /// Lists a send or sync, unless it is past.
@@ -199,7 +181,7 @@ fn gate_on(
 {
     let channels = waiting.channels.as_slice();
     match gate {
-        Gate::Unopened => arms_on(alloc, channels, channel, cursor),
+        Gate::Unopened => Ok(()),
         Gate::Opened(opened, value, over, body) => {
             let part = part_of_only(part, only_arm(channels, *opened));
             opened_on(
@@ -232,8 +214,7 @@ fn opened_on(
     }
     body_on(
         alloc, body, opened, value, part, table, channel, values, cursor,
-    )?;
-    close_on(alloc, body, opened, channel, cursor)
+    )
 }
 
 /// Lists what the body of an arm offers on the channel, which opened on another and received this, if anything.
@@ -261,25 +242,6 @@ fn body_on(
     child_on(alloc, body, part, 1, table, channel, values, cursor)?;
     if value.is_some() {
         cursor.forget();
-    }
-    Ok(())
-}
-
-/// Lists the close of an arm with this body that opened on one channel, if it is the other.
-fn close_on(
-    alloc: Global,
-    body: &Proc,
-    opened: u32,
-    channel: u32,
-    cursor: &mut Cursor,
-) -> Result<(), AllocError>
-    ensures { OnOk result (ClosesOn channel opened (proc_view body.now) cursor.old cursor.new) }
-{
-    if opened != channel {
-        return Ok(());
-    }
-    if is_over(body) {
-        return list_close(alloc, opened, cursor);
     }
     Ok(())
 }

@@ -10,7 +10,7 @@ ghost use Rattle.local_actions.specs.Walk.{added};
 ghost use Rattle.channel_uses.specs.OnChannel.{on};
 ghost use Rattle.channel_uses.specs.internal.Located.{AgreeFrom, LocatedCode, LocatedRow, finds, finds_at};
 
-use crate::leaves::{arms_on, drain_on, once_on, waiting_on};
+use crate::leaves::waiting_on;
 use crate::located::{next_user, part_at};
 use crate::part::Part;
 use last_events::UseTable;
@@ -22,6 +22,7 @@ use value::Value;
 /// Lists what the command offers on the channel before its first move. Of a parallel only the branches are looked at
 /// that use the channel.
 #[cycle(fresh_on)]
+#[tactic(auto, using(crate::proofs::Finding::once_listed_none))]
 fn fresh_on(
     alloc: Global,
     code: &Code,
@@ -35,10 +36,15 @@ fn fresh_on(
         OnOk result (cursor.new ≡ finds channel values.now (started (code_view code.now)) cursor.old) }
 {
     match code {
-        Code::Continue | Code::Halt | Code::Repeat(_) | Code::Decide(_) => Ok(()),
-        Code::Once(once) => once_on(alloc, once.get(), channel, values, cursor),
+        Code::Continue
+        | Code::Halt
+        | Code::Once(_)
+        | Code::Repeat(_)
+        | Code::Decide(_)
+        | Code::Drain(_) => Ok(()),
+        // its arms only open
+        Code::Await(_) => Ok(()),
         Code::Sender(sender) => waiting_on(alloc, sender.get(), channel, values, cursor),
-        Code::Await(waiting) => arms_on(alloc, waiting.get().channels.as_slice(), channel, cursor),
         Code::InTurn(row) => {
             let codes = row.get().codes.as_slice();
             fresh_in_turn_on(alloc, codes, 0, part, table, channel, values, cursor)
@@ -47,7 +53,6 @@ fn fresh_on(
             let codes = row.get().codes.as_slice();
             fresh_side_by_side_on(alloc, codes, part, table, channel, values, cursor)
         }
-        Code::Drain(port) => drain_on(alloc, *port, 0, channel, cursor),
     }
 }
 

@@ -1,5 +1,5 @@
-//! Which commands of a system use which channel, so that what a tree offers on a channel is found without a look at
-//! what does not use it.
+//! Which commands of a system send or sync on which channel, so that the partners that a tree offers there are found
+//! without a look at what does not use it.
 #![tactic(auto)]
 
 mod at_work;

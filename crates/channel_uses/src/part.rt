@@ -1,12 +1,11 @@
 // The numbers of the uses of channels within each part of the code.
 ghost use Rattle.std.specs.Prelude.{◌≡◌, [], ◌∷◌, map, IfOk};
 ghost use Rattle.process_tree.specs.Translation.{row_of};
-ghost use Rattle.process_tree.specs.View.{code_view, once_view, sender_view};
+ghost use Rattle.process_tree.specs.View.{code_view, sender_view};
 ghost use Rattle.process_tree.specs.Remaining as model;
-ghost use Rattle.channel_uses.specs.Uses.{used_once};
 ghost use Rattle.channel_uses.specs.internal.Parts.{first as first_of, end as end_of, parts as parts_of, AddedUses, Numbered, NumberedRow};
 
-use process_tree::{Code, Once, Sender};
+use process_tree::{Code, Sender};
 use std::alloc::{AllocError, Global};
 use syntax::Items;
 
@@ -28,18 +27,15 @@ pub(crate) fn part_of(alloc: Global, code: &Code, uses: &mut Vec<u32>) -> Result
 {
     let first = uses.len();
     match code {
-        Code::Continue | Code::Halt => Ok(leaf(alloc, first, first)),
-        Code::Once(once) => add_once(alloc, once.get(), uses),
+        Code::Continue | Code::Halt | Code::Once(_) | Code::Drain(_) => {
+            Ok(leaf(alloc, first, first))
+        }
         Code::Sender(sender) => add(alloc, channel_of(sender.get()), uses),
         Code::Repeat(repeat) => part_of(alloc, &repeat.get().body, uses),
         Code::Decide(decide) => part_of_row(alloc, first, decide.get().arms.as_slice(), uses),
-        Code::Await(waiting) => {
-            uses.extend_from_slice(waiting.get().channels.as_slice())?;
-            part_of_row(alloc, first, waiting.get().arms.as_slice(), uses)
-        }
+        Code::Await(waiting) => part_of_row(alloc, first, waiting.get().arms.as_slice(), uses),
         Code::InTurn(row) => part_of_row(alloc, first, row.get().codes.as_slice(), uses),
         Code::SideBySide(row) => part_of_row(alloc, first, row.get().codes.as_slice(), uses),
-        Code::Drain(channel) => add(alloc, *channel, uses),
     }
 }
 
@@ -78,23 +74,13 @@ fn leaf(alloc: Global, first: usize, end: usize) -> Part
     with_parts(first, end, Items::new(alloc))
 }
 
-/// The part of what uses the channel once, and that use.
+/// The part of what sends or syncs on the channel, and that use.
 fn add(alloc: Global, channel: u32, uses: &mut Vec<u32>) -> Result<Part, AllocError>
     ensures { IfOk result (λ part. AddedUses (channel ∷ []) uses.old.items uses.new.items part) }
 {
     let first = uses.len();
     uses.push(channel)?;
     Ok(leaf(alloc, first, uses.len()))
-}
-
-/// The part of what makes one move, and its use.
-fn add_once(alloc: Global, once: &Once, uses: &mut Vec<u32>) -> Result<Part, AllocError>
-    ensures { IfOk result (λ part. AddedUses (used_once (once_view once.now)) uses.old.items uses.new.items part) }
-{
-    match once {
-        Once::Assign(_, _, _) => Ok(leaf(alloc, uses.len(), uses.len())),
-        Once::Receive(channel, _) => add(alloc, *channel, uses),
-    }
 }
 
 /// The channel of what may be held.

@@ -1,4 +1,4 @@
-// Where a whole system uses channels.
+// Where a whole system sends and syncs.
 ghost use Rattle.std.specs.Prelude.{◌≡◌, ◌↔◌, true, IfOk};
 ghost use Rattle.syntax.specs.Lists.{In};
 ghost use Rattle.process_tree.specs.Code as model;
@@ -7,7 +7,7 @@ ghost use Rattle.process_tree.specs.View.{code_view, tree_view};
 ghost use Rattle.local_actions.specs.Actions.{Offered};
 ghost use Rattle.local_actions.specs.View.{state_of};
 ghost use Rattle.local_actions.specs.declared.action.LocalAction as any;
-ghost use Rattle.channel_uses.specs.OnChannel.{is_on};
+ghost use Rattle.channel_uses.specs.OnChannel.{is_partner_on};
 ghost use Rattle.channel_uses.specs.StemsFrom.{StemsFrom};
 ghost use Rattle.channel_uses.specs.Table.{IsTableOf};
 
@@ -21,8 +21,8 @@ use std::alloc::{AllocError, Global};
 use store::Store;
 use syntax::Items;
 
-/// Which commands use which channel: for each channel the numbers of its uses in order, and for each command between
-/// which numbers its uses are.
+/// Which commands send or sync on which channel: for each channel the numbers of these uses in order, and for each
+/// command between which numbers its own are.
 #[derive(Drop)]
 pub struct ChannelUses {
     table: UseTable,
@@ -40,10 +40,10 @@ impl ChannelUses {
         Ok(ChannelUses { table, whole })
     }
 
-    /// Exactly the actions that the tree offers on the channel over the values of the store, where the tree stems from
-    /// the command whose table this is, and is tidy, as each is that stands for a run. Of a parallel only the branches
-    /// are looked at that use the channel. It is an error if there is no memory.
-    pub fn actions_on(
+    /// Exactly the sends, syncs and releases that the tree offers on the channel over the values of the store, where the
+    /// tree stems from the command whose table this is, and is tidy, as each is that stands for a run. Of a parallel only
+    /// the branches are looked at that send or sync on it. It is an error if there is no memory.
+    pub fn partners_on(
         &self,
         alloc: Global,
         tree: &Tree,
@@ -53,7 +53,7 @@ impl ChannelUses {
         ensures { (code : model.Code) → IsTableOf code self.now → StemsFrom (tree_view tree.now) code →
             Tidy (tree_view tree.now) →
             IfOk result (λ actions. (x : any.LocalAction) →
-            In x actions ↔ (Offered (state_of tree.now store.now) x × (is_on channel x.action ≡ true))) }
+            In x actions ↔ (Offered (state_of tree.now store.now) x × (is_partner_on channel x.action ≡ true))) }
     {
         let mut cursor = Cursor::new(alloc);
         let part = Some(&self.whole);

@@ -1,5 +1,5 @@
 // Where a walk through a tree is, and what it has found.
-ghost use Rattle.std.specs.Prelude.{◌≡◌, [], ◌∷◌, ◌++◌, ◌-◌, ◌^◌, ◌≤◌, false, length, take, IfOk, OnOk, OnErr};
+ghost use Rattle.std.specs.Prelude.{◌≡◌, [], ◌∷◌, ◌^◌, ◌≤◌, false, length, IfOk, OnOk, OnErr};
 ghost use Rattle.system.specs.Translation.{expression_of, decision_of};
 ghost use Rattle.process_tree.specs.Remaining.{with_value};
 ghost use Rattle.process_tree.specs.internal.Received.{puts_value, puts_decision};
@@ -8,14 +8,15 @@ ghost use Rattle.local_actions.specs.internal.Walk.{put_each, put_each_decision}
 
 use crate::action::{ActionKind, LocalAction};
 use address::{Address, Entry};
+use smallvec::SmallVec;
 use std::alloc::{AllocError, Global};
 use std::marker::Model;
 use syntax::Items;
 use system::{Decision, Expression};
 use value::Value;
 
-/// The first room for the entries of a place, so that it mostly is the only one.
-const FIRST_ROOM: usize = 16;
+/// So many entries of a place take no memory of their own.
+const INLINE: usize = 8;
 
 /// What an arm received when it opened on its channel.
 #[derive(Clone, Copy)]
@@ -27,27 +28,23 @@ pub struct Arrived {
 /// A place in a tree, what was received in the arms around it, and the actions found so far.
 #[derive(Drop)]
 pub struct Cursor {
-    /// the first so many are those of the place; behind them stands where the walk was, or where it will go
-    entries: Vec<Entry>,
-    depth: usize,
+    entries: SmallVec<Entry, INLINE>,
     /// the outermost first
     arrived: Items<Arrived>,
     found: Items<LocalAction>,
 }
 
 impl Model for Cursor {
-    ghost use Rattle.std.specs.Prelude.{[], ◌≤◌, length, take};
+    ghost use Rattle.std.specs.Prelude.{[]};
     ghost use Rattle.local_actions.specs.Walk.{Walk, received_onto};
 
     ghost Value = { Walk };
 
     ghost view = { λ a. record {
-      place = take a.depth a.entries.items;
+      place = a.entries.items;
       received = received_onto [] a.arrived;
       actions = a.found;
     } };
-
-    ghost invariant = { λ a. a.depth ≤ length a.entries.items };
 }
 
 impl Cursor {
@@ -56,23 +53,18 @@ impl Cursor {
         ensures { result ≡ record { place = []; received = []; actions = [] } }
     {
         Cursor {
-            entries: Vec::new(alloc),
-            depth: 0,
+            entries: SmallVec::new(alloc),
             arrived: Items::new(alloc),
             found: Items::new(alloc),
         }
     }
 
-    /// The same, where the walk will go along this place. It is an error if there is no memory.
+    /// The same, with room for the entries of this place. It is an error if there is no memory.
     pub(crate) fn along(alloc: Global, place: &[Entry]) -> Result<Cursor, AllocError>
         ensures { IfOk result (λ made. made ≡ record { place = []; received = []; actions = [] }) }
     {
-        let mut entries = Vec::with_capacity(alloc, place.len().saturating_add(1))?;
-        entries.extend_from_slice(place)?;
-        let depth = 0;
         Ok(Cursor {
-            entries,
-            depth,
+            entries: SmallVec::with_capacity(alloc, place.len())?,
             arrived: Items::new(alloc),
             found: Items::new(alloc),
         })
@@ -99,8 +91,7 @@ impl Cursor {
         ensures { OnOk result (self.new ≡ down (Entry.Ordered number) self.old) }
     {
         let entry = Entry::Ordered(small(number)?);
-        let next = put(&mut self.entries, self.depth, entry)?;
-        self.depth = next;
+        self.entries.push(entry)?;
         Ok(())
     }
 
@@ -109,8 +100,7 @@ impl Cursor {
         ensures { OnOk result (self.new ≡ down (Entry.Branch number) self.old) }
     {
         let entry = Entry::Branch(small(number)?);
-        let next = put(&mut self.entries, self.depth, entry)?;
-        self.depth = next;
+        self.entries.push(entry)?;
         Ok(())
     }
 
@@ -118,7 +108,7 @@ impl Cursor {
     pub fn leave(&mut self)
         ensures { self.new ≡ up self.old }
     {
-        self.depth = one_less(self.depth);
+        self.entries.pop();
     }
 
     /// Goes into an arm that opened on this channel, and received this if anything. It is an error if there is no
@@ -176,7 +166,7 @@ impl Cursor {
     pub(crate) fn add(&mut self, alloc: Global, action: ActionKind) -> Result<(), AllocError>
         ensures { OnOk result (self.new ≡ added (action_at [] action ∷ []) self.old) }
     {
-        let place = Address::new(alloc, first_of(self.entries.as_slice(), self.depth))?;
+        let place = Address::new(alloc, self.entries.as_slice())?;
         self.found.push(LocalAction { place, action })
     }
 
@@ -186,53 +176,9 @@ impl Cursor {
         ensures { OnOk result (self.new ≡ added (action_at (Entry.Ordered act ∷ []) action ∷ []) self.old) }
     {
         let last = Entry::Ordered(small(act)?);
-        let end = put(&mut self.entries, self.depth, last)?;
-        let place = Address::new(alloc, first_of(self.entries.as_slice(), end))?;
+        let place = Address::below(alloc, self.entries.as_slice(), last)?;
         self.found.push(LocalAction { place, action })
     }
-}
-
-/// The first so many of the entries.
-fn first_of(entries: &[Entry], count: usize) -> &[Entry]
-    requires { count ≤ length entries.now }
-    ensures { result.now ≡ take count entries.now }
-{
-    &entries[..count]
-}
-
-/// The number before this, and 0 before 0.
-fn one_less(number: usize) -> usize
-    ensures { result ≡ number - 1 }
-{
-    number.saturating_sub(1)
-}
-
-/// Makes the first room, where there is none yet.
-fn make_room(entries: &mut Vec<Entry>) -> Result<(), AllocError>
-    ensures { entries.new.items ≡ entries.old.items }
-{
-    if !entries.is_empty() {
-        return Ok(());
-    }
-    entries.reserve_exact(FIRST_ROOM)
-}
-
-/// Puts the entry behind the first so many, where it is the next or stands over an older one. The answer is how many they
-/// are with it.
-fn put(entries: &mut Vec<Entry>, depth: usize, entry: Entry) -> Result<usize, AllocError>
-    requires { depth ≤ length entries.old.items }
-    ensures put { IfOk result (λ next. take next entries.new.items ≡ take depth entries.old.items ++ entry ∷ []) }
-    ensures within { IfOk result (λ next. next ≤ length entries.new.items) }
-    ensures kept { take depth entries.new.items ≡ take depth entries.old.items }
-    ensures longer { length entries.old.items ≤ length entries.new.items }
-{
-    if depth < entries.len() {
-        entries[depth] = entry;
-        return Ok(depth + 1);
-    }
-    make_room(entries)?;
-    entries.push(entry)?;
-    Ok(entries.len())
 }
 
 /// The expression with each of the values put for the name of its channel.

@@ -20,7 +20,7 @@ use system::{Decision, Expression};
 use value::{Value, Width};
 
 /// Lists what makes one move, before it has made it. It is an error if there is no memory.
-pub fn list_once(
+pub(crate) fn list_once(
     alloc: Global,
     once: &Once,
     values: &[Value],
@@ -242,7 +242,7 @@ pub(crate) fn list_arms(
 }
 
 /// Lists the close of an arm that opened on this channel. It is an error if there is no memory.
-pub fn list_close(alloc: Global, channel: u32, cursor: &mut Cursor) -> Result<(), AllocError>
+pub(crate) fn list_close(alloc: Global, channel: u32, cursor: &mut Cursor) -> Result<(), AllocError>
     ensures { OnOk result (cursor.new
         ≡ added (action_at (Entry.Ordered 2 ∷ []) (ActionKind.Closes channel) ∷ []) cursor.old) }
 {
@@ -250,7 +250,7 @@ pub fn list_close(alloc: Global, channel: u32, cursor: &mut Cursor) -> Result<()
 }
 
 /// Lists the receives on an output port, after so many. It is an error if there is no memory.
-pub fn list_drain(
+pub(crate) fn list_drain(
     alloc: Global,
     channel: u32,
     count: u64,

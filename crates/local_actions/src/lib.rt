@@ -16,7 +16,7 @@ pub use action::{ActionKind, LocalAction};
 pub use actions::actions_of;
 pub use at_place::{actions_at, actions_below};
 pub use cursor::{Arrived, Cursor};
-pub use leaves::{list_close, list_drain, list_held, list_once, list_sender};
+pub use leaves::{list_held, list_sender};
 pub use list::body_of_turn;
 pub use moved::first_at_work;
 pub use over::{is_over, starts_over};

@@ -1,17 +1,14 @@
 -- That the uses of a command are in the table, numbered as its part says; and what a walk for one channel finds.
 -- No reader has to believe it: of what the table of a system holds, `HoldsExactly` of `Uses.antt` says all.
-use Rattle.std.specs.Prelude.{◌≡◌, ℕ, ◌+◌, ◌≤◌, ◌<◌, List, [], ◌∷◌, cond, Option, Some, IfSome, length, slice_get}
+use Rattle.std.specs.Prelude.{◌≡◌, ℕ, ◌+◌, ◌≤◌, ◌<◌, List, Option, Some, IfSome, length, slice_get}
 use Rattle.std.specs.Borrow.{Bor}
 use Rattle.address.specs.declared.Entry.{Entry}
-use Rattle.address.specs.declared.Entry.TheVariants.{Ordered}
 use Rattle.system.specs.Expression.{Store}
-use Rattle.process_tree.specs.Remaining.{Received}
 use Rattle.process_tree.specs.Code.{Code, Codes, code_at}
 use Rattle.process_tree.specs.Proc.{Proc, Procs}
 use Rattle.last_events.specs.declared.uses.UseTable.{UseTable}
-use Rattle.local_actions.specs.Walk.{Walk, action_at, added}
+use Rattle.local_actions.specs.Walk.{Walk, added}
 use Rattle.local_actions.specs.internal.Listed.{behind, listed}
-use Rattle.local_actions.specs.declared.action.ActionKind.TheVariants.{Closes}
 use Rattle.channel_uses.specs.OnChannel.{on}
 use Rattle.channel_uses.specs.StemsFrom.{StemsFrom, AllStemFrom}
 use Rattle.channel_uses.specs.Uses.{used, all_used}
@@ -57,9 +54,3 @@ finds e s p w = added (on e (listed s w.received p).actions) w
 -- of one at this entry
 abbrev pub finds_at : Entry → ℕ → Store → Proc → Walk → Walk
 finds_at x e s p w = added (behind x (on e (listed s w.received p).actions)) w
-
--- on channel e the close of an arm was found that opened on channel d and has this body, if there is one
-abbrev pub ClosesOn : ℕ → ℕ → Proc → Walk → Walk → Type 0
-ClosesOn e d q w v =
-    (s : Store) (env : Received) →
-    v ≡ added (cond (listed s env q).over (on e (action_at (Ordered 2 ∷ []) (Closes d) ∷ [])) []) w

@@ -30,14 +30,14 @@ abbrev mutual
   pub IsPart : Code → ℕ → Part → Type 0
   IsPart continues n p = Spans n [] p
   IsPart halts n p = Spans n [] p
-  IsPart (moves_once o) n p = Spans n (used (moves_once o)) p
+  IsPart (moves_once o) n p = Spans n [] p
   IsPart (may_be_held s) n p = Spans n (used (may_be_held s)) p
   IsPart (repeats g c) n p = IsPart c n p
   IsPart (decides d cs) n p = Spans n (all_used cs) p × AreParts cs n (parts p)
-  IsPart (awaits ds cs) n p = Spans n (used (awaits ds cs)) p × AreParts cs (n + length ds) (parts p)
+  IsPart (awaits ds cs) n p = Spans n (all_used cs) p × AreParts cs n (parts p)
   IsPart (in_turn cs) n p = Spans n (all_used cs) p × AreParts cs n (parts p)
   IsPart (side_by_side cs) n p = Spans n (all_used cs) p × AreParts cs n (parts p)
-  IsPart (drains c) n p = Spans n (used (drains c)) p
+  IsPart (drains c) n p = Spans n [] p
 
   -- the parts are those of the commands in the row, the first of which has its uses from number n on
   pub AreParts : Codes → ℕ → List Part → Type 0

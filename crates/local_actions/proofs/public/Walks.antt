@@ -1,5 +1,5 @@
 -- A walk: one down, what is listed there, and up again; and what was received on the way.
-use Rattle.std.proofs.Common.{◌≡◌, ℕ, zero, suc, ◌-◌, ◌≤◌, List, [], ◌∷◌, ◌++◌, length, take, false, Option, Some, None, MatchOption, refl, sym, ap, ap₂, ◌∙◌, arith}
+use Rattle.std.proofs.Common.{◌≡◌, ℕ, suc, ◌-◌, List, [], ◌∷◌, ◌++◌, length, take, false, Option, Some, None, MatchOption, refl, sym, ap, ap₂, ◌∙◌, arith}
 use Rattle.std.proofs.lemmas.List.{append-nil, append_assoc}
 use Rattle.address.specs.declared.Entry.{Entry}
 use Rattle.system.specs.Expression.{Expression, Decision, by_guards, put_decision}
@@ -56,16 +56,13 @@ pub received_last : (env : Received) (vs : List Arrived) (a : Arrived) → recei
 received_last env [] a = refl
 received_last env (b ∷ vs) a = received_last ((b.channel, b.value) ∷ env) vs a
 
--- the first without the last of them
-pub take-less : {X : Type 0} (n m : ℕ) (xs : List X) → m ≡ n - 1 → n ≤ length xs → take m xs ≡ without_last (take n xs)
-take-less zero m [] is within = let none : m ≡ 0 = omega arith in ap (λ k. take k []) none
-take-less zero m (x ∷ xs) is within = let none : m ≡ 0 = omega arith in ap (λ k. take k (x ∷ xs)) none
-take-less (suc n) m [] is within = absurd (omega arith)
-take-less (suc zero) m (x ∷ xs) is within = let none : m ≡ 0 = omega arith in ap (λ k. take k (x ∷ xs)) none
-take-less (suc (suc n)) m (x ∷ []) is within = absurd (omega arith)
-take-less (suc (suc n)) m (x ∷ y ∷ xs) is within =
-    let next : m ≡ suc n = omega arith in
-    ap (λ k. take k (x ∷ y ∷ xs)) next ∙ ap (λ l. x ∷ l) (take-less (suc n) n (y ∷ xs) (omega arith) (omega arith))
+-- one less is without the last
+pub take-less : {X : Type 0} (m : ℕ) (xs : List X) → m ≡ length xs - 1 → take m xs ≡ without_last xs
+take-less m [] is = let none : m ≡ 0 = omega arith in ap (λ k. take k []) none
+take-less m (x ∷ []) is = let none : m ≡ 0 = omega arith in ap (λ k. take k (x ∷ [])) none
+take-less m (x ∷ y ∷ xs) is =
+    let next : m ≡ suc (length xs) = omega arith in
+    ap (λ k. take k (x ∷ y ∷ xs)) next ∙ ap (λ l. x ∷ l) (take-less (length xs) (y ∷ xs) (omega arith))
 
 -- of what was received
 pub gone-received : (vs us : List Arrived) (o : Option Arrived) → MatchOption o ((vs ≡ []) × (us ≡ [])) (λ last. vs ≡ us ++ last ∷ []) → received_onto [] us ≡ outside (received_onto [] vs)

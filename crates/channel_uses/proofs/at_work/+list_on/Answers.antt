@@ -13,8 +13,9 @@ use Rattle.local_actions.proofs.public.GoingDown.{procs-at, procs-end}
 use Rattle.local_actions.proofs.public.OneByOne.{step-over}
 use Rattle.channel_uses.specs.internal.Located.{LocatedProc, finds}
 use Rattle.channel_uses.specs.internal.Parts.{UnusedBetween}
+use Rattle.channel_uses.proofs.LeafLaws.{none-added}
 use Rattle.channel_uses.proofs.Finding.{found-below, child-found, branch-added, parallel-rest, all-found}
-use Rattle.channel_uses.proofs.Processes.{took-located, gate-located, child-located, turn-located, agree-row, await-channels, is-drained, sequence-rest, turn-found, took-view, took-found, gate-view, arm-found, passed-on, found-open, child-last, rest-found}
+use Rattle.channel_uses.proofs.Processes.{took-located, gate-located, child-located, turn-located, agree-row, await-channels, sequence-rest, turn-found, took-view, took-found, gate-view, unopened-none, arm-found, passed-on, found-open, child-last, rest-found}
 use Rattle.channel_uses.proofs.at_work.+list_on.Goals as goal
 
 pub branch_on-returns : goal.branch_on-returns
@@ -27,6 +28,11 @@ child_on-returns t c = λ at.
     c.leave.ensures ∙ found-below (Ordered c.args.number) c.args.channel c.args.values.now (proc_view c.args.child.now) c.args.cursor.now c.enter_child.new.self c.list_on.new.cursor
     c.in_ok-enter_child.ensures (c.in_ok-list_on.ensures at)
 
+pub gate_on-returns-in-Unopened : goal.gate_on-returns-in-Unopened
+gate_on-returns-in-Unopened t c = λ h.
+    none-added _ c.args.cursor.now c.args.cursor.now
+    (unopened-none c.args.channel c.args.values.now c.args.cursor.now.received c.args.gate.now (await_view c.args.waiting.now).0 (await_view c.args.waiting.now).1 c.in-Unopened.is) refl
+
 pub gate_on-returns-in-Opened : goal.gate_on-returns-in-Opened
 gate_on-returns-in-Opened t c = λ h.
     let ds = (await_view c.args.waiting.now).0 in
@@ -38,15 +44,10 @@ gate_on-returns-in-Opened t c = λ h.
     c.part_of_only-part.ensures one (subst (λ (p : Proc). LocatedProc c.args.table.now c.args.part p) view h) in
     subst (λ (p : Proc). OnOk c.opened_on.result (c.opened_on.new.cursor ≡ finds c.args.channel c.args.values.now p c.args.cursor.now)) (sym view) (c.opened_on.ensures ds cs at)
 
-pub list_on-returns-in-Drained : goal.list_on-returns-in-Drained
-list_on-returns-in-Drained t c = λ at.
-    subst (λ (p : Proc). OnOk c.drain_on.result (c.drain_on.new.cursor ≡ finds c.args.channel c.args.values.now p c.args.cursor.now)) (sym (is-drained c.args.proc.now c.in-Drained.port c.in-Drained.count c.in-Drained.is))
-    (c.drain_on.ensures c.args.values.now)
-
 pub opened_on-returns : goal.opened_on-returns
 opened_on-returns t c = λ ds cs at.
-    on_ok_weaker c.close_on.result (λ h. arm-found c.args.channel c.args.opened c.args.values.now ds cs c.args.value (proc_view c.args.body.now) c.args.over c.args.cursor.now c.body_on.new.cursor c.close_on.new.cursor
-    c.if-over.false (c.in_ok-body_on.ensures at) h) c.close_on.ensures
+    on_ok_weaker c.body_on.result (λ h. arm-found c.args.channel c.args.opened c.args.values.now ds cs c.args.value (proc_view c.args.body.now) c.args.over c.args.cursor.now c.body_on.new.cursor
+    c.if-over.false h) (c.body_on.ensures at)
 
 pub parallel_on-branches-preserved : goal.parallel_on-branches-preserved
 parallel_on-branches-preserved t c = λ h.

@@ -1,6 +1,5 @@
 use Rattle.std.proofs.Common.{◌≡◌, ◌+◌, ◌<◌, ◌∙◌, suc, length, map, refl, sym, ap, subst, arith}
 use Rattle.std.proofs.lemmas.Result.{on_ok_weaker}
-use Rattle.std.specs.Result.{OnOk}
 use Rattle.address.specs.declared.Entry.TheVariants.{Ordered, Branch}
 use Rattle.process_tree.specs.Proc.{started, all_started}
 use Rattle.process_tree.specs.Translation.{row_of}
@@ -11,11 +10,11 @@ use Rattle.local_actions.specs.Walk.{added}
 use Rattle.local_actions.proofs.public.OneByOne.{step-over, fresh-at, fresh-past}
 use Rattle.local_actions.proofs.public.Passing.{fresh-in-turn}
 use Rattle.channel_uses.specs.OnChannel.{on}
-use Rattle.channel_uses.specs.internal.Located.{LocatedCode, finds}
-use Rattle.channel_uses.proofs.Finding.{found-below, child-found, code-at, branch-added, from-done, all-found}
+use Rattle.channel_uses.specs.internal.Located.{LocatedCode}
+use Rattle.channel_uses.proofs.Finding.{awaits-none, found-below, child-found, code-at, branch-added, from-done, all-found}
 use Rattle.channel_uses.proofs.LeafLaws.{none-added}
 use Rattle.channel_uses.proofs.Locations.{row-in-turn}
-use Rattle.channel_uses.proofs.Parts.{is-drain, is-in-turn}
+use Rattle.channel_uses.proofs.Parts.{is-in-turn}
 use Rattle.channel_uses.proofs.Stems.{all-stem}
 use Rattle.channel_uses.proofs.fresh.+fresh_on.Goals as goal
 
@@ -59,6 +58,11 @@ fresh_in_turn_on-returns t c = λ ds row agree.
     (ap (λ (l : Listing). on c.args.channel l.actions)
     (sym c.children.invariant.2 ∙ fresh-past c.args.values.now c.args.cursor.now.received c.args.codes.now c.children.number 0 (omega arith))) c.children.invariant.0
 
+pub fresh_on-returns-in-Await : goal.fresh_on-returns-in-Await
+fresh_on-returns-in-Await t c = λ at.
+    none-added _ c.args.cursor.now c.args.cursor.now
+    (awaits-none c.args.channel c.args.values.now c.args.cursor.now.received c.args.code.now c.in-Await.field-0 c.in-Await.is) refl
+
 pub fresh_on-returns-in-InTurn : goal.fresh_on-returns-in-InTurn
 fresh_on-returns-in-InTurn t c = λ at.
     let codes = c.as_slice-codes.ensures ∙ ap (λ (r : Row). r.codes) c.get-in-InTurn.ensures in
@@ -66,11 +70,6 @@ fresh_on-returns-in-InTurn t c = λ at.
     (fresh-in-turn c.args.values.now c.args.cursor.now.received c.args.code.now c.in-InTurn.row c.as_slice-codes.result.now c.in-InTurn.is codes))
     (c.fresh_in_turn_on.ensures (row_of (map code_view c.as_slice-codes.result.now)) (row-in-turn c.args.table.now c.args.part (code_view c.args.code.now) (row_of (map code_view c.as_slice-codes.result.now))
     (is-in-turn c.args.code.now c.in-InTurn.row c.get-in-InTurn.result.now c.as_slice-codes.result.now c.in-InTurn.is c.get-in-InTurn.ensures c.as_slice-codes.ensures) at) (λ i l. refl))
-
-pub fresh_on-returns-in-Drain : goal.fresh_on-returns-in-Drain
-fresh_on-returns-in-Drain t c = λ at.
-    subst (λ k. OnOk c.drain_on.result (c.drain_on.new.cursor ≡ finds c.args.channel c.args.values.now (started k) c.args.cursor.now)) (sym (is-drain c.args.code.now c.in-Drain.port c.in-Drain.is))
-    (c.drain_on.ensures c.args.values.now)
 
 pub fresh_side_by_side_on-branches-preserved : goal.fresh_side_by_side_on-branches-preserved
 fresh_side_by_side_on-branches-preserved t c = λ row.

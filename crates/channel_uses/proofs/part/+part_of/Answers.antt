@@ -1,13 +1,12 @@
-use Rattle.std.proofs.Common.{◌≡◌, [], ◌+◌, ◌≤◌, ◌<◌, ◌∷◌, ◌++◌, ◌∙◌, length, map, drop, sym, ap, subst, arith}
+use Rattle.std.proofs.Common.{◌≡◌, [], ◌+◌, ◌≤◌, ◌<◌, ◌∷◌, ◌∙◌, length, map, drop, sym, ap, subst, arith}
 use Rattle.std.proofs.lemmas.List.{drop_all, drop_more}
 use Rattle.std.proofs.lemmas.Result.{IfOk-weaker}
 use Rattle.process_tree.specs.Translation.{row_of}
 use Rattle.std.specs.Option.{option_map}
 use Rattle.system.specs.Translation.{expression_of, decision_of}
-use Rattle.process_tree.specs.View.{code_view, once_view, sender_view}
-use Rattle.process_tree.specs.declared.code.Await.{Await}
+use Rattle.process_tree.specs.View.{code_view, sender_view}
 use Rattle.channel_uses.specs.internal.Parts.{end, AddedUses}
-use Rattle.channel_uses.proofs.Parts.{RowSoFar, row-more, row-end, numbered-as, once-numbered, sender-numbered, repeat-numbered, drain-numbered, decides-numbered, in-turn-numbered, side-by-side-numbered, awaits-numbered, is-once, is-sender, is-repeat, is-decide, is-await, is-in-turn, is-side-by-side, is-drain}
+use Rattle.channel_uses.proofs.Parts.{RowSoFar, row-more, row-end, numbered-as, sender-numbered, repeat-numbered, decides-numbered, in-turn-numbered, side-by-side-numbered, awaits-numbered, is-sender, is-repeat, is-decide, is-await, is-in-turn, is-side-by-side}
 use Rattle.channel_uses.proofs.part.+part_of.Goals as goal
 
 pub part_of_row-returns : goal.part_of_row-returns
@@ -30,19 +29,12 @@ part_of_row-loop-code-preserved t c =
     (subst (λ ds. RowSoFar (row_of (map code_view all)) (row_of (map code_view ds)) c.args.uses.now.items c.loop-code.uses.items c.loop-code.parts) here c.loop-code.invariant)
     c.in_ok-part_of.ensures)
 
-pub part_of-returns-in-Once : goal.part_of-returns-in-Once
-part_of-returns-in-Once t c =
-    IfOk-weaker c.add_once.result _ _ (λ p h.
-    numbered-as (code_view c.args.code.now) _ c.args.uses.now.items c.add_once.new.uses.items p
-    (is-once c.args.code.now c.in-Once.once c.get.result.now c.in-Once.is c.get.ensures)
-    (once-numbered (once_view c.get.result.now) c.args.uses.now.items c.add_once.new.uses.items p h)) c.add_once.ensures
-
 pub part_of-returns-in-Sender : goal.part_of-returns-in-Sender
 part_of-returns-in-Sender t c =
     IfOk-weaker c.add.result _ _ (λ p h.
     numbered-as (code_view c.args.code.now) _ c.args.uses.now.items c.add.new.uses.items p
-    (is-sender c.args.code.now c.in-Sender.sender c.get-in-Sender.result.now c.in-Sender.is c.get-in-Sender.ensures)
-    (sender-numbered (sender_view c.get-in-Sender.result.now) c.args.uses.now.items c.add.new.uses.items p (subst (λ d. AddedUses (d ∷ []) c.args.uses.now.items c.add.new.uses.items p) c.channel_of.ensures h))) c.add.ensures
+    (is-sender c.args.code.now c.in-Sender.sender c.get.result.now c.in-Sender.is c.get.ensures)
+    (sender-numbered (sender_view c.get.result.now) c.args.uses.now.items c.add.new.uses.items p (subst (λ d. AddedUses (d ∷ []) c.args.uses.now.items c.add.new.uses.items p) c.channel_of.ensures h))) c.add.ensures
 
 pub part_of-returns-in-Repeat : goal.part_of-returns-in-Repeat
 part_of-returns-in-Repeat t c =
@@ -75,19 +67,10 @@ part_of-returns-in-SideBySide t c =
     (is-side-by-side c.args.code.now c.in-SideBySide.row c.get-in-SideBySide.result.now c.as_slice-in-SideBySide.result.now c.in-SideBySide.is c.get-in-SideBySide.ensures c.as_slice-in-SideBySide.ensures)
     (side-by-side-numbered (row_of (map code_view c.as_slice-in-SideBySide.result.now)) c.len-first.result c.args.uses.now.items c.part_of_row-in-SideBySide.new.uses.items p begins h)) c.part_of_row-in-SideBySide.ensures
 
-pub part_of-returns-in-Drain : goal.part_of-returns-in-Drain
-part_of-returns-in-Drain t c =
-    IfOk-weaker c.add-in-Drain.result _ _ (λ p h.
-    numbered-as (code_view c.args.code.now) _ c.args.uses.now.items c.add-in-Drain.new.uses.items p
-    (is-drain c.args.code.now c.in-Drain.channel c.in-Drain.is)
-    (drain-numbered c.in-Drain.channel c.args.uses.now.items c.add-in-Drain.new.uses.items p h)) c.add-in-Drain.ensures
-
-pub part_of-returns-in_ok-extend_from_slice-in-Await : goal.part_of-returns-in_ok-extend_from_slice-in-Await
-part_of-returns-in_ok-extend_from_slice-in-Await t c =
+pub part_of-returns-in-Await : goal.part_of-returns-in-Await
+part_of-returns-in-Await t c =
     let begins : c.len-first.result ≡ length c.args.uses.now.items = omega (arith, c.len-first.ensures, c.args.uses.now.ok.0) in
-    let channels = c.in_ok-extend_from_slice-in-Await.ensures.items
-    ∙ ap (λ ds. c.args.uses.now.items ++ ds) (c.as_slice-in-Await.ensures ∙ ap (λ (a : Await). a.channels) (c.get-in-Await.ensures ∙ sym c.get-in-Await-2.ensures)) in
     IfOk-weaker c.part_of_row-in-Await.result _ _ (λ p h.
     numbered-as (code_view c.args.code.now) _ c.args.uses.now.items c.part_of_row-in-Await.new.uses.items p
-    (is-await c.args.code.now c.in-Await.waiting c.get-in-Await-2.result.now c.as_slice-in-Await-2.result.now c.in-Await.is c.get-in-Await-2.ensures c.as_slice-in-Await-2.ensures)
-    (awaits-numbered c.get-in-Await-2.result.now.channels (row_of (map code_view c.as_slice-in-Await-2.result.now)) c.len-first.result c.args.uses.now.items c.extend_from_slice.new.self.items c.part_of_row-in-Await.new.uses.items p begins channels h)) c.part_of_row-in-Await.ensures
+    (is-await c.args.code.now c.in-Await.waiting c.get-in-Await.result.now c.as_slice-in-Await.result.now c.in-Await.is c.get-in-Await.ensures c.as_slice-in-Await.ensures)
+    (awaits-numbered c.get-in-Await.result.now.channels (row_of (map code_view c.as_slice-in-Await.result.now)) c.len-first.result c.args.uses.now.items c.part_of_row-in-Await.new.uses.items p begins h)) c.part_of_row-in-Await.ensures

@@ -6,4 +6,4 @@ use Rattle.local_actions.proofs.cursor.Cursor.leave.Goals as goal
 
 pub returns : goal.returns
 returns c =
-    walk-is _ _ _ _ _ _ (take-less c.self.inside.depth c.one_less-self-inside.result c.self.inside.entries.items c.one_less-self-inside.ensures c.self.invariant) refl refl ∙ ap up c.self.view_is
+    walk-is _ _ _ _ _ _ (c.pop.ensures.rest ∙ take-less _ c.self.inside.entries.items refl) refl refl ∙ ap up c.self.view_is

@@ -3,7 +3,7 @@ use Rattle.process_tree.specs.View.{proc_view, tree_view}
 use Rattle.channel_uses.proofs.Locations.{whole-located}
 use Rattle.channel_uses.proofs.OnWalks.{offered-on}
 use Rattle.channel_uses.proofs.Processes.{tree-located}
-use Rattle.channel_uses.proofs.table.ChannelUses.actions_on.Goals as goal
+use Rattle.channel_uses.proofs.table.ChannelUses.partners_on.Goals as goal
 
 pub returns : goal.returns
 returns c = λ code table stems tidy.
