@@ -23,8 +23,10 @@ pub enum Keyword {
     Trace,
 }
 
+/// In the order in which they are looked for: what is asked most often comes first.
 const ALL: [Keyword; 15] = [
     Keyword::Step,
+    Keyword::Branch,
     Keyword::Undo,
     Keyword::Roll,
     Keyword::RollValue,
@@ -33,7 +35,6 @@ const ALL: [Keyword; 15] = [
     Keyword::Consequences,
     Keyword::Live,
     Keyword::Value,
-    Keyword::Branch,
     Keyword::Break,
     Keyword::Clear,
     Keyword::Session,

@@ -15,4 +15,4 @@ pub use answer::{
 pub use field::{Field, variable_field};
 pub use keyword::Keyword;
 pub use operands::{cut_at_space, read_branch, read_choice, read_ticket, read_variable};
-pub use text::add_bytes;
+pub use text::{add_byte, add_bytes, add_decimal};

@@ -18,14 +18,22 @@ pub fn add_bytes(out: &mut Vec<u8>, bytes: &[u8]) -> Result<(), AllocError>
 }
 
 /// Adds a byte. Nearly always there is room for it, and then nothing is asked of the allocator.
-#[inline]
-pub(crate) fn add_byte(out: &mut Vec<u8>, byte: u8) -> Result<(), AllocError>
+#[inline(always)]
+pub fn add_byte(out: &mut Vec<u8>, byte: u8) -> Result<(), AllocError>
     ensures { OnOk result (out.new.items ≡ out.old.items ++ byte ∷ []) }
 {
     if out.len() < out.capacity() {
         out.push_reserved(byte);
         return Ok(());
     }
+    add_grown(out, byte)
+}
+
+/// Adds a byte for which there is no room yet. It stands by itself, so that what asks for no room stays short.
+#[inline(never)]
+fn add_grown(out: &mut Vec<u8>, byte: u8) -> Result<(), AllocError>
+    ensures { OnOk result (out.new.items ≡ out.old.items ++ byte ∷ []) }
+{
     out.push(byte)?;
     Ok(())
 }
@@ -41,7 +49,7 @@ pub(crate) fn add_word(out: &mut Vec<u8>, word: &[u8]) -> Result<(), AllocError>
 }
 
 /// Adds a number in decimal. Most numbers of places have one digit.
-fn add_decimal(out: &mut Vec<u8>, number: u64) -> Result<(), AllocError>
+pub fn add_decimal(out: &mut Vec<u8>, number: u64) -> Result<(), AllocError>
     ensures { OnOk result (out.new.items ≡ out.old.items ++ decimal number) }
 {
     if number < 10 {

@@ -53,12 +53,16 @@ pub step-done : (o o' : Object) (c : Choice) (e : Event) (T : State) (entry : �
 step-done o o' c e T entry reaches chosen room left is after =
     subst (λ (x : ℕ × Event). Does o (Command.Step c) (Reply.Stepped x.0 x.1) o') (sym is) (refl, room, left, (T, reaches, chosen), after)
 
--- what is told of what was found
-pub found-done : (o o' : Object) (c : Choice) (T : State) (found : Option Event) (told : Result (ℕ × Event) Refusal) → Reaches o T →
-    MatchOption found (ChoiceAllowed T c → ⊥) (λ e. Chosen T c e) → TakesFound o found told o' → Does o (Command.Step c) (step_reply told) o'
-found-done o o' c T found (Ok entry) reaches sought h =
-    step-done o o' c entry.1 T entry reaches (chosen-of T c found entry.1 sought h.0) h.1 h.2 h.3 h.4
-found-done o o' c T found (Err why) reaches sought h = (not-taken o c found why T reaches sought h.0, h.1)
+-- what is answered to a step, from what was found
+pub found-answers : (o o' : Object) (c : Choice) (T : State) (found : Option Event) (told : Result (ℕ × Event) Refusal) → Reaches o T →
+    MatchOption found (ChoiceAllowed T c → ⊥) (λ e. Chosen T c e) → TakesFound o found told o' → Answers o (Command.Step c) (step_reply told) o'
+found-answers o o' c T found (Ok entry) reaches sought h =
+    inl (step-done o o' c entry.1 T entry reaches (chosen-of T c found entry.1 sought h.0) h.1 h.2 h.3 h.4)
+found-answers o o' c T found (Err Memory) reaches sought h = inr (tt, refl, h.1)
+found-answers o o' c T found (Err NotReady) reaches sought h = inl (not-taken o c found NotReady T reaches sought h.0, h.1)
+found-answers o o' c T found (Err HistoryFull) reaches sought h = inl (not-taken o c found HistoryFull T reaches sought h.0, h.1)
+found-answers o o' c T found (Err Spent) reaches sought h = inl (not-taken o c found Spent T reaches sought h.0, h.1)
+found-answers o o' c T found (Err _) reaches sought h = absurd h.0
 
 -- what is answered where a call may want memory, and may be refused for another reason
 pub answers-of : {A E : Type 0} (o o' : Object) (c : Command) (shown : Result A Refusal → Reply) (r : Result (Result A Refusal) E) (told : Result A Refusal) →

@@ -1,15 +1,14 @@
 // A step of a branch: its first ready event whose line has no breakpoint.
-ghost use Rattle.std.specs.Prelude.{◌≡◌, ◌<◌, ◌≤◌, length, true, false, slice_get, Some, IfOk, OnErr, MatchOption, MatchResult};
+ghost use Rattle.std.specs.Prelude.{◌≡◌, true, false, slice_get, Some, IfOk, MatchOption};
 ghost use Rattle.std.specs.Option.{option_copied};
 ghost use Rattle.syntax.specs.Lists.{Every};
 ghost use Rattle.system_places.specs.SystemBranches.{branch_at, parallel_of};
 ghost use Rattle.runs.specs.Events.{acting};
 ghost use Rattle.runs.specs.Moves.{Place};
-ghost use Rattle.runs.specs.Object.{most_live, last_ticket};
 ghost use Rattle.event_inverse.specs.Grown.{state_of_tree};
 ghost use Rattle.allowed_events.specs.ReadyBelow.{ReadyBelow};
-ghost use Rattle.machine.specs.Branching.{is_branch, acts_in, in_branch, is_free, StepsBranch};
-ghost use Rattle.machine.specs.internal.Choosing.{moves, line_of_first, FirstAt, Takes, IsChosenAt};
+ghost use Rattle.machine.specs.Branching.{is_branch, acts_in, in_branch, is_free, AnswersBranch};
+ghost use Rattle.machine.specs.internal.Choosing.{moves, line_of_first, FirstAt, AnswersTaking, IsChosenAt};
 ghost use Rattle.machine.specs.internal.Sites.{IsAtSite, ReadyWith, site_among};
 ghost use Rattle.machine.specs.AtMachine.{at_machine};
 ghost use Rattle.machine.specs.internal.Histories.{tree_of, Holds, KnowsUses, IsSearched};
@@ -48,18 +47,19 @@ impl History {
         uses: &ChannelUses,
         branch: u32,
         breaks: &[u64],
-    ) -> Result<BranchReply, AllocError>
+    ) -> BranchReply
         requires holds { Holds system.now self.old }
         requires uses { KnowsUses system.now uses.now }
-        ensures done { IfOk result (λ reply.
-            StepsBranch (at_machine system.now self.old) branch breaks.now reply (at_machine system.now self.new)) }
-        ensures unchanged { OnErr result (at_machine system.now self.new ≡ at_machine system.now self.old) }
+        ensures answers { AnswersBranch (at_machine system.now self.old) branch breaks.now result
+            (at_machine system.now self.new) }
         ensures holds { Holds system.now self.new }
     {
-        let events = self.ready_near(alloc, system, uses, branch)?;
+        let Ok(events) = self.ready_near(alloc, system, uses, branch) else {
+            return BranchReply::Refused(Refusal::Memory);
+        };
         match self.first_moving(system, events.as_slice(), branch, breaks) {
             Some(index) => self.take_ready(alloc, system, events, index),
-            None => Ok(self.kept_back(system, events.as_slice(), branch)),
+            None => self.kept_back(system, events.as_slice(), branch),
         }
     }
 
@@ -107,21 +107,21 @@ impl History {
         system: &Checked,
         events: Items<Event>,
         index: usize,
-    ) -> Result<BranchReply, AllocError>
+    ) -> BranchReply
         requires holds { Holds system.now self.old }
         requires chosen { IsChosenAt (state_of_tree (tree_of self.old)) events index }
         ensures done { (e : Event) → slice_get events index ≡ Some e →
-            IfOk result (λ reply. Takes (at_machine system.now self.old) e reply (at_machine system.now self.new)) }
-        ensures unchanged { OnErr result (at_machine system.now self.new ≡ at_machine system.now self.old) }
-        ensures wanted { OnErr result ((length self.old.live.live < most_live) × (self.old.next ≤ last_ticket)) }
+            AnswersTaking (at_machine system.now self.old) e result (at_machine system.now self.new) }
         ensures holds { Holds system.now self.new }
     {
         if let Some(why) = self.limit() {
-            return Ok(BranchReply::Refused(why));
+            return BranchReply::Refused(why);
         }
         let mut events = events.into_vec();
-        let entry = self.add(alloc, system, events.swap_remove(index))?;
-        Ok(BranchReply::Stepped(entry.0, entry.1))
+        match self.add(alloc, system, events.swap_remove(index)) {
+            Ok((ticket, event)) => BranchReply::Stepped(ticket, event),
+            Err(_) => BranchReply::Refused(Refusal::Memory),
+        }
     }
 
     /// Where the first of these events stands that acts in the branch and whose line is not among these.
@@ -244,15 +244,5 @@ fn acts_in(system: &Checked, event: &Event, branch: u32) -> bool
     match system.branch(event.acting_place()) {
         Some(number) => number == branch,
         None => false,
-    }
-}
-
-/// The reply, or that there was no memory for it.
-pub(crate) fn or_branch_refused(told: Result<BranchReply, AllocError>) -> BranchReply
-    ensures { MatchResult told (λ reply. result ≡ reply) (λ _. result ≡ BranchReply.Refused Refusal.Memory) }
-{
-    match told {
-        Ok(reply) => reply,
-        Err(_) => BranchReply::Refused(Refusal::Memory),
     }
 }

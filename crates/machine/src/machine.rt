@@ -17,7 +17,7 @@ ghost use Rattle.machine.specs.Headline.{Headline};
 ghost use Rattle.machine.specs.Results.{step_reply, undo_reply, roll_reply, blame_reply, consequences_reply, ready_reply, live_reply, value_reply};
 ghost use Rattle.machine.specs.internal.Histories.{KnowsUses};
 
-use crate::branch::{BranchReply, or_branch_refused};
+use crate::branch::BranchReply;
 use crate::history::History;
 use crate::reply::{or_no_memory, or_refused};
 use crate::{Breaks, Fault};
@@ -143,10 +143,8 @@ impl Machine {
         ensures answers { Answers (object self.old) (Command.Step choice.now) (step_reply result) (object self.new) }
         ensures system { self.new.checked ≡ self.old.checked }
     {
-        or_refused(
-            self.history
-                .step(self.alloc, &self.system, &self.uses, choice),
-        )
+        self.history
+            .step(self.alloc, &self.system, &self.uses, choice)
     }
 
     /// Takes the first ready event of the branch whose line has no breakpoint.
@@ -154,9 +152,7 @@ impl Machine {
         ensures answers { AnswersBranch self.old branch breaks.now result self.new }
         ensures system { self.new.checked ≡ self.old.checked }
     {
-        or_branch_refused(
-            self.history.branch_step(self.alloc, &self.system, &self.uses, branch, breaks.lines()),
-        )
+        self.history.branch_step(self.alloc, &self.system, &self.uses, branch, breaks.lines())
     }
 
     /// Takes the event of this ticket back where no other live event depends on it. It takes no memory.

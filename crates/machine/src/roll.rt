@@ -129,7 +129,7 @@ impl History {
 }
 
 /// Takes an event back by its inverse, which is dropped.
-fn undo_by(tree: &mut Tree, store: &mut Store, event: &Event, mut inverse: Inverse)
+pub(crate) fn undo_by(tree: &mut Tree, store: &mut Store, event: &Event, mut inverse: Inverse)
     requires { IsSome (reverted (both_view tree.old store.old) event.now (inverse_view inverse)) }
     ensures { UndoneBy (both_view tree.old store.old) (event.now, inverse_view inverse) (both_view tree.new store.new) }
 {

@@ -6,14 +6,14 @@ ghost use Rattle.runs.specs.InOrder.{InOrder};
 ghost use Rattle.runs.specs.Live.{LiveAt};
 ghost use Rattle.runs.specs.Object.{Reaches, most_live, last_ticket, with_event};
 ghost use Rattle.runs.specs.Ready.{ReadyList};
-ghost use Rattle.runs.specs.Does.{Does};
+ghost use Rattle.runs.specs.Does.{Answers};
 ghost use Rattle.machine.specs.Results.{step_reply};
 ghost use Rattle.local_actions.specs.Actions.{OffersExactly, Precedes};
 ghost use Rattle.dependence.specs.Behind.{ComesBehind};
 ghost use Rattle.event_inverse.specs.Grown.{TreeAndStore, state_of_tree, applied};
 ghost use Rattle.event_inverse.specs.View.{inverse_view};
 ghost use Rattle.event_inverse.specs.declared.record.Inverse.{Inverse};
-ghost use Rattle.machine.specs.internal.Choosing.{IsLimit, IsAdmitted, TakesFound};
+ghost use Rattle.machine.specs.internal.Choosing.{IsLimit, TakesFound};
 ghost use Rattle.machine.specs.internal.Histories.{execution, tree_of, Holds, KnowsUses};
 ghost use Rattle.machine.specs.internal.Entering.{Entered, NotEntered};
 
@@ -36,17 +36,17 @@ impl History {
         system: &Checked,
         uses: &ChannelUses,
         choice: &Choice,
-    ) -> Result<Result<(u64, Event), Refusal>, AllocError>
+    ) -> Result<(u64, Event), Refusal>
         requires holds { Holds system.now self.old }
         requires uses { KnowsUses system.now uses.now }
-        ensures done { IfOk result (λ told.
-            Does (execution system.now self.old) (Command.Step choice.now) (step_reply told)
-            (execution system.now self.new)) }
-        ensures unchanged { OnErr result (execution system.now self.new ≡ execution system.now self.old) }
+        ensures answers { Answers (execution system.now self.old) (Command.Step choice.now) (step_reply result)
+            (execution system.now self.new) }
         ensures holds { Holds system.now self.new }
     {
-        let found = event_with(alloc, uses, &self.tree, &self.store, choice)?;
-        self.take_found(alloc, system, found)
+        match event_with(alloc, uses, &self.tree, &self.store, choice) {
+            Ok(found) => self.take_found(alloc, system, found),
+            Err(_) => Err(Refusal::Memory),
+        }
     }
 
     /// Takes the event that was found, where the limits leave room for it. There may be no memory for an event that is
@@ -56,23 +56,22 @@ impl History {
         alloc: Global,
         system: &Checked,
         found: Option<Event>,
-    ) -> Result<Result<(u64, Event), Refusal>, AllocError>
+    ) -> Result<(u64, Event), Refusal>
         requires holds { Holds system.now self.old }
         requires allowed { (e : Event) → found ≡ Some e → Allowed (state_of_tree (tree_of self.old)) e }
-        ensures taken { IfOk result (λ told.
-            TakesFound (execution system.now self.old) found told (execution system.now self.new)) }
-        ensures unchanged { OnErr result (execution system.now self.new ≡ execution system.now self.old) }
-        ensures wanted { OnErr result (IsAdmitted found (length self.old.live.live) self.old.next) }
+        ensures taken { TakesFound (execution system.now self.old) found result (execution system.now self.new) }
         ensures holds { Holds system.now self.new }
     {
         let Some(event) = found else {
-            return Ok(Err(Refusal::NotReady));
+            return Err(Refusal::NotReady);
         };
         if let Some(why) = self.limit() {
-            return Ok(Err(why));
+            return Err(why);
         }
-        let entry = self.add(alloc, system, event)?;
-        Ok(Ok(entry))
+        match self.add(alloc, system, event) {
+            Ok(entry) => Ok(entry),
+            Err(_) => Err(Refusal::Memory),
+        }
     }
 
     /// Why no event is taken, where one is found, but the limits leave no room for it.
@@ -142,7 +141,9 @@ impl History {
         }
     }
 
-    /// Takes the event that was made last back on the tree and in the store.
+    /// Takes the event that was made last back on the tree and in the store. It is rare, and stands by itself so that what
+    /// it holds has no place in each step.
+    #[inline(never)]
     fn unmake(&mut self, event: Event, inverse: Inverse)
         requires { (T : TreeAndStore) × (applied T event ≡ Some (tree_of self.old, inverse_view inverse)) }
         ensures tree { (T : TreeAndStore) → applied T event ≡ Some (tree_of self.old, inverse_view inverse) →

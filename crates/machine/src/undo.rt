@@ -8,7 +8,7 @@ ghost use Rattle.machine.specs.Results.{undo_reply};
 ghost use Rattle.machine.specs.internal.Histories.{execution, Holds};
 
 use crate::history::History;
-use event_inverse::{Record, invert};
+use crate::roll::undo_by;
 use runs::{Event, Refusal};
 
 impl History {
@@ -52,6 +52,7 @@ impl History {
     {
         let event = self.live.take(ticket);
         let inverse = self.inverses.remove(index);
-        invert(&mut self.tree, &mut self.store, Record { event, inverse })
+        undo_by(&mut self.tree, &mut self.store, &event, inverse);
+        event
     }
 }

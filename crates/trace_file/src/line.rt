@@ -1,5 +1,5 @@
 // A line of a trace, read from the text.
-ghost use Rattle.std.specs.Prelude.{◌≡◌, ◌<◌, ◌^◌, ◌++◌, codes, MatchOption, IfOk};
+ghost use Rattle.std.specs.Prelude.{ℕ, List, ◌≡◌, ◌<◌, ◌^◌, ◌++◌, codes, MatchOption, IfOk};
 ghost use Rattle.std.specs.Option.{SomeIff};
 ghost use Rattle.trace_file.specs.Loading.{IsStep, IsNoStep};
 ghost use Rattle.trace_file.specs.internal.Fields.{HasNone, IsCut, AreFields, HasNoFields, HasNoWord, IsArm, IsNoArm};
@@ -8,13 +8,15 @@ use decimal::read_number;
 use runs::Choice;
 use std::alloc::{AllocError, Global};
 
-/// The choice of the first line of the text, and what is behind that line.
-pub(crate) fn read_step(alloc: Global, text: &[u8]) -> Result<Option<(Choice, &[u8])>, AllocError>
-    ensures { IfOk result (λ found. MatchOption found (IsNoStep text.now) (λ step. IsStep step.0 text.now step.1.now)) }
+/// The choice of a line with this place and this arm.
+pub(crate) fn read_choice(
+    alloc: Global,
+    place: &[u8],
+    arm: &[u8],
+) -> Result<Option<Choice>, AllocError>
+    ensures { (text after : List ℕ) → AreFields text place.now arm.now after → IfOk result (λ found.
+        MatchOption found (IsNoStep text) (λ choice. IsStep choice text after)) }
 {
-    let Some((place, arm, after)) = fields(text) else {
-        return Ok(None);
-    };
     let Some(arm) = read_arm(arm) else {
         return Ok(None);
     };
@@ -24,7 +26,7 @@ pub(crate) fn read_step(alloc: Global, text: &[u8]) -> Result<Option<(Choice, &[
     let Some(place) = address::read(alloc, place)? else {
         return Ok(None);
     };
-    Ok(Some((Choice { place, arm }, after)))
+    Ok(Some(Choice { place, arm }))
 }
 
 /// The two fields of the first line of the text, and what is behind that line.

@@ -1,5 +1,5 @@
 // A line with a long place: where no ready event acts so deep, it is refused without its place being made.
-ghost use Rattle.std.specs.Prelude.{◌≡◌, ◌↔◌, ◌<◌, List, length, false, IsTrue, IfOk, IfErr};
+ghost use Rattle.std.specs.Prelude.{◌≡◌, ◌↔◌, ◌<◌, ℕ, List, length, false, IsTrue, IfOk, IfErr};
 ghost use Rattle.syntax.specs.Lists.{Every};
 ghost use Rattle.address.specs.Reading.{IsTextOf};
 ghost use Rattle.address.specs.declared.Entry.{Entry};
@@ -8,10 +8,11 @@ ghost use Rattle.runs.specs.Object.{Reaches};
 ghost use Rattle.runs.specs.Ready.{ReadyList};
 ghost use Rattle.runs.specs.Steps.{State};
 ghost use Rattle.machine.specs.AtMachine.{object};
+ghost use Rattle.trace_file.specs.internal.Fields.{AreFields};
 ghost use Rattle.trace_file.specs.internal.OneStep.{LineStops, RefusesLong};
 
 use crate::Fault;
-use crate::line::{fields, read_arm};
+use crate::line::read_arm;
 use address::read_entry;
 use machine::Machine;
 use runs::Event;
@@ -24,13 +25,16 @@ const LONG_PLACE: usize = 65_536;
 /// The most bytes of an entry: a mark and ten digits.
 const ENTRY_BYTES: usize = 11;
 
-/// Refuses the first line, which has this number, where its place is longer than that of any ready event.
-pub(crate) fn refuse_long(machine: &Machine, rest: &[u8], number: u64) -> Result<(), Fault>
-    ensures { IfErr result (λ fault. LineStops machine.now rest.now number fault) }
+/// Refuses the line of this number with this place and this arm, where the place is longer than that of any ready event.
+pub(crate) fn refuse_long(
+    machine: &Machine,
+    place: &[u8],
+    arm: &[u8],
+    number: u64,
+) -> Result<(), Fault>
+    ensures { (text after : List ℕ) → AreFields text place.now arm.now after →
+        IfErr result (λ fault. LineStops machine.now text number fault) }
 {
-    let Some((place, arm, _)) = fields(rest) else {
-        return Ok(());
-    };
     if place.len() <= LONG_PLACE {
         return Ok(());
     }

@@ -5,7 +5,7 @@ ghost use Rattle.trace_file.specs.internal.Fields.{HasNone};
 ghost use Rattle.trace_file.specs.internal.OneStep.{Loading, LineTaken, LineStops, Taken, StepStops, HeaderStops, outcome_of};
 
 use crate::Fault;
-use crate::line::{cut_at, read_step};
+use crate::line::{cut_at, fields, read_choice};
 use crate::long::refuse_long;
 use crate::order::refuse_disorder;
 use crate::version::{Version, version_of};
@@ -137,8 +137,11 @@ fn take_line<'a>(
         (λ fault. LineStops machine.old rest.entry.now number fault) }
     ensures system { machine.new.checked ≡ machine.old.checked }
 {
-    refuse_long(machine, rest, number)?;
-    let Some((choice, after)) = read_step(alloc, rest)? else {
+    let Some((place, arm, after)) = fields(rest) else {
+        return Err(Fault::BadLine(number));
+    };
+    refuse_long(machine, place, arm, number)?;
+    let Some(choice) = read_choice(alloc, place, arm)? else {
         return Err(Fault::BadLine(number));
     };
     take_step(machine, &choice, number)?;

@@ -19,7 +19,7 @@ use address::{Address, Entry};
 use canonical_order::canonical_order;
 use dependence::Live;
 use devices::{CountedWrite, write_out};
-use itoa::Buffer;
+use line_text::{add_byte, add_bytes, add_decimal};
 use machine::Machine;
 use runs::Event;
 use std::alloc::{AllocError, Global};
@@ -93,9 +93,9 @@ fn add_line(out: &mut Vec<u8>, event: &Event) -> Result<(), AllocError>
     let arm = event.arm_to_open();
     add_bytes(out, b"step ")?;
     add_place(out, event.acting_place())?;
-    add_bytes(out, b" ")?;
+    add_byte(out, b' ')?;
     add_number(out, arm)?;
-    add_bytes(out, b"\n")
+    add_byte(out, b'\n')
 }
 
 /// Adds a place.
@@ -116,11 +116,11 @@ fn add_entry(out: &mut Vec<u8>, entry: Entry) -> Result<(), AllocError>
 {
     match entry {
         Entry::Ordered(number) => {
-            add_bytes(out, b".")?;
+            add_byte(out, b'.')?;
             add_number(out, number)
         }
         Entry::Branch(number) => {
-            add_bytes(out, b"/")?;
+            add_byte(out, b'/')?;
             add_number(out, number)
         }
     }
@@ -130,14 +130,5 @@ fn add_entry(out: &mut Vec<u8>, entry: Entry) -> Result<(), AllocError>
 fn add_number(out: &mut Vec<u8>, number: u32) -> Result<(), AllocError>
     ensures { OnOk result (out.new.items ≡ out.old.items ++ decimal number) }
 {
-    let mut buffer = Buffer::new();
-    let digits = buffer.format(number);
-    out.extend_from_slice(digits.as_bytes())
-}
-
-/// Adds bytes.
-fn add_bytes(out: &mut Vec<u8>, bytes: &[u8]) -> Result<(), AllocError>
-    ensures { OnOk result (out.new.items ≡ out.old.items ++ bytes.now) }
-{
-    out.extend_from_slice(bytes)
+    add_decimal(out, u64::from(number))
 }

@@ -13,7 +13,7 @@ use Rattle.line_text.proofs.public.CutLemmas.{clear-by-test}
 
 -- all keywords
 abbrev pub all_keywords : List Keyword
-all_keywords = Step ∷ Undo ∷ Roll ∷ RollValue ∷ Blame ∷ Ready ∷ Consequences ∷ Live ∷ Value ∷ Branch ∷ Break ∷ Clear ∷ Session ∷ View ∷ Trace ∷ []
+all_keywords = Step ∷ Branch ∷ Undo ∷ Roll ∷ RollValue ∷ Blame ∷ Ready ∷ Consequences ∷ Live ∷ Value ∷ Break ∷ Clear ∷ Session ∷ View ∷ Trace ∷ []
 
 -- each keyword is found by its spelling
 pub all-spelled : (w : Keyword) → first_spelled all_keywords (spelling w) ≡ Some w

@@ -1,6 +1,6 @@
 -- What a step of a branch takes, from the list of the ready events.
-use Rattle.std.proofs.Common.{◌≡◌, ◌⊎◌, inl, inr, ℕ, suc, ◌+◌, ◌<◌, ◌≤◌, List, [], ◌∷◌, ◌++◌, Bool, true, false, cond, length, take, drop, get_or, Option, Some, None, Result, Ok, Err, refl, sym, ◌∙◌, ap, subst, slice_get}
-use Rattle.std.specs.Prelude.{IfOk, OnErr, MatchOption, MatchResult, filter}
+use Rattle.std.proofs.Common.{◌≡◌, ◌⊎◌, inl, inr, ℕ, suc, ◌+◌, ◌<◌, ◌≤◌, List, [], ◌∷◌, ◌++◌, Bool, true, false, cond, length, take, drop, get_or, Option, Some, None, refl, sym, ◌∙◌, ap, subst, slice_get}
+use Rattle.std.specs.Prelude.{MatchOption, filter}
 use Rattle.std.proofs.lemmas.List.Elements.{filter-append}
 use Rattle.syntax.specs.Lists.{Every}
 use Rattle.sharing_check.specs.declared.checked.Checked.{Checked}
@@ -18,7 +18,6 @@ use Rattle.runs.specs.declared.event.Event.{Event}
 use Rattle.runs.specs.declared.event.Choice.{Choice}
 use Rattle.runs.specs.declared.command.Reply.{Reply}
 use Rattle.runs.specs.declared.command.Refusal.{Refusal}
-use Rattle.runs.specs.declared.command.Refusal.TheVariants.{Memory}
 use Rattle.runs.proofs.public.Options.{some-injective}
 use Rattle.runs.proofs.public.Lists.{every-in, every-of, in-parts}
 use Rattle.machine.specs.AtMachine.{AtMachine, object, at_machine}
@@ -181,13 +180,6 @@ pub back-branched : (h : AtMachine) (k : ℕ) (breaks : List ℕ) (T : State) (e
     Every (λ e. moves h k breaks e ≡ false) es → MatchOption (line_of_first h (in_branch h k es)) (reply ≡ Idle) (λ line. reply ≡ Stopped line) →
     StepsBranch h k breaks reply h
 back-branched h k breaks T es reply reaches ready none told = back-with h k breaks T es es reply reaches ready refl none told
-
--- what is answered where the step may want memory
-pub branch-answers : {E : Type 0} (h h' : AtMachine) (k : ℕ) (breaks : List ℕ) (r : Result BranchReply E) (reply : BranchReply) →
-    IfOk r (λ told. StepsBranch h k breaks told h') → OnErr r (h' ≡ h) → MatchResult r (λ told. reply ≡ told) (λ _. reply ≡ Refused Memory) →
-    AnswersBranch h k breaks reply h'
-branch-answers h h' k breaks (Ok told) reply done same is = inl (subst (λ (x : BranchReply). StepsBranch h k breaks x h') (sym is) done)
-branch-answers h h' k breaks (Err x) reply done same is = inr (is, same)
 
 pub stepped-is-step : SteppedIsStep
 stepped-is-step h h' k t breaks e a = elim a [ inl b ↦ b.4.1 | inr b ↦ cc ]

@@ -13,21 +13,18 @@ remove-inverse-requires c =
     let h = c.args.self.now in
     place-within c.requires.holds.0 (tree_of h) h.live.live h.inverses h.next c.args.ticket c.args.index c.requires.at.0 c.requires.holds.1 c.requires.at.1
 
-pub invert-requires : goal.invert-requires
-invert-requires c =
+pub undo_by-requires : goal.undo_by-requires
+undo_by-requires c =
     let h = c.args.self.now in
-    record {
-      possible =
-          can-revert c.requires.holds.0 (tree_of h) h.live.live h.inverses h.next c.args.ticket c.args.index c.requires.at.0 c.take-event.result
-          c.remove-inverse.result c.requires.holds.1 c.requires.at.1 c.requires.alone c.take-event.ensures.event
-          (sym (get_or_from_slice_get h.inverses c.args.index c.remove-inverse.result c.remove-inverse.result c.remove-inverse.ensures.item));
-    }
+    can-revert c.requires.holds.0 (tree_of h) h.live.live h.inverses h.next c.args.ticket c.args.index c.requires.at.0 c.take-event.result
+    c.remove-inverse.result c.requires.holds.1 c.requires.at.1 c.requires.alone c.take-event.ensures.event
+    (sym (get_or_from_slice_get h.inverses c.args.index c.remove-inverse.result c.remove-inverse.result c.remove-inverse.ensures.item))
 
 pub returns-clause-holds : goal.returns-clause-holds
 returns-clause-holds c = λ system holds.
     let h = c.args.self.now in
-    stands-less system (tree_of h) (both_view c.invert.new.tree c.invert.new.store) h.live.live c.take-event.new.self.live h.inverses
+    stands-less system (tree_of h) (both_view c.undo_by.new.tree c.undo_by.new.store) h.live.live c.take-event.new.self.live h.inverses
     c.remove-inverse.new.self h.next c.args.ticket c.args.index c.requires.at.0 c.take-event.result c.remove-inverse.result holds c.requires.at.1
     c.requires.alone c.take-event.ensures.live c.take-event.ensures.event
     (sym (get_or_from_slice_get h.inverses c.args.index c.remove-inverse.result c.remove-inverse.result c.remove-inverse.ensures.item))
-    c.remove-inverse.ensures.taken c.invert.ensures.undone
+    c.remove-inverse.ensures.taken c.undo_by.ensures
