@@ -54,7 +54,7 @@ fn made(alloc: Global, line: u64, action: Verdict<Action>) -> Settled<Command>
 }
 
 /// What a command does. A function for each form with children, and of those the child first that it recurses on: its
-/// depth is what falls.
+/// depth is what falls. The rarer ones are never put in here, so that the recursion takes little stack.
 #[cycle(settled_command)]
 fn settled_action(
     alloc: Global,
@@ -151,6 +151,7 @@ fn settled_loop(
 }
 
 #[cycle(settled_command)]
+#[inline(never)]
 fn settled_while(
     alloc: Global,
     scope: &Scope,
@@ -168,6 +169,7 @@ fn settled_while(
 }
 
 #[cycle(settled_command)]
+#[inline(never)]
 fn settled_if(
     alloc: Global,
     scope: &Scope,
@@ -185,6 +187,7 @@ fn settled_if(
 }
 
 #[cycle(settled_command)]
+#[inline(never)]
 fn settled_case(
     alloc: Global,
     scope: &Scope,
@@ -204,6 +207,7 @@ fn settled_case(
 }
 
 #[cycle(settled_command)]
+#[inline(never)]
 fn settled_input(
     alloc: Global,
     scope: &Scope,
@@ -221,6 +225,7 @@ fn settled_input(
 }
 
 #[cycle(settled_command)]
+#[inline(never)]
 fn settled_select(
     alloc: Global,
     scope: &Scope,
@@ -234,6 +239,7 @@ fn settled_select(
 }
 
 #[cycle(settled_command)]
+#[inline(never)]
 fn settled_arbitrate(
     alloc: Global,
     scope: &Scope,

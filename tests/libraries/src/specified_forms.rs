@@ -53,7 +53,7 @@ fn a_token_is_taken_apart(rt: HostRuntime) -> Result<(), Fail> {
 /// The name of the type, where it has one.
 fn named(of: &TypeName) -> &[u8] {
     match of {
-        TypeName::Named(identifier) => identifier.name.text(),
+        TypeName::Named(identifier) => identifier.get().name.text(),
         TypeName::Bits(_) => b"",
     }
 }
