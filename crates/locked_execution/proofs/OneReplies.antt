@@ -3,7 +3,7 @@ use Rattle.std.proofs.Common.{◌≡◌, inl, inr, ℕ, ◌≤◌, true, false, 
 use Rattle.system.specs.Expression.{is_in}
 use Rattle.system_places.specs.LinesBegun.{begins}
 use Rattle.runs.specs.Sound.{Sound}
-use Rattle.runs.specs.declared.command.Command as runs_command
+use Rattle.runs.specs.Commands as runs
 use Rattle.runs.specs.declared.command.Refusal.{Refusal}
 use Rattle.runs.specs.declared.command.Refusal.TheVariants.{BreaksFull, NoSuchLine}
 use Rattle.runs.proofs.public.OneReplies.{one-reply}
@@ -20,7 +20,7 @@ use Rattle.locked_execution.proofs.public.Unchanged.{all-same}
 abbrev Same : Reply → Reply → AtDesk → AtDesk → Type 0
 Same reply other p q = (reply ≡ other) × (p ≡ q)
 
-on-execution : (d p q : AtDesk) (c : runs_command.Command) (reply other : Reply) → Sound (execution d) →
+on-execution : (d p q : AtDesk) (c : runs.Command) (reply other : Reply) → Sound (execution d) →
     OnExecution d c reply p → OnExecution d c other q → Same reply other p q
 on-execution d p q c reply other s h g =
     let one = one-reply (execution d) (execution p) (execution q) c h.0 g.0 s h.2 g.2 in
@@ -71,15 +71,15 @@ one-clear d p q session line Reply.Done _ h g = absurd g
 one-clear d p q session line _ other h g = absurd h
 
 pub one-reply-each : OneReply
-one-reply-each d p q session (Command.Step c) reply other s h g = on-execution d p q (runs_command.Command.Step c) reply other s h g
-one-reply-each d p q session (Command.Undo t) reply other s h g = on-execution d p q (runs_command.Command.Undo t) reply other s h g
-one-reply-each d p q session (Command.Roll t) reply other s h g = on-execution d p q (runs_command.Command.Roll t) reply other s h g
-one-reply-each d p q session (Command.RollValue x) reply other s h g = on-execution d p q (runs_command.Command.RollValue x) reply other s h g
-one-reply-each d p q session (Command.Blame x) reply other s h g = on-execution d p q (runs_command.Command.Blame x) reply other s h g
-one-reply-each d p q session Command.Ready reply other s h g = on-execution d p q runs_command.Command.Ready reply other s h g
-one-reply-each d p q session (Command.Consequences t) reply other s h g = on-execution d p q (runs_command.Command.Consequences t) reply other s h g
-one-reply-each d p q session Command.Live reply other s h g = on-execution d p q runs_command.Command.Live reply other s h g
-one-reply-each d p q session (Command.Value x) reply other s h g = on-execution d p q (runs_command.Command.Value x) reply other s h g
+one-reply-each d p q session (Command.Step c) reply other s h g = on-execution d p q (runs.Command.Step c) reply other s h g
+one-reply-each d p q session (Command.Undo t) reply other s h g = on-execution d p q (runs.Command.Undo t) reply other s h g
+one-reply-each d p q session (Command.Roll t) reply other s h g = on-execution d p q (runs.Command.Roll t) reply other s h g
+one-reply-each d p q session (Command.RollValue x) reply other s h g = on-execution d p q (runs.Command.RollValue x) reply other s h g
+one-reply-each d p q session (Command.Blame x) reply other s h g = on-execution d p q (runs.Command.Blame x) reply other s h g
+one-reply-each d p q session Command.Ready reply other s h g = on-execution d p q runs.Command.Ready reply other s h g
+one-reply-each d p q session (Command.Consequences t) reply other s h g = on-execution d p q (runs.Command.Consequences t) reply other s h g
+one-reply-each d p q session Command.Live reply other s h g = on-execution d p q runs.Command.Live reply other s h g
+one-reply-each d p q session (Command.Value x) reply other s h g = on-execution d p q (runs.Command.Value x) reply other s h g
 one-reply-each d p q session (Command.Branch k) reply other s h g = on-branch d p q session k reply other s h g
 one-reply-each d p q session (Command.Break line) reply other s h g = one-set d p q session line reply other h g
 one-reply-each d p q session (Command.Clear line) reply other s h g = one-clear d p q session line reply other h g

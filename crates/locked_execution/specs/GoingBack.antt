@@ -10,7 +10,7 @@ use Rattle.runs.specs.Live.{Live, events, LiveAt, NoWriter}
 use Rattle.runs.specs.Object.{Object, Reaches}
 use Rattle.runs.specs.Sound.{Sound}
 use Rattle.runs.specs.Steps.{State, Run}
-use Rattle.runs.specs.declared.command.Command as runs_command
+use Rattle.runs.specs.Commands as runs
 use Rattle.runs.specs.declared.event.Event.{Event}
 use Rattle.locked_execution.specs.AtDesk.{AtDesk, execution}
 use Rattle.locked_execution.specs.Answered.{Answered}
@@ -57,16 +57,16 @@ ValueFromBefore =
     get T.store x ≡ get S.store x)
 
 -- the command of a session that a command of the execution is
-abbrev pub session_command : runs_command.Command → Command
-session_command (runs_command.Command.Step c) = Command.Step c
-session_command (runs_command.Command.Undo t) = Command.Undo t
-session_command (runs_command.Command.Roll t) = Command.Roll t
-session_command (runs_command.Command.RollValue x) = Command.RollValue x
-session_command (runs_command.Command.Blame x) = Command.Blame x
-session_command runs_command.Command.Ready = Command.Ready
-session_command (runs_command.Command.Consequences t) = Command.Consequences t
-session_command runs_command.Command.Live = Command.Live
-session_command (runs_command.Command.Value x) = Command.Value x
+abbrev pub session_command : runs.Command → Command
+session_command (runs.Command.Step c) = Command.Step c
+session_command (runs.Command.Undo t) = Command.Undo t
+session_command (runs.Command.Roll t) = Command.Roll t
+session_command (runs.Command.RollValue x) = Command.RollValue x
+session_command (runs.Command.Blame x) = Command.Blame x
+session_command runs.Command.Ready = Command.Ready
+session_command (runs.Command.Consequences t) = Command.Consequences t
+session_command runs.Command.Live = Command.Live
+session_command (runs.Command.Value x) = Command.Value x
 
 -- the commands of one session are performed in their order with these replies, one each, and leave d'; none wants
 -- memory

@@ -5,7 +5,7 @@ ghost use Rattle.runs.specs.Live.{events, IsLive, ConsequencesList};
 ghost use Rattle.runs.specs.Object.{Reaches};
 ghost use Rattle.runs.specs.Ready.{ReadyList};
 ghost use Rattle.runs.specs.Does.{Answers};
-ghost use Rattle.runs.specs.declared.command.Command.{Command};
+ghost use Rattle.runs.specs.Commands.{Command};
 ghost use Rattle.process_tree.specs.Tidy.{Tidy};
 ghost use Rattle.process_tree.specs.View.{tree_view};
 ghost use Rattle.local_actions.specs.Actions.{OffersExactly, Precedes};

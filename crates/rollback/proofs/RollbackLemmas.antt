@@ -5,7 +5,7 @@ use Rattle.runs.specs.Does.{Answers}
 use Rattle.runs.specs.Live.{IsLive, NoneAt, LastWriter, NoWriter}
 use Rattle.runs.specs.Object.{Object}
 use Rattle.runs.specs.Sound.{Sound}
-use Rattle.runs.specs.declared.command.Command.{Command}
+use Rattle.runs.specs.Commands.{Command}
 use Rattle.runs.specs.declared.command.Refusal.{Refusal}
 use Rattle.runs.specs.declared.command.Refusal.TheVariants.{Memory, NoSuchEvent, NeverWritten}
 use Rattle.runs.proofs.public.ObjectLaws.{rolls-exactly, rolled-value, consequences-exactly}

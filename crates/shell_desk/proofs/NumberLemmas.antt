@@ -5,8 +5,7 @@ use Rattle.sharing_check.specs.declared.checked.Checked.{Checked}
 use Rattle.runs.specs.Object.{Object}
 use Rattle.runs.specs.Does as calculus
 use Rattle.runs.specs.declared.event.Event.{Event}
-use Rattle.runs.specs.declared.command.Command as runs_command
-use Rattle.runs.specs.declared.command.Reply as runs_reply
+use Rattle.runs.specs.Commands as runs
 use Rattle.runs.specs.declared.command.Refusal.TheVariants.{Memory}
 use Rattle.machine.specs.declared.branch.BranchReply.{BranchReply}
 use Rattle.locked_execution.specs.AtDesk.{AtDesk, execution}
@@ -19,16 +18,16 @@ use Rattle.shell_desk.specs.internal.Numbering.{IsTold, given_or, is_list, numbe
 
 -- ---- a list is refused in its place
 -- only a list is told as one
-list-told : (answer : runs_reply.Reply) (es : List Event) → Reply.Ready es ≡ session_reply answer → answer ≡ runs_reply.Reply.Ready es
-list-told (runs_reply.Reply.Stepped t e) es is = absurd (cc)
-list-told (runs_reply.Reply.Undone t e) es is = absurd (cc)
-list-told (runs_reply.Reply.Rolled n) es is = absurd (cc)
-list-told (runs_reply.Reply.Blamed t) es is = absurd (cc)
-list-told (runs_reply.Reply.Ready fs) es is = cc
-list-told (runs_reply.Reply.Consequences ts) es is = absurd (cc)
-list-told (runs_reply.Reply.Live l) es is = absurd (cc)
-list-told (runs_reply.Reply.Value v) es is = absurd (cc)
-list-told (runs_reply.Reply.Refused why) es is = absurd (cc)
+list-told : (answer : runs.Reply) (es : List Event) → Reply.Ready es ≡ session_reply answer → answer ≡ runs.Reply.Ready es
+list-told (runs.Reply.Stepped t e) es is = absurd (cc)
+list-told (runs.Reply.Undone t e) es is = absurd (cc)
+list-told (runs.Reply.Rolled n) es is = absurd (cc)
+list-told (runs.Reply.Blamed t) es is = absurd (cc)
+list-told (runs.Reply.Ready fs) es is = cc
+list-told (runs.Reply.Consequences ts) es is = absurd (cc)
+list-told (runs.Reply.Live l) es is = absurd (cc)
+list-told (runs.Reply.Value v) es is = absurd (cc)
+list-told (runs.Reply.Refused why) es is = absurd (cc)
 
 no-branch-list : (answer : BranchReply) (es : List Event) → Reply.Ready es ≡ branch_reply answer → ⊥
 no-branch-list (BranchReply.Stepped t e) es is = cc
@@ -37,17 +36,17 @@ no-branch-list BranchReply.Idle es is = cc
 no-branch-list (BranchReply.Refused why) es is = cc
 
 -- the command that lists leaves all as it was
-leaves-all : (o o' : Object) (c : runs_command.Command) (es : List Event) → calculus.Does o c (runs_reply.Reply.Ready es) o'
+leaves-all : (o o' : Object) (c : runs.Command) (es : List Event) → calculus.Does o c (runs.Reply.Ready es) o'
     → calculus.MayWantMemory o c × (o' ≡ o)
-leaves-all o o' (runs_command.Command.Step c) es h = absurd h
-leaves-all o o' (runs_command.Command.Undo t) es h = absurd h
-leaves-all o o' (runs_command.Command.Roll t) es h = absurd h
-leaves-all o o' (runs_command.Command.RollValue x) es h = absurd h
-leaves-all o o' (runs_command.Command.Blame x) es h = absurd h
-leaves-all o o' runs_command.Command.Ready es h = (tt, h.1)
-leaves-all o o' (runs_command.Command.Consequences t) es h = absurd h
-leaves-all o o' runs_command.Command.Live es h = absurd h
-leaves-all o o' (runs_command.Command.Value x) es h = absurd h
+leaves-all o o' (runs.Command.Step c) es h = absurd h
+leaves-all o o' (runs.Command.Undo t) es h = absurd h
+leaves-all o o' (runs.Command.Roll t) es h = absurd h
+leaves-all o o' (runs.Command.RollValue x) es h = absurd h
+leaves-all o o' (runs.Command.Blame x) es h = absurd h
+leaves-all o o' runs.Command.Ready es h = (tt, h.1)
+leaves-all o o' (runs.Command.Consequences t) es h = absurd h
+leaves-all o o' runs.Command.Live es h = absurd h
+leaves-all o o' (runs.Command.Value x) es h = absurd h
 
 same-desk : (d d' : AtDesk) → execution d' ≡ execution d → d'.machine.checked ≡ d.machine.checked → d'.breaks ≡ d.breaks → d' ≡ d
 same-desk d d' same system breaks = λ i. record {
@@ -55,24 +54,24 @@ same-desk d d' same system breaks = λ i. record {
   breaks = breaks i;
 }
 
-on-list : (d d' : AtDesk) (c : runs_command.Command) (es : List Event) → OnExecution d c (Reply.Ready es) d'
+on-list : (d d' : AtDesk) (c : runs.Command) (es : List Event) → OnExecution d c (Reply.Ready es) d'
     → calculus.MayWantMemory (execution d) c × (d' ≡ d)
 on-list d d' c es (answer, is, does, system, breaks) =
     let left = leaves-all (execution d) (execution d') c es
-    (subst (λ (a : runs_reply.Reply). calculus.Does (execution d) c a (execution d')) (list-told answer es is) does) in
+    (subst (λ (a : runs.Reply). calculus.Does (execution d) c a (execution d')) (list-told answer es is) does) in
     (left.0, same-desk d d' left.1 system breaks)
 
 performs-list : (d d' : AtDesk) (session : ℕ) (c : Command) (es : List Event) → Performs d session c (Reply.Ready es) d'
     → MayWantMemory d c × (d' ≡ d)
-performs-list d d' session (Command.Step c) es h = on-list d d' (runs_command.Command.Step c) es h
-performs-list d d' session (Command.Undo t) es h = on-list d d' (runs_command.Command.Undo t) es h
-performs-list d d' session (Command.Roll t) es h = on-list d d' (runs_command.Command.Roll t) es h
-performs-list d d' session (Command.RollValue x) es h = on-list d d' (runs_command.Command.RollValue x) es h
-performs-list d d' session (Command.Blame x) es h = on-list d d' (runs_command.Command.Blame x) es h
-performs-list d d' session Command.Ready es h = on-list d d' runs_command.Command.Ready es h
-performs-list d d' session (Command.Consequences t) es h = on-list d d' (runs_command.Command.Consequences t) es h
-performs-list d d' session Command.Live es h = on-list d d' runs_command.Command.Live es h
-performs-list d d' session (Command.Value x) es h = on-list d d' (runs_command.Command.Value x) es h
+performs-list d d' session (Command.Step c) es h = on-list d d' (runs.Command.Step c) es h
+performs-list d d' session (Command.Undo t) es h = on-list d d' (runs.Command.Undo t) es h
+performs-list d d' session (Command.Roll t) es h = on-list d d' (runs.Command.Roll t) es h
+performs-list d d' session (Command.RollValue x) es h = on-list d d' (runs.Command.RollValue x) es h
+performs-list d d' session (Command.Blame x) es h = on-list d d' (runs.Command.Blame x) es h
+performs-list d d' session Command.Ready es h = on-list d d' runs.Command.Ready es h
+performs-list d d' session (Command.Consequences t) es h = on-list d d' (runs.Command.Consequences t) es h
+performs-list d d' session Command.Live es h = on-list d d' runs.Command.Live es h
+performs-list d d' session (Command.Value x) es h = on-list d d' (runs.Command.Value x) es h
 performs-list d d' session (Command.Branch k) es h = absurd (no-branch-list h.0 es h.1)
 performs-list d d' session (Command.Break line) es h = absurd h
 performs-list d d' session (Command.Clear line) es h = absurd h

@@ -4,7 +4,7 @@ use Rattle.std.proofs.lemmas.Result.{IfOk-weaker}
 use Rattle.process_tree.specs.Translation.{system_code}
 use Rattle.runs.specs.Does.{Does}
 use Rattle.runs.specs.declared.event.Event.{Event}
-use Rattle.runs.specs.declared.command.Command.{Command}
+use Rattle.runs.specs.Commands.{Command}
 use Rattle.runs.specs.declared.command.Refusal.{Refusal}
 use Rattle.event_inverse.specs.Grown.{state_of_tree}
 use Rattle.machine.specs.Results.{step_reply}
