@@ -218,7 +218,7 @@ impl Machine {
     /// # Errors
     ///
     /// `NoSuchEvent` where no live event has the ticket. `Memory` without memory, but never in its place.
-    pub fn consequences(&self, ticket: Ticket) -> Result<Items<Ticket>, Refusal>
+    pub fn consequences(&self, ticket: Ticket) -> Result<Vec<Ticket>, Refusal>
         ensures { Answers (object self.now) (Command.Consequences ticket) (consequences_reply result)
             (object self.now) }
     {

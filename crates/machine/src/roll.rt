@@ -18,7 +18,6 @@ use process_tree::Tree;
 use runs::{Event, Refusal};
 use std::alloc::AllocError;
 use store::Store;
-use syntax::Items;
 
 impl History {
     /// Takes the event of this ticket back, and all live events that depend on it.
@@ -111,7 +110,7 @@ impl History {
     pub(crate) fn tell_consequences(
         &self,
         ticket: u64,
-    ) -> Result<Result<Items<u64>, Refusal>, AllocError>
+    ) -> Result<Result<Vec<u64>, Refusal>, AllocError>
         ensures done { (system : Checked) →
             IfOk result (λ told.
             Does (execution system self.now) (Command.Consequences ticket) (consequences_reply told)
@@ -121,7 +120,7 @@ impl History {
         match self.live.index_of(ticket) {
             Some(_) => {
                 let tickets = self.live.consequences(ticket)?;
-                Ok(Ok(Items::from_vec(tickets)))
+                Ok(Ok(tickets))
             }
             None => Ok(Err(Refusal::NoSuchEvent)),
         }
