@@ -41,13 +41,7 @@ reading_leaves d d' session Command.Ready reply is h = ready_leaves d d' session
 reading_leaves d d' session (Command.Consequences t) reply is h = elim h [ inl done ↦ followed-stays d d' t reply done | inr none ↦ none.2 ]
 reading_leaves d d' session Command.Live reply is h = elim h [ inl done ↦ live-stays d d' reply done | inr none ↦ none.2 ]
 reading_leaves d d' session (Command.Value x) reply is h = value_leaves d d' session x reply h
-reading_leaves d d' session (Command.Step c) reply is h = absurd (cc)
-reading_leaves d d' session (Command.Undo t) reply is h = absurd (cc)
-reading_leaves d d' session (Command.Roll t) reply is h = absurd (cc)
-reading_leaves d d' session (Command.RollValue x) reply is h = absurd (cc)
-reading_leaves d d' session (Command.Branch k) reply is h = absurd (cc)
-reading_leaves d d' session (Command.Break line) reply is h = absurd (cc)
-reading_leaves d d' session (Command.Clear line) reply is h = absurd (cc)
+reading_leaves d d' session _ reply is h = absurd (cc)
 
 -- a desk that stays was led nowhere
 pub led_still : (d d' : AtDesk) → d' ≡ d → Led d d'

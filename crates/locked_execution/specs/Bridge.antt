@@ -13,17 +13,8 @@ use Rattle.locked_execution.specs.declared.command.Reply.{Reply}
 -- the command of the execution that a session's command is where it is answered so: a step in a branch is the step of
 -- the event that it took; the others are none
 abbrev pub on_execution : Command → Reply → Option runs.Command
-on_execution (Command.Step c) reply = Some (runs.Command.Step c)
-on_execution (Command.Undo t) reply = Some (runs.Command.Undo t)
-on_execution (Command.Roll t) reply = Some (runs.Command.Roll t)
-on_execution (Command.RollValue x) reply = Some (runs.Command.RollValue x)
-on_execution (Command.Blame x) reply = Some (runs.Command.Blame x)
-on_execution Command.Ready reply = Some runs.Command.Ready
-on_execution (Command.Consequences t) reply = Some (runs.Command.Consequences t)
-on_execution Command.Live reply = Some runs.Command.Live
-on_execution (Command.Value x) reply = Some (runs.Command.Value x)
 on_execution (Command.Branch k) (Reply.Stepped t e) = Some (runs.Command.Step (choice_of e))
-on_execution _ reply = None
+on_execution command reply = performs.execution_command command
 
 -- x first, where there is one
 abbrev pub onto : {X : Type 0} → Option X → List X → List X

@@ -1,5 +1,5 @@
 -- What each command of a session answers and leaves.
-use Rattle.std.specs.Prelude.{◌≡◌, ◌⊎◌, ℕ, ◌<◌, ◌≤◌, length, true, false}
+use Rattle.std.specs.Prelude.{◌≡◌, ◌⊎◌, ℕ, ◌<◌, ◌≤◌, length, true, false, Option, Some, None, MatchOption}
 use Rattle.system.specs.Expression.{is_in}
 use Rattle.system_places.specs.LinesBegun.{begins}
 use Rattle.runs.specs.Does as calculus
@@ -12,6 +12,19 @@ use Rattle.machine.specs.declared.branch.BranchReply.{BranchReply}
 use Rattle.locked_execution.specs.AtDesk.{AtDesk, execution, breaks_of, with_breaks}
 use Rattle.locked_execution.specs.declared.command.Command.{Command}
 use Rattle.locked_execution.specs.declared.command.Reply.{Reply}
+
+-- the command of the execution that a session's command is; a step in a branch and those on breakpoints are none
+abbrev pub execution_command : Command → Option runs.Command
+execution_command (Command.Step c) = Some (runs.Command.Step c)
+execution_command (Command.Undo t) = Some (runs.Command.Undo t)
+execution_command (Command.Roll t) = Some (runs.Command.Roll t)
+execution_command (Command.RollValue x) = Some (runs.Command.RollValue x)
+execution_command (Command.Blame x) = Some (runs.Command.Blame x)
+execution_command Command.Ready = Some runs.Command.Ready
+execution_command (Command.Consequences t) = Some (runs.Command.Consequences t)
+execution_command Command.Live = Some runs.Command.Live
+execution_command (Command.Value x) = Some (runs.Command.Value x)
+execution_command _ = None
 
 -- what a session is told where the execution answers so
 abbrev pub session_reply : runs.Reply → Reply
@@ -69,33 +82,17 @@ ClearsBreak d session line _ d' = ⊥
 
 -- the command of the session is answered by this reply, and leaves d'
 abbrev pub Performs : AtDesk → ℕ → Command → Reply → AtDesk → Type 0
-Performs d session (Command.Step c) reply d' = OnExecution d (runs.Command.Step c) reply d'
-Performs d session (Command.Undo t) reply d' = OnExecution d (runs.Command.Undo t) reply d'
-Performs d session (Command.Roll t) reply d' = OnExecution d (runs.Command.Roll t) reply d'
-Performs d session (Command.RollValue x) reply d' = OnExecution d (runs.Command.RollValue x) reply d'
-Performs d session (Command.Blame x) reply d' = OnExecution d (runs.Command.Blame x) reply d'
-Performs d session Command.Ready reply d' = OnExecution d runs.Command.Ready reply d'
-Performs d session (Command.Consequences t) reply d' = OnExecution d (runs.Command.Consequences t) reply d'
-Performs d session Command.Live reply d' = OnExecution d runs.Command.Live reply d'
-Performs d session (Command.Value x) reply d' = OnExecution d (runs.Command.Value x) reply d'
 Performs d session (Command.Branch k) reply d' = OnBranch d session k reply d'
 Performs d session (Command.Break line) reply d' = SetsBreak d session line reply d'
 Performs d session (Command.Clear line) reply d' = ClearsBreak d session line reply d'
+Performs d session command reply d' = MatchOption (execution_command command) ⊥ (λ c. OnExecution d c reply d')
 
 -- there may be no memory for the command: a step in a branch may want some, breakpoints take none
 abbrev pub MayWantMemory : AtDesk → Command → Type 0
-MayWantMemory d (Command.Step c) = calculus.MayWantMemory (execution d) (runs.Command.Step c)
-MayWantMemory d (Command.Undo t) = calculus.MayWantMemory (execution d) (runs.Command.Undo t)
-MayWantMemory d (Command.Roll t) = calculus.MayWantMemory (execution d) (runs.Command.Roll t)
-MayWantMemory d (Command.RollValue x) = calculus.MayWantMemory (execution d) (runs.Command.RollValue x)
-MayWantMemory d (Command.Blame x) = calculus.MayWantMemory (execution d) (runs.Command.Blame x)
-MayWantMemory d Command.Ready = calculus.MayWantMemory (execution d) runs.Command.Ready
-MayWantMemory d (Command.Consequences t) = calculus.MayWantMemory (execution d) (runs.Command.Consequences t)
-MayWantMemory d Command.Live = calculus.MayWantMemory (execution d) runs.Command.Live
-MayWantMemory d (Command.Value x) = calculus.MayWantMemory (execution d) (runs.Command.Value x)
 MayWantMemory d (Command.Branch k) = Unit {0}
 MayWantMemory d (Command.Break line) = ⊥
 MayWantMemory d (Command.Clear line) = ⊥
+MayWantMemory d command = MatchOption (execution_command command) ⊥ (λ c. calculus.MayWantMemory (execution d) c)
 
 -- the same, or there was no memory for it and nothing changed
 abbrev pub Answers : AtDesk → ℕ → Command → Reply → AtDesk → Type 0
