@@ -29,7 +29,7 @@ pub use one_run::same_run;
 pub use plain::Plain;
 pub use residual_tree::{ResidualTree, along, with_received, within};
 pub use runs::{
-    Ask, Choice, Command, Event, Kind, LAST_TICKET, MOST_LIVE_EVENTS, Refusal, Reply, acting_once,
+    Ask, Choice, Event, Kind, LAST_TICKET, MOST_LIVE_EVENTS, Refusal, acting_once,
     allowed_are_listed, apart_moves_meet, back_then_forth_law, causes_alone, dependence_laws,
     depends_directly, earlier_places, events_are_distinct, least_rollback_law, limit_laws,
     neighbours_swap, one_choice, one_state, opening_is_well_formed, ordered, ready_law, reply_laws,

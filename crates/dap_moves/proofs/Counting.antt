@@ -2,7 +2,7 @@
 use Rattle.std.proofs.Common.{◌≡◌, ◌⊎◌, ℕ, suc, ◌+◌, ◌<◌, ◌≤◌, List, [], ◌∷◌, ◌++◌, length, Option, inl, inr, refl, ap, ◌∙◌, arith}
 use Rattle.runs.specs.Does.{Steps}
 use Rattle.runs.specs.Object.{Object, most_live}
-use Rattle.runs.specs.declared.command.Reply as runs_reply
+use Rattle.runs.specs.Commands as runs
 use Rattle.runs.specs.declared.command.Refusal.TheVariants.{Memory}
 use Rattle.runs.specs.declared.event.Choice.{Choice}
 use Rattle.runs.specs.declared.event.Event.{Event}
@@ -25,14 +25,14 @@ length-pushed : (l : List (ℕ × Event)) (x : ℕ × Event) → length (l ++ x 
 length-pushed [] x = refl
 length-pushed (y ∷ l) x = let rest = length-pushed l x in omega arith
 
-stepped : (o o' : Object) (c : Choice) (t : ℕ) (e : Event) → Steps o c (runs_reply.Reply.Stepped t e) o' → Grows o.live o'.live
+stepped : (o o' : Object) (c : Choice) (t : ℕ) (e : Event) → Steps o c (runs.Reply.Stepped t e) o' → Grows o.live o'.live
 stepped o o' c t e h = (h.1, ap (λ (x : Object). length x.live) h.4 ∙ length-pushed o.live (o.next, e))
 
 -- by its choice
-step-grows : (o o' : Object) (c : Choice) (t : ℕ) (e : Event) (answer : runs_reply.Reply) → Reply.Stepped t e ≡ session_reply answer → Steps o c answer o' →
+step-grows : (o o' : Object) (c : Choice) (t : ℕ) (e : Event) (answer : runs.Reply) → Reply.Stepped t e ≡ session_reply answer → Steps o c answer o' →
     Grows o.live o'.live
-step-grows o o' c t e (runs_reply.Reply.Stepped u f) is h = stepped o o' c u f h
-step-grows o o' c t e (runs_reply.Reply.Refused why) is h = absurd (cc)
+step-grows o o' c t e (runs.Reply.Stepped u f) is h = stepped o o' c u f h
+step-grows o o' c t e (runs.Reply.Refused why) is h = absurd (cc)
 step-grows o o' c t e _ is h = absurd h
 
 -- or as one of a branch

@@ -10,7 +10,7 @@ use Rattle.runs.specs.Does.{Rolls, Undoes}
 use Rattle.runs.specs.Live.{DependsOn, FirstDependent, IsLive, Live, LiveAt, Rising, WithoutTickets}
 use Rattle.runs.specs.Object.{Object}
 use Rattle.runs.specs.declared.event.Event.{Event}
-use Rattle.runs.specs.declared.command.Reply as runs_reply
+use Rattle.runs.specs.Commands as runs
 use Rattle.runs.specs.declared.command.Refusal.{Refusal}
 use Rattle.runs.specs.declared.command.Refusal.TheVariants.{NoSuchEvent, NeededBy}
 use Rattle.runs.proofs.public.DependsOnLaw.{depends-up}
@@ -31,13 +31,13 @@ use Rattle.dap_moves.specs.declared.seen.Watched.{Watched}
 use Rattle.dap_moves.proofs.Backward.{refused-undo}
 
 -- what an undo of a live step is answered: that it is undone, or that another depends on it, which changes nothing
-undo-told : (d d' : AtDesk) (t : ℕ) (e : Event) (reply : Reply) (answer : runs_reply.Reply) → LiveAt d.machine.live t e → reply ≡ session_reply answer →
+undo-told : (d d' : AtDesk) (t : ℕ) (e : Event) (reply : Reply) (answer : runs.Reply) → LiveAt d.machine.live t e → reply ≡ session_reply answer →
     Undoes (execution d) t answer (execution d') → d'.machine.checked ≡ d.machine.checked → d'.breaks ≡ d.breaks →
     ((f : Event) × LiveAt d.machine.live t f × (reply ≡ Reply.Undone t f))
     ⊎ ((u : ℕ) × (reply ≡ Reply.Refused (NeededBy u)) × FirstDependent d.machine.live t u × (d' ≡ d))
-undo-told d d' t e reply (runs_reply.Reply.Undone u f) live is h checked breaks =
+undo-told d d' t e reply (runs.Reply.Undone u f) live is h checked breaks =
     inl (f, h.1, is ∙ ap (λ (n : ℕ). Reply.Undone n f) h.0)
-undo-told d d' t e reply (runs_reply.Reply.Refused why) live is h checked breaks =
+undo-told d d' t e reply (runs.Reply.Refused why) live is h checked breaks =
     let found = refused-undo (execution d) (execution d') t e why live h in
     inr (found.0, is ∙ ap (λ (w : Refusal). Reply.Refused w) found.1, found.2, all-same d d' checked found.3 breaks)
 undo-told d d' t e reply _ live is h checked breaks = absurd h
@@ -51,11 +51,11 @@ undo_told d d' t e reply live h = elim h [
 ]
 
 -- a rollback of a live step is not refused
-roll-told : (o o' : Object) (t : ℕ) (reply : Reply) (answer : runs_reply.Reply) → IsLive o.live t → reply ≡ session_reply answer → Rolls o t answer o' →
+roll-told : (o o' : Object) (t : ℕ) (reply : Reply) (answer : runs.Reply) → IsLive o.live t → reply ≡ session_reply answer → Rolls o t answer o' →
     (n : ℕ) × (reply ≡ Reply.Rolled n)
-roll-told o o' t reply (runs_reply.Reply.Rolled n) live is h = (n, is)
-roll-told o o' t reply (runs_reply.Reply.Refused NoSuchEvent) live is h = absurd (h.0 live.0 live.1)
-roll-told o o' t reply (runs_reply.Reply.Refused _) live is h = absurd h.0
+roll-told o o' t reply (runs.Reply.Rolled n) live is h = (n, is)
+roll-told o o' t reply (runs.Reply.Refused NoSuchEvent) live is h = absurd (h.0 live.0 live.1)
+roll-told o o' t reply (runs.Reply.Refused _) live is h = absurd h.0
 roll-told o o' t reply _ live is h = absurd h
 
 pub rolls_all : (d d' : AtDesk) (t : ℕ) (reply : Reply) → IsLive d.machine.live t → Answers d quiet (Command.Roll t) reply d' →
@@ -103,13 +103,13 @@ out_at d d' next t e rising live h =
     subst (λ (f : Event). IsUndone (gone d t f d') ⊎ IsRolled (gone d t f d')) (rising-one 1 next d.machine.live t h.0 e rising h.1 live) h.2
 
 -- which live steps an undo leaves
-undo-leaves : (o o' : Object) (t : ℕ) (e : Event) (answer : runs_reply.Reply) → Reply.Undone t e ≡ session_reply answer → Undoes o t answer o' →
+undo-leaves : (o o' : Object) (t : ℕ) (e : Event) (answer : runs.Reply) → Reply.Undone t e ≡ session_reply answer → Undoes o t answer o' →
     IsLive o.live t × WithoutTickets (λ v. v ≡ t) o.live o'.live
-undo-leaves o o' t e (runs_reply.Reply.Undone u f) is h = (
+undo-leaves o o' t e (runs.Reply.Undone u f) is h = (
   (f, h.1),
   subst (λ (l : Live). WithoutTickets (λ v. v ≡ t) o.live l) (sym (ap (λ (p : Object). p.live) h.3.2)) h.3.1,
 )
-undo-leaves o o' t e (runs_reply.Reply.Refused why) is h = absurd (cc)
+undo-leaves o o' t e (runs.Reply.Refused why) is h = absurd (cc)
 undo-leaves o o' t e _ is h = absurd h
 
 undone-leaves : (r : Returned) → IsUndone r → IsLive r.from.machine.live r.ticket × WithoutTickets (λ v. v ≡ r.ticket) r.from.machine.live r.left.machine.live
@@ -119,11 +119,11 @@ undone-leaves r h = elim h [
 ]
 
 -- and which a rollback
-roll-leaves : (o o' : Object) (t n : ℕ) (answer : runs_reply.Reply) → Reply.Rolled n ≡ session_reply answer → Rolls o t answer o' →
+roll-leaves : (o o' : Object) (t n : ℕ) (answer : runs.Reply) → Reply.Rolled n ≡ session_reply answer → Rolls o t answer o' →
     WithoutTickets (DependsOn o.live t) o.live o'.live
-roll-leaves o o' t n (runs_reply.Reply.Rolled m) is h =
+roll-leaves o o' t n (runs.Reply.Rolled m) is h =
     subst (λ (l : Live). WithoutTickets (DependsOn o.live t) o.live l) (sym (ap (λ (p : Object). p.live) h.1.3)) h.1.1
-roll-leaves o o' t n (runs_reply.Reply.Refused why) is h = absurd (cc)
+roll-leaves o o' t n (runs.Reply.Refused why) is h = absurd (cc)
 roll-leaves o o' t n _ is h = absurd h
 
 rolled-leaves : (r : Returned) → IsRolled r → WithoutTickets (DependsOn r.from.machine.live r.ticket) r.from.machine.live r.left.machine.live

@@ -14,7 +14,7 @@ use Rattle.runs.specs.Ready.{ReadyList}
 use Rattle.runs.specs.Steps.{State}
 use Rattle.runs.specs.declared.event.Choice.{Choice}
 use Rattle.runs.specs.declared.event.Event.{Event}
-use Rattle.runs.specs.declared.command.Reply as runs_reply
+use Rattle.runs.specs.Commands as runs
 use Rattle.runs.specs.declared.command.Refusal.{Refusal}
 use Rattle.runs.specs.declared.command.Refusal.TheVariants.{Memory}
 use Rattle.machine.specs.AtMachine.{AtMachine}
@@ -281,14 +281,14 @@ took-lacking plan turn seen d d' branch reply go sooner is same =
     subst (λ (r : Reply). TakesOne plan turn seen d d' (turn_of plan.watched.now branch r) seen) (sym is) (same, (go, sooner, inl refl), refl)
 
 -- a step by its choice
-took-chosen : (plan : Plan) (turn : ℕ) (seen : List Choice) (d d' : AtDesk) (c : Choice) (branch : ℕ) (reply : Reply) (answer : runs_reply.Reply) →
+took-chosen : (plan : Plan) (turn : ℕ) (seen : List Choice) (d d' : AtDesk) (c : Choice) (branch : ℕ) (reply : Reply) (answer : runs.Reply) →
     reply ≡ session_reply answer → Steps (execution d) c answer (execution d') → d'.machine.checked ≡ d.machine.checked → d'.breaks ≡ d.breaks →
     MayAsk d plan.only turn branch plan.lines.now seen (Command.Step c) → Answers d quiet (Command.Step c) reply d' →
     TakesOne plan turn seen d d' (turn_of plan.watched.now branch reply) seen
-took-chosen plan turn seen d d' c branch reply (runs_reply.Reply.Stepped t e) is h checked breaks may answers =
+took-chosen plan turn seen d d' c branch reply (runs.Reply.Stepped t e) is h checked breaks may answers =
     subst (λ (r : Reply). TakesOne plan turn seen d d' (turn_of plan.watched.now branch r) seen) (sym is)
     (took-stepped plan turn seen d d' (Command.Step c) branch t e may (subst (λ (r : Reply). Answers d quiet (Command.Step c) r d') is answers))
-took-chosen plan turn seen d d' c branch reply (runs_reply.Reply.Refused why) is h checked breaks may answers =
+took-chosen plan turn seen d d' c branch reply (runs.Reply.Refused why) is h checked breaks may answers =
     subst (λ (r : Reply). TakesOne plan turn seen d d' (turn_of plan.watched.now branch r) seen) (sym is)
     (took-refused plan turn seen d d' (Command.Step c) branch why (all-same d d' checked h.1 breaks) may.1.may may.1.sooner may
     (subst (λ (r : Reply). Answers d quiet (Command.Step c) r d') is answers))

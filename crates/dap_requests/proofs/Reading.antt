@@ -1,8 +1,7 @@
 -- What only reads leaves the desk.
 use Rattle.std.proofs.Common.{◌≡◌, ℕ, true, inl, inr, sym, subst}
 use Rattle.runs.specs.Does as calculus
-use Rattle.runs.specs.declared.command.Command as runs_command
-use Rattle.runs.specs.declared.command.Reply as runs_reply
+use Rattle.runs.specs.Commands as runs
 use Rattle.locked_execution.specs.AtDesk.{AtDesk, execution}
 use Rattle.locked_execution.specs.Performs.{Answers, OnExecution}
 use Rattle.locked_execution.specs.declared.command.Command.{Command}
@@ -12,27 +11,27 @@ use Rattle.dap_moves.proofs.public.Leading.{led_nowhere, ready_leaves, value_lea
 use Rattle.dap_moves.specs.Led.{Led}
 use Rattle.dap_requests.specs.Reading.{reads}
 
-blamed : (d d' : AtDesk) (x : ℕ) (answer : runs_reply.Reply) → calculus.Blames (execution d) x answer (execution d') → execution d' ≡ execution d
-blamed d d' x (runs_reply.Reply.Blamed t) h = h.1
-blamed d d' x (runs_reply.Reply.Refused why) h = h.1
+blamed : (d d' : AtDesk) (x : ℕ) (answer : runs.Reply) → calculus.Blames (execution d) x answer (execution d') → execution d' ≡ execution d
+blamed d d' x (runs.Reply.Blamed t) h = h.1
+blamed d d' x (runs.Reply.Refused why) h = h.1
 blamed d d' x _ h = absurd h
 
-followed : (d d' : AtDesk) (t : ℕ) (answer : runs_reply.Reply) → calculus.ListsConsequences (execution d) t answer (execution d') → execution d' ≡ execution d
-followed d d' t (runs_reply.Reply.Consequences ts) h = h.2
-followed d d' t (runs_reply.Reply.Refused why) h = h.1
+followed : (d d' : AtDesk) (t : ℕ) (answer : runs.Reply) → calculus.ListsConsequences (execution d) t answer (execution d') → execution d' ≡ execution d
+followed d d' t (runs.Reply.Consequences ts) h = h.2
+followed d d' t (runs.Reply.Refused why) h = h.1
 followed d d' t _ h = absurd h
 
-lived : (d d' : AtDesk) (answer : runs_reply.Reply) → calculus.ListsLive (execution d) answer (execution d') → execution d' ≡ execution d
-lived d d' (runs_reply.Reply.Live l) h = h.1
+lived : (d d' : AtDesk) (answer : runs.Reply) → calculus.ListsLive (execution d) answer (execution d') → execution d' ≡ execution d
+lived d d' (runs.Reply.Live l) h = h.1
 lived d d' _ h = absurd h
 
-blame-stays : (d d' : AtDesk) (x : ℕ) (reply : Reply) → OnExecution d (runs_command.Command.Blame x) reply d' → d' ≡ d
+blame-stays : (d d' : AtDesk) (x : ℕ) (reply : Reply) → OnExecution d (runs.Command.Blame x) reply d' → d' ≡ d
 blame-stays d d' x reply h = all-same d d' h.3 (blamed d d' x h.0 h.2) h.4
 
-followed-stays : (d d' : AtDesk) (t : ℕ) (reply : Reply) → OnExecution d (runs_command.Command.Consequences t) reply d' → d' ≡ d
+followed-stays : (d d' : AtDesk) (t : ℕ) (reply : Reply) → OnExecution d (runs.Command.Consequences t) reply d' → d' ≡ d
 followed-stays d d' t reply h = all-same d d' h.3 (followed d d' t h.0 h.2) h.4
 
-live-stays : (d d' : AtDesk) (reply : Reply) → OnExecution d runs_command.Command.Live reply d' → d' ≡ d
+live-stays : (d d' : AtDesk) (reply : Reply) → OnExecution d runs.Command.Live reply d' → d' ≡ d
 live-stays d d' reply h = all-same d d' h.3 (lived d d' h.0 h.2) h.4
 
 -- a command that only reads leaves the desk
@@ -42,13 +41,7 @@ reading_leaves d d' session Command.Ready reply is h = ready_leaves d d' session
 reading_leaves d d' session (Command.Consequences t) reply is h = elim h [ inl done ↦ followed-stays d d' t reply done | inr none ↦ none.2 ]
 reading_leaves d d' session Command.Live reply is h = elim h [ inl done ↦ live-stays d d' reply done | inr none ↦ none.2 ]
 reading_leaves d d' session (Command.Value x) reply is h = value_leaves d d' session x reply h
-reading_leaves d d' session (Command.Step c) reply is h = absurd (cc)
-reading_leaves d d' session (Command.Undo t) reply is h = absurd (cc)
-reading_leaves d d' session (Command.Roll t) reply is h = absurd (cc)
-reading_leaves d d' session (Command.RollValue x) reply is h = absurd (cc)
-reading_leaves d d' session (Command.Branch k) reply is h = absurd (cc)
-reading_leaves d d' session (Command.Break line) reply is h = absurd (cc)
-reading_leaves d d' session (Command.Clear line) reply is h = absurd (cc)
+reading_leaves d d' session _ reply is h = absurd (cc)
 
 -- a desk that stays was led nowhere
 pub led_still : (d d' : AtDesk) → d' ≡ d → Led d d'

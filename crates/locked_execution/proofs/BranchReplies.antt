@@ -11,8 +11,7 @@ use Rattle.runs.specs.Object.{Reaches, most_live, last_ticket, with_event}
 use Rattle.runs.specs.Does.{CanStep, RefusesStep}
 use Rattle.runs.specs.Sound.{Sound}
 use Rattle.runs.specs.declared.event.Event.{Event}
-use Rattle.runs.specs.declared.command.Command.{Command}
-use Rattle.runs.specs.declared.command.Reply.{Reply}
+use Rattle.runs.specs.Commands.{Command, Reply}
 use Rattle.runs.specs.declared.command.Refusal.{Refusal}
 use Rattle.runs.specs.declared.command.Refusal.TheVariants.{HistoryFull, Spent}
 use Rattle.runs.proofs.public.Options.{some-injective}

@@ -1,16 +1,16 @@
 -- What a command of a session leaves as it is.
-use Rattle.std.proofs.Common.{◌≡◌, ◌≢◌, ◌⊎◌, ◌↔◌, inl, inr, ℕ, ◌<◌, List, [], ◌∷◌, length, refl, sym, ◌∙◌, ap, subst, get_or, get_or-set_same, get_or-set_other}
+use Rattle.std.proofs.Common.{◌≡◌, ◌≢◌, ◌⊎◌, ◌↔◌, inl, inr, ℕ, ◌<◌, List, [], ◌∷◌, length, Option, Some, None, refl, sym, ◌∙◌, ap, subst, get_or, get_or-set_same, get_or-set_other}
+use Rattle.std.specs.Prelude.{MatchOption}
 use Rattle.syntax.specs.Lists.{In}
 use Rattle.runs.specs.Does.{Does, MayWantMemory}
-use Rattle.runs.specs.declared.command.Command as runs_command
-use Rattle.runs.specs.declared.command.Reply as runs_reply
+use Rattle.runs.specs.Commands as runs
 use Rattle.runs.specs.declared.command.Refusal.{Refusal}
 use Rattle.runs.specs.declared.command.Refusal.TheVariants.{Memory}
 use Rattle.machine.specs.AtMachine.{object}
 use Rattle.machine.specs.Branching.{StepsBranch}
 use Rattle.machine.specs.declared.branch.BranchReply.{BranchReply}
 use Rattle.locked_execution.specs.AtDesk.{AtDesk, execution, breaks_of, with_breaks}
-use Rattle.locked_execution.specs.Performs.{Answers, OnExecution, OnBranch, SetsBreak, ClearsBreak, session_reply, branch_reply}
+use Rattle.locked_execution.specs.Performs.{Answers, execution_command, OnExecution, OnBranch, SetsBreak, ClearsBreak, session_reply, branch_reply}
 use Rattle.locked_execution.specs.Frames.{OnlyBreaksAndClears, OthersKeepTheirs, OthersKeepTheirsOverLists, BreakLeavesExecution, ClearLeavesExecution, RefusalLeavesAll, BreakSets, ClearClears}
 use Rattle.locked_execution.specs.declared.command.Command.{Command}
 use Rattle.locked_execution.specs.declared.command.Reply.{Reply}
@@ -18,25 +18,18 @@ use Rattle.locked_execution.proofs.LineLaws.{line-in, line-out}
 use Rattle.locked_execution.proofs.public.Unchanged.{refused-leaves, all-same}
 
 -- a command of the execution keeps the breakpoints
-kept : (d d' : AtDesk) (c : runs_command.Command) (reply : Reply) →
-    OnExecution d c reply d' ⊎ (MayWantMemory (execution d) c × (reply ≡ Reply.Refused Memory) × (d' ≡ d)) → d'.breaks ≡ d.breaks
-kept d d' c reply (inl h) = h.4
-kept d d' c reply (inr h) = ap (λ (a : AtDesk). a.breaks) h.2
+kept : (d d' : AtDesk) (o : Option runs.Command) (reply : Reply) → MatchOption o ⊥ (λ c. OnExecution d c reply d')
+    ⊎ (MatchOption o ⊥ (λ c. MayWantMemory (execution d) c) × (reply ≡ Reply.Refused Memory) × (d' ≡ d)) → d'.breaks ≡ d.breaks
+kept d d' None reply (inl h) = absurd h
+kept d d' (Some c) reply (inl h) = h.4
+kept d d' o reply (inr h) = ap (λ (a : AtDesk). a.breaks) h.2
 
 pub only-breaks-and-clears : OnlyBreaksAndClears
-only-breaks-and-clears d d' session (Command.Step c) reply h = inl (kept d d' (runs_command.Command.Step c) reply h)
-only-breaks-and-clears d d' session (Command.Undo t) reply h = inl (kept d d' (runs_command.Command.Undo t) reply h)
-only-breaks-and-clears d d' session (Command.Roll t) reply h = inl (kept d d' (runs_command.Command.Roll t) reply h)
-only-breaks-and-clears d d' session (Command.RollValue x) reply h = inl (kept d d' (runs_command.Command.RollValue x) reply h)
-only-breaks-and-clears d d' session (Command.Blame x) reply h = inl (kept d d' (runs_command.Command.Blame x) reply h)
-only-breaks-and-clears d d' session Command.Ready reply h = inl (kept d d' runs_command.Command.Ready reply h)
-only-breaks-and-clears d d' session (Command.Consequences t) reply h = inl (kept d d' (runs_command.Command.Consequences t) reply h)
-only-breaks-and-clears d d' session Command.Live reply h = inl (kept d d' runs_command.Command.Live reply h)
-only-breaks-and-clears d d' session (Command.Value x) reply h = inl (kept d d' (runs_command.Command.Value x) reply h)
 only-breaks-and-clears d d' session (Command.Branch k) reply (inl h) = inl h.4
 only-breaks-and-clears d d' session (Command.Branch k) reply (inr h) = inl (ap (λ (a : AtDesk). a.breaks) h.2)
 only-breaks-and-clears d d' session (Command.Break line) reply h = inr (line, inl refl)
 only-breaks-and-clears d d' session (Command.Clear line) reply h = inr (line, inr refl)
+only-breaks-and-clears d d' session command reply h = inl (kept d d' (execution_command command) reply h)
 
 -- the breakpoints of one session alone are written
 elsewhere : (d d' : AtDesk) (session other : ℕ) (lines : List ℕ) → d' ≡ with_breaks d session lines → other ≢ session → breaks_of d' other ≡ breaks_of d other
@@ -94,14 +87,15 @@ clear-leaves-execution d d' session line reply (inl h) = clear-leaves d d' sessi
 clear-leaves-execution d d' session line reply (inr h) = absurd h.0
 
 -- a refusal of the execution leaves all
-refused : (d d' : AtDesk) (c : runs_command.Command) (why : Refusal) →
-    OnExecution d c (Reply.Refused why) d' ⊎ (MayWantMemory (execution d) c × (Reply.Refused why ≡ Reply.Refused Memory) × (d' ≡ d)) → d' ≡ d
-refused d d' c why (inl h) = by_answer h.0 h.1 h.2
+refused : (d d' : AtDesk) (o : Option runs.Command) (why : Refusal) → MatchOption o ⊥ (λ c. OnExecution d c (Reply.Refused why) d')
+    ⊎ (MatchOption o ⊥ (λ c. MayWantMemory (execution d) c) × (Reply.Refused why ≡ Reply.Refused Memory) × (d' ≡ d)) → d' ≡ d
+refused d d' None why (inl h) = absurd h
+refused d d' (Some c) why (inl h) = by_answer h.0 h.1 h.2
   where
-    by_answer : (answer : runs_reply.Reply) → Reply.Refused why ≡ session_reply answer → Does (execution d) c answer (execution d') → d' ≡ d
-    by_answer (runs_reply.Reply.Refused because) is does = all-same d d' h.3 (refused-leaves (execution d) (execution d') c because does) h.4
+    by_answer : (answer : runs.Reply) → Reply.Refused why ≡ session_reply answer → Does (execution d) c answer (execution d') → d' ≡ d
+    by_answer (runs.Reply.Refused because) is does = all-same d d' h.3 (refused-leaves (execution d) (execution d') c because does) h.4
     by_answer _ is does = cc
-refused d d' c why (inr h) = h.2
+refused d d' o why (inr h) = h.2
 
 -- and so does one of a step in a branch
 branch-refused : (d d' : AtDesk) (session k : ℕ) (why : Refusal) → OnBranch d session k (Reply.Refused why) d' → d' ≡ d
@@ -112,21 +106,13 @@ branch-refused d d' session k why h = by_answer h.0 h.1 h.2
     by_answer _ is steps = cc
 
 pub refusal-leaves-all : RefusalLeavesAll
-refusal-leaves-all d d' session (Command.Step c) why h = refused d d' (runs_command.Command.Step c) why h
-refusal-leaves-all d d' session (Command.Undo t) why h = refused d d' (runs_command.Command.Undo t) why h
-refusal-leaves-all d d' session (Command.Roll t) why h = refused d d' (runs_command.Command.Roll t) why h
-refusal-leaves-all d d' session (Command.RollValue x) why h = refused d d' (runs_command.Command.RollValue x) why h
-refusal-leaves-all d d' session (Command.Blame x) why h = refused d d' (runs_command.Command.Blame x) why h
-refusal-leaves-all d d' session Command.Ready why h = refused d d' runs_command.Command.Ready why h
-refusal-leaves-all d d' session (Command.Consequences t) why h = refused d d' (runs_command.Command.Consequences t) why h
-refusal-leaves-all d d' session Command.Live why h = refused d d' runs_command.Command.Live why h
-refusal-leaves-all d d' session (Command.Value x) why h = refused d d' (runs_command.Command.Value x) why h
 refusal-leaves-all d d' session (Command.Branch k) why (inl h) = branch-refused d d' session k why h
 refusal-leaves-all d d' session (Command.Branch k) why (inr h) = h.2
 refusal-leaves-all d d' session (Command.Break line) why (inl h) = h.1
 refusal-leaves-all d d' session (Command.Break line) why (inr h) = absurd h.0
 refusal-leaves-all d d' session (Command.Clear line) why (inl h) = absurd h
 refusal-leaves-all d d' session (Command.Clear line) why (inr h) = absurd h.0
+refusal-leaves-all d d' session command why h = refused d d' (execution_command command) why h
 
 -- what a session has after its breakpoints were written
 written : (d d' : AtDesk) (session : ℕ) (lines : List ℕ) → session < length d.breaks → d' ≡ with_breaks d session lines → breaks_of d' session ≡ lines

@@ -1,15 +1,16 @@
 -- A command of a session has at most one reply, and that determines the desk after it.
-use Rattle.std.proofs.Common.{◌≡◌, inl, inr, ℕ, ◌≤◌, true, false, length, refl, sym, ◌∙◌, ap, arith}
+use Rattle.std.proofs.Common.{◌≡◌, inl, inr, ℕ, ◌≤◌, true, false, length, Option, Some, None, refl, sym, ◌∙◌, ap, arith}
+use Rattle.std.specs.Prelude.{MatchOption}
 use Rattle.system.specs.Expression.{is_in}
 use Rattle.system_places.specs.LinesBegun.{begins}
 use Rattle.runs.specs.Sound.{Sound}
-use Rattle.runs.specs.declared.command.Command as runs_command
+use Rattle.runs.specs.Commands as runs
 use Rattle.runs.specs.declared.command.Refusal.{Refusal}
 use Rattle.runs.specs.declared.command.Refusal.TheVariants.{BreaksFull, NoSuchLine}
 use Rattle.runs.proofs.public.OneReplies.{one-reply}
 use Rattle.machine.specs.Breakpoints.{most_breaks}
 use Rattle.locked_execution.specs.AtDesk.{AtDesk, execution, breaks_of}
-use Rattle.locked_execution.specs.Performs.{OnExecution, OnBranch, RefusesBreak, SetsBreak, ClearsBreak, session_reply, branch_reply}
+use Rattle.locked_execution.specs.Performs.{execution_command, OnExecution, OnBranch, RefusesBreak, SetsBreak, ClearsBreak, session_reply, branch_reply}
 use Rattle.locked_execution.specs.Replies.{OneReply}
 use Rattle.locked_execution.specs.declared.command.Command.{Command}
 use Rattle.locked_execution.specs.declared.command.Reply.{Reply}
@@ -20,9 +21,10 @@ use Rattle.locked_execution.proofs.public.Unchanged.{all-same}
 abbrev Same : Reply → Reply → AtDesk → AtDesk → Type 0
 Same reply other p q = (reply ≡ other) × (p ≡ q)
 
-on-execution : (d p q : AtDesk) (c : runs_command.Command) (reply other : Reply) → Sound (execution d) →
-    OnExecution d c reply p → OnExecution d c other q → Same reply other p q
-on-execution d p q c reply other s h g =
+on-execution : (d p q : AtDesk) (o : Option runs.Command) (reply other : Reply) → Sound (execution d) →
+    MatchOption o ⊥ (λ c. OnExecution d c reply p) → MatchOption o ⊥ (λ c. OnExecution d c other q) → Same reply other p q
+on-execution d p q None reply other s h g = absurd h
+on-execution d p q (Some c) reply other s h g =
     let one = one-reply (execution d) (execution p) (execution q) c h.0 g.0 s h.2 g.2 in
     (h.1 ∙ ap session_reply one.0 ∙ sym g.1, all-same q p (h.3 ∙ sym g.3) one.1 (h.4 ∙ sym g.4))
 
@@ -71,15 +73,7 @@ one-clear d p q session line Reply.Done _ h g = absurd g
 one-clear d p q session line _ other h g = absurd h
 
 pub one-reply-each : OneReply
-one-reply-each d p q session (Command.Step c) reply other s h g = on-execution d p q (runs_command.Command.Step c) reply other s h g
-one-reply-each d p q session (Command.Undo t) reply other s h g = on-execution d p q (runs_command.Command.Undo t) reply other s h g
-one-reply-each d p q session (Command.Roll t) reply other s h g = on-execution d p q (runs_command.Command.Roll t) reply other s h g
-one-reply-each d p q session (Command.RollValue x) reply other s h g = on-execution d p q (runs_command.Command.RollValue x) reply other s h g
-one-reply-each d p q session (Command.Blame x) reply other s h g = on-execution d p q (runs_command.Command.Blame x) reply other s h g
-one-reply-each d p q session Command.Ready reply other s h g = on-execution d p q runs_command.Command.Ready reply other s h g
-one-reply-each d p q session (Command.Consequences t) reply other s h g = on-execution d p q (runs_command.Command.Consequences t) reply other s h g
-one-reply-each d p q session Command.Live reply other s h g = on-execution d p q runs_command.Command.Live reply other s h g
-one-reply-each d p q session (Command.Value x) reply other s h g = on-execution d p q (runs_command.Command.Value x) reply other s h g
 one-reply-each d p q session (Command.Branch k) reply other s h g = on-branch d p q session k reply other s h g
 one-reply-each d p q session (Command.Break line) reply other s h g = one-set d p q session line reply other h g
 one-reply-each d p q session (Command.Clear line) reply other s h g = one-clear d p q session line reply other h g
+one-reply-each d p q session command reply other s h g = on-execution d p q (execution_command command) reply other s h g

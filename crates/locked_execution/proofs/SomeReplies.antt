@@ -1,5 +1,6 @@
 -- Each command of a session has a reply.
-use Rattle.std.proofs.Common.{◌≡◌, inl, inr, ℕ, Bool, true, false, length, refl, ap, subst}
+use Rattle.std.proofs.Common.{◌≡◌, inl, inr, ℕ, Bool, true, false, length, Option, Some, None, refl, ap, subst}
+use Rattle.std.specs.Prelude.{IsSome, MatchOption}
 use Rattle.std.proofs.lemmas.Bool.{cases_lt}
 use Rattle.system.specs.Expression.{is_in}
 use Rattle.system_places.specs.LinesBegun.{begins}
@@ -7,13 +8,13 @@ use Rattle.runs.specs.Steps.{opening}
 use Rattle.runs.specs.Object.{Object}
 use Rattle.runs.specs.Does.{Does}
 use Rattle.runs.specs.Sound.{Sound}
-use Rattle.runs.specs.declared.command.Command as runs_command
+use Rattle.runs.specs.Commands as runs
 use Rattle.runs.specs.declared.command.Refusal.TheVariants.{BreaksFull, NoSuchLine}
 use Rattle.runs.proofs.public.Effects.{Effect, unchanged, added, taken, does-effect}
 use Rattle.runs.proofs.public.SomeReplies.{some-reply}
 use Rattle.machine.specs.Breakpoints.{most_breaks, with_line, without_line}
 use Rattle.locked_execution.specs.AtDesk.{AtDesk, execution, breaks_of, with_breaks}
-use Rattle.locked_execution.specs.Performs.{Performs, OnExecution, session_reply, branch_reply}
+use Rattle.locked_execution.specs.Performs.{Performs, execution_command, OnExecution, session_reply, branch_reply}
 use Rattle.locked_execution.specs.Replies.{SomeReply}
 use Rattle.locked_execution.specs.declared.command.Command.{Command}
 use Rattle.locked_execution.specs.declared.command.Reply.{Reply}
@@ -30,8 +31,10 @@ same-opening o o' (added e T r a room left is) = ap (λ (p : Object). p.opening)
 same-opening o o' (taken k back is) = ap (λ (p : Object). p.opening) is
 
 -- the desk with the execution that is left
-on-execution : (d : AtDesk) (c : runs_command.Command) → Sound (execution d) → (reply : Reply) × (d' : AtDesk) × OnExecution d c reply d'
-on-execution d c s =
+on-execution : (d : AtDesk) (o : Option runs.Command) → IsSome o → Sound (execution d) →
+    (reply : Reply) × (d' : AtDesk) × MatchOption o ⊥ (λ c. OnExecution d c reply d')
+on-execution d None there s = absurd (cc)
+on-execution d (Some c) there s =
     let some = some-reply (execution d) c s in
     let after : AtDesk = record { machine = record { checked = d.machine.checked; live = some.1.live; next = some.1.next }; breaks = d.breaks } in
     let begun : some.1.opening ≡ opening d.machine.checked = same-opening (execution d) some.1 (does-effect (execution d) c some.0 some.1 s some.2) in
@@ -61,15 +64,7 @@ some-set d session line = pick (begins line d.machine.checked.main) refl (is_in 
         ]
 
 pub some-reply-each : SomeReply
-some-reply-each d session (Command.Step c) s = on-execution d (runs_command.Command.Step c) s
-some-reply-each d session (Command.Undo t) s = on-execution d (runs_command.Command.Undo t) s
-some-reply-each d session (Command.Roll t) s = on-execution d (runs_command.Command.Roll t) s
-some-reply-each d session (Command.RollValue x) s = on-execution d (runs_command.Command.RollValue x) s
-some-reply-each d session (Command.Blame x) s = on-execution d (runs_command.Command.Blame x) s
-some-reply-each d session Command.Ready s = on-execution d runs_command.Command.Ready s
-some-reply-each d session (Command.Consequences t) s = on-execution d (runs_command.Command.Consequences t) s
-some-reply-each d session Command.Live s = on-execution d runs_command.Command.Live s
-some-reply-each d session (Command.Value x) s = on-execution d (runs_command.Command.Value x) s
 some-reply-each d session (Command.Branch k) s = on-branch d session k s
 some-reply-each d session (Command.Break line) s = some-set d session line
 some-reply-each d session (Command.Clear line) s = (Reply.Done, with_breaks d session (without_line line (breaks_of d session)), refl)
+some-reply-each d session command s = on-execution d (execution_command command) refl s

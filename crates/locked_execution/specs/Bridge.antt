@@ -3,8 +3,7 @@ use Rattle.std.specs.Prelude.{◌≡◌, ℕ, List, [], ◌∷◌, map, Option, 
 use Rattle.runs.specs.Answered as calculus
 use Rattle.runs.specs.Choices.{choice_of}
 use Rattle.runs.specs.Does.{Answers}
-use Rattle.runs.specs.declared.command.Command as runs_command
-use Rattle.runs.specs.declared.command.Reply as runs_reply
+use Rattle.runs.specs.Commands as runs
 use Rattle.locked_execution.specs.AtDesk.{AtDesk, execution}
 use Rattle.locked_execution.specs.Answered.{Answered}
 use Rattle.locked_execution.specs.Performs as performs
@@ -13,18 +12,9 @@ use Rattle.locked_execution.specs.declared.command.Reply.{Reply}
 
 -- the command of the execution that a session's command is where it is answered so: a step in a branch is the step of
 -- the event that it took; the others are none
-abbrev pub on_execution : Command → Reply → Option runs_command.Command
-on_execution (Command.Step c) reply = Some (runs_command.Command.Step c)
-on_execution (Command.Undo t) reply = Some (runs_command.Command.Undo t)
-on_execution (Command.Roll t) reply = Some (runs_command.Command.Roll t)
-on_execution (Command.RollValue x) reply = Some (runs_command.Command.RollValue x)
-on_execution (Command.Blame x) reply = Some (runs_command.Command.Blame x)
-on_execution Command.Ready reply = Some runs_command.Command.Ready
-on_execution (Command.Consequences t) reply = Some (runs_command.Command.Consequences t)
-on_execution Command.Live reply = Some runs_command.Command.Live
-on_execution (Command.Value x) reply = Some (runs_command.Command.Value x)
-on_execution (Command.Branch k) (Reply.Stepped t e) = Some (runs_command.Command.Step (choice_of e))
-on_execution _ reply = None
+abbrev pub on_execution : Command → Reply → Option runs.Command
+on_execution (Command.Branch k) (Reply.Stepped t e) = Some (runs.Command.Step (choice_of e))
+on_execution command reply = performs.execution_command command
 
 -- x first, where there is one
 abbrev pub onto : {X : Type 0} → Option X → List X → List X
@@ -32,7 +22,7 @@ onto None xs = xs
 onto (Some x) xs = x ∷ xs
 
 -- the commands of the execution that the commands of sessions are, where these are their replies
-abbrev pub commands_of : List (ℕ × Command) → List Reply → List runs_command.Command
+abbrev pub commands_of : List (ℕ × Command) → List Reply → List runs.Command
 commands_of [] replies = []
 commands_of (x ∷ xs) [] = []
 commands_of (x ∷ xs) (reply ∷ replies) = onto (on_execution x.1 reply) (commands_of xs replies)
@@ -53,12 +43,12 @@ IsOnExecution =
     (d d' : AtDesk) (session : ℕ) (command : Command) (reply : Reply) → performs.Answers d session command reply d' →
     MatchOption (on_execution command reply)
     (d'.machine ≡ d.machine)
-    (λ c. (answer : runs_reply.Reply) × (performs.session_reply answer ≡ reply)
+    (λ c. (answer : runs.Reply) × (performs.session_reply answer ≡ reply)
     × Answers (execution d) c answer (execution d'))
 
 -- and so it is with lists
 abbrev pub AreOnExecution : Type 0
 AreOnExecution =
     (d d' : AtDesk) (commands : List (ℕ × Command)) (replies : List Reply) → Answered d commands replies d' →
-    (answers : List runs_reply.Reply) × (map performs.session_reply answers ≡ replies_of commands replies)
+    (answers : List runs.Reply) × (map performs.session_reply answers ≡ replies_of commands replies)
     × calculus.Answered (execution d) (commands_of commands replies) answers (execution d')

@@ -10,11 +10,11 @@ use Rattle.runs.specs.Live.{Live, events, LiveAt, NoWriter}
 use Rattle.runs.specs.Object.{Object, Reaches}
 use Rattle.runs.specs.Sound.{Sound}
 use Rattle.runs.specs.Steps.{State, Run}
-use Rattle.runs.specs.declared.command.Command as runs_command
+use Rattle.runs.specs.Commands as runs
 use Rattle.runs.specs.declared.event.Event.{Event}
 use Rattle.locked_execution.specs.AtDesk.{AtDesk, execution}
 use Rattle.locked_execution.specs.Answered.{Answered}
-use Rattle.locked_execution.specs.Performs.{Performs, session_reply}
+use Rattle.locked_execution.specs.Performs.{Performs, execution_command, session_reply}
 use Rattle.locked_execution.specs.declared.command.Command.{Command}
 use Rattle.locked_execution.specs.declared.command.Reply.{Reply}
 
@@ -56,25 +56,14 @@ ValueFromBefore =
     × ((S T : State) → Run (execution d).opening (events before) S → Reaches (execution d') T →
     get T.store x ≡ get S.store x)
 
--- the command of a session that a command of the execution is
-abbrev pub session_command : runs_command.Command → Command
-session_command (runs_command.Command.Step c) = Command.Step c
-session_command (runs_command.Command.Undo t) = Command.Undo t
-session_command (runs_command.Command.Roll t) = Command.Roll t
-session_command (runs_command.Command.RollValue x) = Command.RollValue x
-session_command (runs_command.Command.Blame x) = Command.Blame x
-session_command runs_command.Command.Ready = Command.Ready
-session_command (runs_command.Command.Consequences t) = Command.Consequences t
-session_command runs_command.Command.Live = Command.Live
-session_command (runs_command.Command.Value x) = Command.Value x
-
--- the commands of one session are performed in their order with these replies, one each, and leave d'; none wants
--- memory
-abbrev pub PerformsAll : AtDesk → ℕ → List Command → List Reply → AtDesk → Type 0
+-- commands of one session, which are these of the execution, are performed in their order with these replies, one each,
+-- and leave d'; none wants memory
+abbrev pub PerformsAll : AtDesk → ℕ → List runs.Command → List Reply → AtDesk → Type 0
 PerformsAll d session [] replies d' = (replies ≡ []) × (d' ≡ d)
 PerformsAll d session (c ∷ cs) replies d' =
-    (reply : Reply) × (rest : List Reply) × (middle : AtDesk)
-    × (replies ≡ reply ∷ rest) × Performs d session c reply middle × PerformsAll middle session cs rest d'
+    (command : Command) × (reply : Reply) × (rest : List Reply) × (middle : AtDesk)
+    × (execution_command command ≡ Some c) × (replies ≡ reply ∷ rest)
+    × Performs d session command reply middle × PerformsAll middle session cs rest d'
 
 -- from d to d', all amounts to undos of what went, from the greatest ticket down, and then steps of what came, in order
 -- of tickets, each of which makes that very event: a session that asks these is answered so, and then the same events
@@ -82,7 +71,7 @@ PerformsAll d session (c ∷ cs) replies d' =
 abbrev pub AmountsToBackAndForth : AtDesk → AtDesk → Type 0
 AmountsToBackAndForth d d' = (session : ℕ) →
     (p : AtDesk)
-    × PerformsAll d session (map session_command (back_and_forth d.machine.live d'.machine.live))
+    × PerformsAll d session (back_and_forth d.machine.live d'.machine.live)
     (map session_reply (back_and_forth_replies d.machine.next d.machine.live d'.machine.live)) p
     × (events p.machine.live ≡ events d'.machine.live)
     × ((T : State) → Reaches (execution p) T ↔ Reaches (execution d') T)

@@ -1,10 +1,9 @@
 -- What each command of a session answers and leaves.
-use Rattle.std.specs.Prelude.{◌≡◌, ◌⊎◌, ℕ, ◌<◌, ◌≤◌, length, true, false}
+use Rattle.std.specs.Prelude.{◌≡◌, ◌⊎◌, ℕ, ◌<◌, ◌≤◌, length, true, false, Option, Some, None, MatchOption}
 use Rattle.system.specs.Expression.{is_in}
 use Rattle.system_places.specs.LinesBegun.{begins}
 use Rattle.runs.specs.Does as calculus
-use Rattle.runs.specs.declared.command.Command as runs_command
-use Rattle.runs.specs.declared.command.Reply as runs_reply
+use Rattle.runs.specs.Commands as runs
 use Rattle.runs.specs.declared.command.Refusal.{Refusal}
 use Rattle.runs.specs.declared.command.Refusal.TheVariants.{Memory, BreaksFull, NoSuchLine}
 use Rattle.machine.specs.Breakpoints.{most_breaks, with_line, without_line}
@@ -14,17 +13,30 @@ use Rattle.locked_execution.specs.AtDesk.{AtDesk, execution, breaks_of, with_bre
 use Rattle.locked_execution.specs.declared.command.Command.{Command}
 use Rattle.locked_execution.specs.declared.command.Reply.{Reply}
 
+-- the command of the execution that a session's command is; a step in a branch and those on breakpoints are none
+abbrev pub execution_command : Command → Option runs.Command
+execution_command (Command.Step c) = Some (runs.Command.Step c)
+execution_command (Command.Undo t) = Some (runs.Command.Undo t)
+execution_command (Command.Roll t) = Some (runs.Command.Roll t)
+execution_command (Command.RollValue x) = Some (runs.Command.RollValue x)
+execution_command (Command.Blame x) = Some (runs.Command.Blame x)
+execution_command Command.Ready = Some runs.Command.Ready
+execution_command (Command.Consequences t) = Some (runs.Command.Consequences t)
+execution_command Command.Live = Some runs.Command.Live
+execution_command (Command.Value x) = Some (runs.Command.Value x)
+execution_command _ = None
+
 -- what a session is told where the execution answers so
-abbrev pub session_reply : runs_reply.Reply → Reply
-session_reply (runs_reply.Reply.Stepped t e) = Reply.Stepped t e
-session_reply (runs_reply.Reply.Undone t e) = Reply.Undone t e
-session_reply (runs_reply.Reply.Rolled n) = Reply.Rolled n
-session_reply (runs_reply.Reply.Blamed t) = Reply.Blamed t
-session_reply (runs_reply.Reply.Ready es) = Reply.Ready es
-session_reply (runs_reply.Reply.Consequences ts) = Reply.Consequences ts
-session_reply (runs_reply.Reply.Live l) = Reply.Live l
-session_reply (runs_reply.Reply.Value v) = Reply.Value v
-session_reply (runs_reply.Reply.Refused why) = Reply.Refused why
+abbrev pub session_reply : runs.Reply → Reply
+session_reply (runs.Reply.Stepped t e) = Reply.Stepped t e
+session_reply (runs.Reply.Undone t e) = Reply.Undone t e
+session_reply (runs.Reply.Rolled n) = Reply.Rolled n
+session_reply (runs.Reply.Blamed t) = Reply.Blamed t
+session_reply (runs.Reply.Ready es) = Reply.Ready es
+session_reply (runs.Reply.Consequences ts) = Reply.Consequences ts
+session_reply (runs.Reply.Live l) = Reply.Live l
+session_reply (runs.Reply.Value v) = Reply.Value v
+session_reply (runs.Reply.Refused why) = Reply.Refused why
 
 -- what a session is told of a step in a branch
 abbrev pub branch_reply : BranchReply → Reply
@@ -34,9 +46,9 @@ branch_reply BranchReply.Idle = Reply.Idle
 branch_reply (BranchReply.Refused why) = Reply.Refused why
 
 -- a command of the execution: no breakpoint changes
-abbrev pub OnExecution : AtDesk → runs_command.Command → Reply → AtDesk → Type 0
+abbrev pub OnExecution : AtDesk → runs.Command → Reply → AtDesk → Type 0
 OnExecution d c reply d' =
-    (answer : runs_reply.Reply) × (reply ≡ session_reply answer) × calculus.Does (execution d) c answer (execution d')
+    (answer : runs.Reply) × (reply ≡ session_reply answer) × calculus.Does (execution d) c answer (execution d')
     × (d'.machine.checked ≡ d.machine.checked) × (d'.breaks ≡ d.breaks)
 
 -- a step in the branch, past the breakpoints of the session: no breakpoint changes
@@ -70,33 +82,17 @@ ClearsBreak d session line _ d' = ⊥
 
 -- the command of the session is answered by this reply, and leaves d'
 abbrev pub Performs : AtDesk → ℕ → Command → Reply → AtDesk → Type 0
-Performs d session (Command.Step c) reply d' = OnExecution d (runs_command.Command.Step c) reply d'
-Performs d session (Command.Undo t) reply d' = OnExecution d (runs_command.Command.Undo t) reply d'
-Performs d session (Command.Roll t) reply d' = OnExecution d (runs_command.Command.Roll t) reply d'
-Performs d session (Command.RollValue x) reply d' = OnExecution d (runs_command.Command.RollValue x) reply d'
-Performs d session (Command.Blame x) reply d' = OnExecution d (runs_command.Command.Blame x) reply d'
-Performs d session Command.Ready reply d' = OnExecution d runs_command.Command.Ready reply d'
-Performs d session (Command.Consequences t) reply d' = OnExecution d (runs_command.Command.Consequences t) reply d'
-Performs d session Command.Live reply d' = OnExecution d runs_command.Command.Live reply d'
-Performs d session (Command.Value x) reply d' = OnExecution d (runs_command.Command.Value x) reply d'
 Performs d session (Command.Branch k) reply d' = OnBranch d session k reply d'
 Performs d session (Command.Break line) reply d' = SetsBreak d session line reply d'
 Performs d session (Command.Clear line) reply d' = ClearsBreak d session line reply d'
+Performs d session command reply d' = MatchOption (execution_command command) ⊥ (λ c. OnExecution d c reply d')
 
 -- there may be no memory for the command: a step in a branch may want some, breakpoints take none
 abbrev pub MayWantMemory : AtDesk → Command → Type 0
-MayWantMemory d (Command.Step c) = calculus.MayWantMemory (execution d) (runs_command.Command.Step c)
-MayWantMemory d (Command.Undo t) = calculus.MayWantMemory (execution d) (runs_command.Command.Undo t)
-MayWantMemory d (Command.Roll t) = calculus.MayWantMemory (execution d) (runs_command.Command.Roll t)
-MayWantMemory d (Command.RollValue x) = calculus.MayWantMemory (execution d) (runs_command.Command.RollValue x)
-MayWantMemory d (Command.Blame x) = calculus.MayWantMemory (execution d) (runs_command.Command.Blame x)
-MayWantMemory d Command.Ready = calculus.MayWantMemory (execution d) runs_command.Command.Ready
-MayWantMemory d (Command.Consequences t) = calculus.MayWantMemory (execution d) (runs_command.Command.Consequences t)
-MayWantMemory d Command.Live = calculus.MayWantMemory (execution d) runs_command.Command.Live
-MayWantMemory d (Command.Value x) = calculus.MayWantMemory (execution d) (runs_command.Command.Value x)
 MayWantMemory d (Command.Branch k) = Unit {0}
 MayWantMemory d (Command.Break line) = ⊥
 MayWantMemory d (Command.Clear line) = ⊥
+MayWantMemory d command = MatchOption (execution_command command) ⊥ (λ c. calculus.MayWantMemory (execution d) c)
 
 -- the same, or there was no memory for it and nothing changed
 abbrev pub Answers : AtDesk → ℕ → Command → Reply → AtDesk → Type 0

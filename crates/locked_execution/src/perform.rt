@@ -134,11 +134,11 @@ fn ready_reply(told: Result<Items<Event>, Refusal>) -> Reply
 }
 
 /// What a session is told of what depends on an event.
-fn consequences_reply(told: Result<Items<Ticket>, Refusal>) -> Reply
+fn consequences_reply(told: Result<Vec<Ticket>, Refusal>) -> Reply
     ensures { result ≡ performs.session_reply (results.consequences_reply told) }
 {
     match told {
-        Ok(tickets) => Reply::Consequences(tickets),
+        Ok(tickets) => Reply::Consequences(Items::from_vec(tickets)),
         Err(why) => Reply::Refused(why),
     }
 }

@@ -4,7 +4,7 @@ use Rattle.std.specs.Prelude.{IfErr}
 use Rattle.runs.specs.Does.{Answers, RefusesUndo, RefusesTicket, RefusesVariable}
 use Rattle.runs.specs.Object.{Object}
 use Rattle.runs.specs.declared.event.Event.{Event}
-use Rattle.runs.specs.declared.command.Command.{Command}
+use Rattle.runs.specs.Commands.{Command}
 use Rattle.runs.specs.declared.command.Refusal.{Refusal}
 use Rattle.runs.specs.declared.command.Refusal.TheVariants.{Memory}
 use Rattle.machine.specs.Results.{undo_reply, roll_reply, blame_reply}

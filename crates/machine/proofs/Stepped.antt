@@ -9,8 +9,7 @@ use Rattle.runs.specs.Object.{Object, Reaches, most_live, last_ticket, with_even
 use Rattle.runs.specs.Does.{Does, Answers, MayWantMemory, RefusesStep}
 use Rattle.runs.specs.declared.event.Event.{Event}
 use Rattle.runs.specs.declared.event.Choice.{Choice}
-use Rattle.runs.specs.declared.command.Command.{Command}
-use Rattle.runs.specs.declared.command.Reply.{Reply}
+use Rattle.runs.specs.Commands.{Command, Reply}
 use Rattle.runs.specs.declared.command.Refusal.{Refusal}
 use Rattle.runs.specs.declared.command.Refusal.TheVariants.{NotReady, HistoryFull, Spent, Memory}
 use Rattle.runs.proofs.public.ReadyLists.{first-chosen}

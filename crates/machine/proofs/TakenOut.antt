@@ -4,7 +4,7 @@ use Rattle.runs.specs.Live.{LiveAt, LastWriter}
 use Rattle.runs.specs.Object.{Object}
 use Rattle.runs.specs.Does.{Does, RefusesTicket}
 use Rattle.runs.specs.declared.event.Event.{Event}
-use Rattle.runs.specs.declared.command.Command.{Command}
+use Rattle.runs.specs.Commands.{Command}
 use Rattle.runs.specs.declared.command.Refusal.{Refusal}
 use Rattle.runs.specs.declared.command.Refusal.TheVariants.{NoSuchEvent}
 use Rattle.machine.specs.Results.{roll_reply}

@@ -11,8 +11,7 @@ use Rattle.runs.specs.Live.{events}
 use Rattle.runs.specs.Object.{Reaches}
 use Rattle.runs.specs.Does.{Steps, Does, RefusesStep}
 use Rattle.runs.specs.declared.event.Event.{Event}
-use Rattle.runs.specs.declared.command.Command.{Command}
-use Rattle.runs.specs.declared.command.Reply.{Reply}
+use Rattle.runs.specs.Commands.{Command, Reply}
 use Rattle.runs.specs.declared.command.Refusal.TheVariants.{Memory}
 use Rattle.event_places.specs.EventPlaces.{line_after}
 use Rattle.machine.specs.AtMachine.{AtMachine, object}

@@ -1,9 +1,10 @@
 -- The result of each call of a machine, as the reply of its execution that it stands for.
-use Rattle.std.specs.Prelude.{ℕ, List, Option, Some, None, Result, Ok, Err}
+use Rattle.std.specs.Prelude.{ℕ, List, Option, Some, None, Result, Ok, Err, Vec}
+use Rattle.std.specs.Global.{Global}
 use Rattle.value.specs.Word.{Word}
 use Rattle.runs.specs.Live.{Live}
 use Rattle.runs.specs.declared.event.Event.{Event}
-use Rattle.runs.specs.declared.command.Reply.{Reply}
+use Rattle.runs.specs.Commands.{Reply}
 use Rattle.runs.specs.declared.command.Refusal.{Refusal}
 use Rattle.runs.specs.declared.command.Refusal.TheVariants.{NeverWritten}
 
@@ -28,8 +29,8 @@ blame_reply (Ok t) = Reply.Blamed t
 blame_reply (Err why) = Reply.Refused why
 
 -- of the question for what depends on an event: the tickets
-abbrev pub consequences_reply : Result (List ℕ) Refusal → Reply
-consequences_reply (Ok tickets) = Reply.Consequences tickets
+abbrev pub consequences_reply : Result (Vec ℕ Global) Refusal → Reply
+consequences_reply (Ok tickets) = Reply.Consequences tickets.items
 consequences_reply (Err why) = Reply.Refused why
 
 -- of the question for what may be taken: the events

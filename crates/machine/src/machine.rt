@@ -5,7 +5,7 @@ ghost use Rattle.runs.specs.Live.{events, IsLive, ConsequencesList};
 ghost use Rattle.runs.specs.Object.{Reaches};
 ghost use Rattle.runs.specs.Ready.{ReadyList};
 ghost use Rattle.runs.specs.Does.{Answers};
-ghost use Rattle.runs.specs.declared.command.Command.{Command};
+ghost use Rattle.runs.specs.Commands.{Command};
 ghost use Rattle.process_tree.specs.Tidy.{Tidy};
 ghost use Rattle.process_tree.specs.View.{tree_view};
 ghost use Rattle.local_actions.specs.Actions.{OffersExactly, Precedes};
@@ -214,7 +214,7 @@ impl Machine {
     /// # Errors
     ///
     /// `NoSuchEvent` where no live event has the ticket. `Memory` without memory, but never in its place.
-    pub fn consequences(&self, ticket: Ticket) -> Result<Items<Ticket>, Refusal>
+    pub fn consequences(&self, ticket: Ticket) -> Result<Vec<Ticket>, Refusal>
         ensures { Answers (object self.now) (Command.Consequences ticket) (consequences_reply result)
             (object self.now) }
     {

@@ -2,12 +2,13 @@
 ghost use Rattle.std.specs.Prelude.{◌≡◌, Ok, IfOk};
 ghost use Rattle.sharing_check.specs.declared.checked.Checked.{Checked};
 ghost use Rattle.runs.specs.Does.{Does};
+ghost use Rattle.runs.specs.Commands.{Command};
 ghost use Rattle.machine.specs.Results.{live_reply, value_reply};
 ghost use Rattle.machine.specs.internal.Histories.{execution, Holds};
 
 use crate::history::History;
 use dependence::Live;
-use runs::{Command, Event};
+use runs::Event;
 use std::alloc::{AllocError, Global};
 use syntax::Items;
 use value::Value;

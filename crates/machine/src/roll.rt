@@ -3,7 +3,7 @@ ghost use Rattle.std.specs.Prelude.{◌≡◌, ℕ, IsSome, IfOk, OnErr};
 ghost use Rattle.sharing_check.specs.declared.checked.Checked.{Checked};
 ghost use Rattle.runs.specs.Live.{IsLive, DependsOn, WithoutTickets};
 ghost use Rattle.runs.specs.Does.{Does};
-ghost use Rattle.runs.specs.declared.command.Reply.{Reply};
+ghost use Rattle.runs.specs.Commands.{Command, Reply};
 ghost use Rattle.machine.specs.Results.{roll_reply, blame_reply, consequences_reply};
 ghost use Rattle.machine.specs.internal.Histories.{execution, Holds};
 ghost use Rattle.dependence.specs.Taking.{MarksAllDependents};
@@ -15,10 +15,9 @@ ghost use Rattle.machine.specs.internal.Marking.{MarksDependents, HoldsFrom};
 use crate::history::History;
 use event_inverse::{Inverse, invert_by};
 use process_tree::Tree;
-use runs::{Command, Event, Refusal};
+use runs::{Event, Refusal};
 use std::alloc::AllocError;
 use store::Store;
-use syntax::Items;
 
 impl History {
     /// Takes the event of this ticket back, and all live events that depend on it.
@@ -111,7 +110,7 @@ impl History {
     pub(crate) fn tell_consequences(
         &self,
         ticket: u64,
-    ) -> Result<Result<Items<u64>, Refusal>, AllocError>
+    ) -> Result<Result<Vec<u64>, Refusal>, AllocError>
         ensures done { (system : Checked) →
             IfOk result (λ told.
             Does (execution system self.now) (Command.Consequences ticket) (consequences_reply told)
@@ -121,7 +120,7 @@ impl History {
         match self.live.index_of(ticket) {
             Some(_) => {
                 let tickets = self.live.consequences(ticket)?;
-                Ok(Ok(Items::from_vec(tickets)))
+                Ok(Ok(tickets))
             }
             None => Ok(Err(Refusal::NoSuchEvent)),
         }

@@ -5,7 +5,7 @@ use Rattle.value.specs.Word.{Word}
 use Rattle.system.specs.declared.system.System.{System}
 use Rattle.runs.specs.Live.{LastWriter, Live, NoWriter}
 use Rattle.runs.specs.Does.{Answers}
-use Rattle.runs.specs.declared.command.Command.{Command}
+use Rattle.runs.specs.Commands.{Command}
 use Rattle.runs.specs.declared.command.Refusal.{Refusal}
 use Rattle.machine.specs.AtMachine.{AtMachine, object}
 use Rattle.machine.specs.Results.{value_reply}

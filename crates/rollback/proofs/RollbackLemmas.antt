@@ -1,11 +1,12 @@
 -- What the calls of a machine say, in the words of rollbacks.
-use Rattle.std.proofs.Common.{◌≡◌, ◌⊎◌, inl, inr, ℕ, List, Result, Ok, Err, refl, ap}
-use Rattle.std.specs.Prelude.{IfOk, IfErr}
+use Rattle.std.proofs.Common.{◌≡◌, ◌⊎◌, inl, inr, ℕ, Result, Ok, Err, refl, ap}
+use Rattle.std.specs.Global.{Global}
+use Rattle.std.specs.Prelude.{IfOk, IfErr, Vec}
 use Rattle.runs.specs.Does.{Answers}
 use Rattle.runs.specs.Live.{IsLive, NoneAt, LastWriter, NoWriter}
 use Rattle.runs.specs.Object.{Object}
 use Rattle.runs.specs.Sound.{Sound}
-use Rattle.runs.specs.declared.command.Command.{Command}
+use Rattle.runs.specs.Commands.{Command}
 use Rattle.runs.specs.declared.command.Refusal.{Refusal}
 use Rattle.runs.specs.declared.command.Refusal.TheVariants.{Memory, NoSuchEvent, NeverWritten}
 use Rattle.runs.proofs.public.ObjectLaws.{rolls-exactly, rolled-value, consequences-exactly}
@@ -81,13 +82,13 @@ value-unchanged m m' x (Err why) system (inl d) = same-machine m m' system d.1
 value-unchanged m m' x (Err why) system (inr h) = absurd h.0
 
 -- the question for what depends on an event
-pub dependents : (o o' : Object) (t : ℕ) (r : Result (List ℕ) Refusal) → Sound o → Answers o (Command.Consequences t) (consequences_reply r) o' →
-    IfOk r (λ tickets. AreDependents o t tickets)
-dependents o o' t (Ok tickets) s (inl d) = consequences-exactly o s o' t tickets d
+pub dependents : (o o' : Object) (t : ℕ) (r : Result (Vec ℕ Global) Refusal) → Sound o → Answers o (Command.Consequences t) (consequences_reply r) o' →
+    IfOk r (λ tickets. AreDependents o t tickets.items)
+dependents o o' t (Ok tickets) s (inl d) = consequences-exactly o s o' t tickets.items d
 dependents o o' t (Ok tickets) s (inr (_, is, _)) = cc
 dependents o o' t (Err why) s h = tt
 
-pub no-dependents : (o o' : Object) (t : ℕ) (r : Result (List ℕ) Refusal) → Answers o (Command.Consequences t) (consequences_reply r) o' →
+pub no-dependents : (o o' : Object) (t : ℕ) (r : Result (Vec ℕ Global) Refusal) → Answers o (Command.Consequences t) (consequences_reply r) o' →
     IfErr r (λ why. ((why ≡ NoSuchEvent) × NoneAt o.live t) ⊎ ((why ≡ Memory) × IsLive o.live t))
 no-dependents o o' t (Ok tickets) h = tt
 no-dependents o o' t (Err NoSuchEvent) (inl d) = inl (refl, d.0)

@@ -8,7 +8,6 @@ ghost use Rattle.rollback.specs.Rollbacks.{TakesBack, ValueFromBefore, AreDepend
 
 use machine::{Machine, Ticket, Var};
 use runs::Refusal;
-use syntax::Items;
 
 /// Takes the event of this ticket back, and all live events that depend on it, and no others; how many they were. It
 /// takes no memory.
@@ -62,8 +61,8 @@ pub fn roll_value(machine: &mut Machine, variable: Var) -> Result<u64, Refusal>
 /// # Errors
 ///
 /// `NoSuchEvent` where no live event has the ticket. `Memory` without memory, but never in its place.
-pub fn consequences(machine: &Machine, ticket: Ticket) -> Result<Items<Ticket>, Refusal>
-    ensures told { IfOk result (λ tickets. AreDependents (object machine.now) ticket tickets) }
+pub fn consequences(machine: &Machine, ticket: Ticket) -> Result<Vec<Ticket>, Refusal>
+    ensures told { IfOk result (λ tickets. AreDependents (object machine.now) ticket tickets.items) }
     ensures refused { IfErr result (λ why. ((why ≡ Refusal.NoSuchEvent) × NoneAt machine.now.live ticket)
         ⊎ ((why ≡ Refusal.Memory) × IsLive machine.now.live ticket)) }
 {

@@ -8,8 +8,7 @@ use Rattle.runs.specs.Does.{Answers}
 use Rattle.runs.specs.Answered.{Answered}
 use Rattle.runs.specs.Sound.{Sound}
 use Rattle.runs.specs.declared.event.Event.{Event}
-use Rattle.runs.specs.declared.command.Command.{Command}
-use Rattle.runs.specs.declared.command.Reply.{Reply}
+use Rattle.runs.specs.Commands.{Command, Reply}
 use Rattle.runs.proofs.public.Lists.{every-in}
 use Rattle.runs.proofs.public.Tickets.{rising-le, rising-in, rising-one, rising-join, live-left, live-parts}
 use Rattle.runs.proofs.Back.{Back, nothing, keeps, drops, back-all, back-in, back-on, back-parts, back-rising}

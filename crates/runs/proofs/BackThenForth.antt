@@ -15,8 +15,7 @@ use Rattle.runs.specs.Answered.{DoesAll}
 use Rattle.runs.specs.BackAndForth.{tickets, missing_from, undo_each, undone_each, step_each, stepped_each, back_and_forth, back_and_forth_replies}
 use Rattle.runs.specs.Sound.{Sound}
 use Rattle.runs.specs.declared.event.Event.{Event}
-use Rattle.runs.specs.declared.command.Command.{Command}
-use Rattle.runs.specs.declared.command.Reply.{Reply}
+use Rattle.runs.specs.Commands.{Command, Reply}
 use Rattle.runs.proofs.public.WellFormed.{WellFormed}
 use Rattle.runs.proofs.public.Orders.{run-formed, run-part}
 use Rattle.runs.proofs.KeptSharing.{keeps_sharing_run}

@@ -2,8 +2,7 @@
 use Rattle.std.specs.Prelude.{◌≡◌, List, [], ◌∷◌}
 use Rattle.runs.specs.Object.{Object}
 use Rattle.runs.specs.Does.{Does, Answers}
-use Rattle.runs.specs.declared.command.Command.{Command}
-use Rattle.runs.specs.declared.command.Reply.{Reply}
+use Rattle.runs.specs.Commands.{Command, Reply}
 
 -- the commands are answered in their order by these replies, one each, and leave o'; some may want memory
 abbrev pub Answered : Object → List Command → List Reply → Object → Type 0

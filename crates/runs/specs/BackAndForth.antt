@@ -3,8 +3,7 @@ use Rattle.std.specs.Prelude.{ℕ, suc, List, [], ◌∷◌, ◌++◌, cond}
 use Rattle.system.specs.Expression.{is_in}
 use Rattle.runs.specs.Live.{Live}
 use Rattle.runs.specs.Choices.{choice_of}
-use Rattle.runs.specs.declared.command.Command.{Command}
-use Rattle.runs.specs.declared.command.Reply.{Reply}
+use Rattle.runs.specs.Commands.{Command, Reply}
 
 -- the tickets of live events
 abbrev pub tickets : Live → List ℕ

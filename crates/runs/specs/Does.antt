@@ -5,8 +5,7 @@ use Rattle.runs.specs.Ready.{ReadyList, ChoiceAllowed, Chosen}
 use Rattle.runs.specs.Live.{Live, LiveAt, IsLive, NoneAt, DependsOn, WithoutTickets, FirstDependent, NoDependent, LastWriter, NoWriter, ConsequencesList}
 use Rattle.runs.specs.Object.{Object, Reaches, most_live, last_ticket, with_event, with_live}
 use Rattle.runs.specs.declared.event.Choice.{Choice}
-use Rattle.runs.specs.declared.command.Command.{Command}
-use Rattle.runs.specs.declared.command.Reply.{Reply}
+use Rattle.runs.specs.Commands.{Command, Reply}
 use Rattle.runs.specs.declared.command.Refusal.{Refusal}
 use Rattle.runs.specs.declared.command.Refusal.TheVariants.{Memory, NotReady, HistoryFull, NoSuchEvent, NeededBy, NeverWritten, Spent}
 

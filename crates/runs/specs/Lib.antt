@@ -3,6 +3,7 @@ pub mod Asking
 pub mod BackAndForth
 pub mod ByPlace
 pub mod Choices
+pub mod Commands
 pub mod Dependence
 pub mod Does
 pub mod Events

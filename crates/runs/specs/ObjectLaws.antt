@@ -17,8 +17,7 @@ use Rattle.runs.specs.BackAndForth.{back_and_forth, back_and_forth_replies}
 use Rattle.runs.specs.Sound.{Sound}
 use Rattle.runs.specs.declared.event.Event.{Event}
 use Rattle.runs.specs.declared.event.Choice.{Choice}
-use Rattle.runs.specs.declared.command.Command.{Command}
-use Rattle.runs.specs.declared.command.Reply.{Reply}
+use Rattle.runs.specs.Commands.{Command, Reply}
 use Rattle.runs.specs.declared.command.Refusal.TheVariants.{NotReady, HistoryFull, NeededBy, Spent}
 
 -- before its first command an object is sound

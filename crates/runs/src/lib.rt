@@ -12,7 +12,7 @@ mod object_laws;
 mod same;
 
 pub use ask::Ask;
-pub use command::{Command, LAST_TICKET, MOST_LIVE_EVENTS, Refusal, Reply};
+pub use command::{LAST_TICKET, MOST_LIVE_EVENTS, Refusal};
 pub use dependence::{depends_directly, some_before, writes};
 pub use event::{Choice, Event, Kind};
 pub use laws::{

@@ -1,34 +1,28 @@
 -- A list of ready events that is refused for want of memory, and what is kept in mind behind a reply.
-use Rattle.std.proofs.Common.{◌≡◌, inl, inr, ℕ, true, List, Option, refl, sym, ap, ◌∙◌, subst}
+use Rattle.std.proofs.Common.{◌≡◌, inl, inr, ℕ, true, List, Option, Some, None, refl, sym, ap, ◌∙◌, subst}
+use Rattle.std.specs.Prelude.{MatchOption}
 use Rattle.std.proofs.lemmas.Bool.{false≢true}
 use Rattle.sharing_check.specs.declared.checked.Checked.{Checked}
 use Rattle.runs.specs.Object.{Object}
 use Rattle.runs.specs.Does as calculus
 use Rattle.runs.specs.declared.event.Event.{Event}
-use Rattle.runs.specs.declared.command.Command as runs_command
-use Rattle.runs.specs.declared.command.Reply as runs_reply
+use Rattle.runs.specs.Commands as runs
 use Rattle.runs.specs.declared.command.Refusal.TheVariants.{Memory}
 use Rattle.machine.specs.declared.branch.BranchReply.{BranchReply}
 use Rattle.locked_execution.specs.AtDesk.{AtDesk, execution}
-use Rattle.locked_execution.specs.Performs.{Answers, MayWantMemory, OnExecution, Performs, branch_reply, session_reply}
+use Rattle.locked_execution.specs.Performs.{Answers, MayWantMemory, OnExecution, Performs, branch_reply, execution_command, session_reply}
 use Rattle.locked_execution.specs.declared.command.Command.{Command}
 use Rattle.locked_execution.specs.declared.command.Reply.{Reply}
+use Rattle.locked_execution.proofs.public.Unchanged.{all-same}
 use Rattle.shell_desk.specs.AtBench.{AtBench}
 use Rattle.shell_desk.specs.Does.{Asked, branch_behind, numbers_behind, stopped_behind, turn_behind}
 use Rattle.shell_desk.specs.internal.Numbering.{IsTold, given_or, is_list, numbers_of}
 
 -- ---- a list is refused in its place
 -- only a list is told as one
-list-told : (answer : runs_reply.Reply) (es : List Event) → Reply.Ready es ≡ session_reply answer → answer ≡ runs_reply.Reply.Ready es
-list-told (runs_reply.Reply.Stepped t e) es is = absurd (cc)
-list-told (runs_reply.Reply.Undone t e) es is = absurd (cc)
-list-told (runs_reply.Reply.Rolled n) es is = absurd (cc)
-list-told (runs_reply.Reply.Blamed t) es is = absurd (cc)
-list-told (runs_reply.Reply.Ready fs) es is = cc
-list-told (runs_reply.Reply.Consequences ts) es is = absurd (cc)
-list-told (runs_reply.Reply.Live l) es is = absurd (cc)
-list-told (runs_reply.Reply.Value v) es is = absurd (cc)
-list-told (runs_reply.Reply.Refused why) es is = absurd (cc)
+list-told : (answer : runs.Reply) (es : List Event) → Reply.Ready es ≡ session_reply answer → answer ≡ runs.Reply.Ready es
+list-told (runs.Reply.Ready fs) es is = cc
+list-told _ es is = absurd (cc)
 
 no-branch-list : (answer : BranchReply) (es : List Event) → Reply.Ready es ≡ branch_reply answer → ⊥
 no-branch-list (BranchReply.Stepped t e) es is = cc
@@ -37,45 +31,25 @@ no-branch-list BranchReply.Idle es is = cc
 no-branch-list (BranchReply.Refused why) es is = cc
 
 -- the command that lists leaves all as it was
-leaves-all : (o o' : Object) (c : runs_command.Command) (es : List Event) → calculus.Does o c (runs_reply.Reply.Ready es) o'
+leaves-all : (o o' : Object) (c : runs.Command) (es : List Event) → calculus.Does o c (runs.Reply.Ready es) o'
     → calculus.MayWantMemory o c × (o' ≡ o)
-leaves-all o o' (runs_command.Command.Step c) es h = absurd h
-leaves-all o o' (runs_command.Command.Undo t) es h = absurd h
-leaves-all o o' (runs_command.Command.Roll t) es h = absurd h
-leaves-all o o' (runs_command.Command.RollValue x) es h = absurd h
-leaves-all o o' (runs_command.Command.Blame x) es h = absurd h
-leaves-all o o' runs_command.Command.Ready es h = (tt, h.1)
-leaves-all o o' (runs_command.Command.Consequences t) es h = absurd h
-leaves-all o o' runs_command.Command.Live es h = absurd h
-leaves-all o o' (runs_command.Command.Value x) es h = absurd h
+leaves-all o o' runs.Command.Ready es h = (tt, h.1)
+leaves-all o o' _ es h = absurd h
 
-same-desk : (d d' : AtDesk) → execution d' ≡ execution d → d'.machine.checked ≡ d.machine.checked → d'.breaks ≡ d.breaks → d' ≡ d
-same-desk d d' same system breaks = λ i. record {
-  machine = record { checked = system i; live = (same i).live; next = (same i).next };
-  breaks = breaks i;
-}
-
-on-list : (d d' : AtDesk) (c : runs_command.Command) (es : List Event) → OnExecution d c (Reply.Ready es) d'
-    → calculus.MayWantMemory (execution d) c × (d' ≡ d)
-on-list d d' c es (answer, is, does, system, breaks) =
+on-list : (d d' : AtDesk) (o : Option runs.Command) (es : List Event) → MatchOption o ⊥ (λ c. OnExecution d c (Reply.Ready es) d')
+    → MatchOption o ⊥ (λ c. calculus.MayWantMemory (execution d) c) × (d' ≡ d)
+on-list d d' None es h = absurd h
+on-list d d' (Some c) es (answer, is, does, system, breaks) =
     let left = leaves-all (execution d) (execution d') c es
-    (subst (λ (a : runs_reply.Reply). calculus.Does (execution d) c a (execution d')) (list-told answer es is) does) in
-    (left.0, same-desk d d' left.1 system breaks)
+    (subst (λ (a : runs.Reply). calculus.Does (execution d) c a (execution d')) (list-told answer es is) does) in
+    (left.0, all-same d d' system left.1 breaks)
 
 performs-list : (d d' : AtDesk) (session : ℕ) (c : Command) (es : List Event) → Performs d session c (Reply.Ready es) d'
     → MayWantMemory d c × (d' ≡ d)
-performs-list d d' session (Command.Step c) es h = on-list d d' (runs_command.Command.Step c) es h
-performs-list d d' session (Command.Undo t) es h = on-list d d' (runs_command.Command.Undo t) es h
-performs-list d d' session (Command.Roll t) es h = on-list d d' (runs_command.Command.Roll t) es h
-performs-list d d' session (Command.RollValue x) es h = on-list d d' (runs_command.Command.RollValue x) es h
-performs-list d d' session (Command.Blame x) es h = on-list d d' (runs_command.Command.Blame x) es h
-performs-list d d' session Command.Ready es h = on-list d d' runs_command.Command.Ready es h
-performs-list d d' session (Command.Consequences t) es h = on-list d d' (runs_command.Command.Consequences t) es h
-performs-list d d' session Command.Live es h = on-list d d' runs_command.Command.Live es h
-performs-list d d' session (Command.Value x) es h = on-list d d' (runs_command.Command.Value x) es h
 performs-list d d' session (Command.Branch k) es h = absurd (no-branch-list h.0 es h.1)
 performs-list d d' session (Command.Break line) es h = absurd h
 performs-list d d' session (Command.Clear line) es h = absurd h
+performs-list d d' session command es h = on-list d d' (execution_command command) es h
 
 no-refusal : (es : List Event) → Reply.Ready es ≡ Reply.Refused Memory → ⊥
 no-refusal es is = cc
@@ -88,18 +62,8 @@ refused-list d d' session c es (inr (wanted, is, same)) = absurd (no-refusal es 
 
 -- what is such a list
 list-of : (r : Reply) → is_list r ≡ true → (es : List Event) × (r ≡ Reply.Ready es)
-list-of (Reply.Stepped t e) h = absurd (false≢true h)
-list-of (Reply.Undone t e) h = absurd (false≢true h)
-list-of (Reply.Rolled n) h = absurd (false≢true h)
-list-of (Reply.Blamed t) h = absurd (false≢true h)
 list-of (Reply.Ready es) h = (es, refl)
-list-of (Reply.Consequences ts) h = absurd (false≢true h)
-list-of (Reply.Live l) h = absurd (false≢true h)
-list-of (Reply.Value v) h = absurd (false≢true h)
-list-of (Reply.Stopped line) h = absurd (false≢true h)
-list-of Reply.Idle h = absurd (false≢true h)
-list-of Reply.Done h = absurd (false≢true h)
-list-of (Reply.Refused why) h = absurd (false≢true h)
+list-of _ h = absurd (false≢true h)
 
 -- what is told is an answer too
 pub told-answers : (d d' : AtDesk) (session : ℕ) (c : Command) (reply told : Reply) → Answers d session c reply d' → IsTold reply told

@@ -8,7 +8,7 @@ use Rattle.runs.specs.Live.{Live, events}
 use Rattle.runs.specs.Object.{Object, most_live, last_ticket}
 use Rattle.runs.specs.Ready.{Chosen}
 use Rattle.runs.specs.Steps.{State, Run, opening}
-use Rattle.runs.specs.declared.command.Command.{Command}
+use Rattle.runs.specs.Commands.{Command}
 use Rattle.runs.specs.declared.command.Refusal.{Refusal}
 use Rattle.runs.specs.declared.command.Refusal.TheVariants.{NotReady, HistoryFull, Spent}
 use Rattle.runs.specs.declared.event.Choice.{Choice}

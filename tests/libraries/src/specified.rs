@@ -66,7 +66,7 @@ fn a_question_marks_nothing(rt: HostRuntime) -> Result<(), Fail> {
     let mut machine = written(rt.alloc())?;
     assert_eq!(rt; machine.mark_consequences(1), 2);
     let asked: &Machine = &machine;
-    let consequences: Result<Items<Ticket>, Refusal> = asked.consequences(2);
+    let consequences: Result<Vec<Ticket>, Refusal> = asked.consequences(2);
     assert!(rt; consequences?.as_slice() == [2].as_slice());
     machine.undo(2)?;
     assert_eq!(rt; machine.last_marked(), Some(1));
@@ -110,7 +110,7 @@ fn a_machine_is_rolled_back(rt: HostRuntime) -> Result<(), Fail> {
     let mut machine = written(rt.alloc())?;
     let blamed: Result<Ticket, Refusal> = rollback::blame(&machine, 0);
     assert_eq!(rt; blamed?, 2);
-    let consequences: Result<Items<Ticket>, Refusal> = rollback::consequences(&machine, 1);
+    let consequences: Result<Vec<Ticket>, Refusal> = rollback::consequences(&machine, 1);
     assert!(rt; consequences?.as_slice() == [1, 2].as_slice());
     let rolled: Result<u64, Refusal> = rollback::roll_value(&mut machine, 0);
     assert_eq!(rt; rolled?, 1);

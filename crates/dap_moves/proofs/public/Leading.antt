@@ -8,8 +8,7 @@ use Rattle.runs.specs.Steps.{State}
 use Rattle.runs.specs.declared.event.Event.{Event}
 use Rattle.runs.specs.declared.command.Refusal.TheVariants.{Memory}
 use Rattle.runs.specs.Does as calculus
-use Rattle.runs.specs.declared.command.Command as runs_command
-use Rattle.runs.specs.declared.command.Reply as runs_reply
+use Rattle.runs.specs.Commands as runs
 use Rattle.machine.proofs.public.HeadlineLaws.{headline}
 use Rattle.runs.proofs.public.ObjectLaws.{stays-over-lists}
 use Rattle.locked_execution.specs.AtDesk.{AtDesk, execution}
@@ -57,11 +56,11 @@ pub loses-nothing-else : LosesNothingElse
 loses-nothing-else d d' sound led = none-take-less d d' led.commands led.replies sound led.answered
 
 -- to list ready events leaves the execution
-listed : (d d' : AtDesk) (answer : runs_reply.Reply) → calculus.ListsReady (execution d) answer (execution d') → execution d' ≡ execution d
-listed d d' (runs_reply.Reply.Ready es) h = h.1
+listed : (d d' : AtDesk) (answer : runs.Reply) → calculus.ListsReady (execution d) answer (execution d') → execution d' ≡ execution d
+listed d d' (runs.Reply.Ready es) h = h.1
 listed d d' _ h = absurd h
 
-ready-stays : (d d' : AtDesk) (reply : Reply) → OnExecution d runs_command.Command.Ready reply d' → d' ≡ d
+ready-stays : (d d' : AtDesk) (reply : Reply) → OnExecution d runs.Command.Ready reply d' → d' ≡ d
 ready-stays d d' reply h = all-same d d' h.3 (listed d d' h.0 h.2) h.4
 
 -- the list of ready events leaves the desk
@@ -69,12 +68,12 @@ pub ready_leaves : (d d' : AtDesk) (session : ℕ) (reply : Reply) → Answers d
 ready_leaves d d' session reply h = elim h [ inl done ↦ ready-stays d d' reply done | inr none ↦ none.2 ]
 
 -- to tell a value leaves the execution
-valued : (d d' : AtDesk) (x : ℕ) (answer : runs_reply.Reply) → calculus.TellsValue (execution d) x answer (execution d') → execution d' ≡ execution d
-valued d d' x (runs_reply.Reply.Value v) h = h.1
-valued d d' x (runs_reply.Reply.Refused why) h = h.1
+valued : (d d' : AtDesk) (x : ℕ) (answer : runs.Reply) → calculus.TellsValue (execution d) x answer (execution d') → execution d' ≡ execution d
+valued d d' x (runs.Reply.Value v) h = h.1
+valued d d' x (runs.Reply.Refused why) h = h.1
 valued d d' x _ h = absurd h
 
-value-stays : (d d' : AtDesk) (x : ℕ) (reply : Reply) → OnExecution d (runs_command.Command.Value x) reply d' → d' ≡ d
+value-stays : (d d' : AtDesk) (x : ℕ) (reply : Reply) → OnExecution d (runs.Command.Value x) reply d' → d' ≡ d
 value-stays d d' x reply h = all-same d d' h.3 (valued d d' x h.0 h.2) h.4
 
 -- the value of a variable leaves the desk
@@ -82,9 +81,9 @@ pub value_leaves : (d d' : AtDesk) (session x : ℕ) (reply : Reply) → Answers
 value_leaves d d' session x reply h = elim h [ inl done ↦ value-stays d d' x reply done | inr none ↦ none.2 ]
 
 -- what a list of ready events lists
-ready-told : (d d' : AtDesk) (es : List Event) (answer : runs_reply.Reply) → Reply.Ready es ≡ session_reply answer →
+ready-told : (d d' : AtDesk) (es : List Event) (answer : runs.Reply) → Reply.Ready es ≡ session_reply answer →
     calculus.ListsReady (execution d) answer (execution d') → (T : State) × Reaches (execution d) T × ReadyList T es
-ready-told d d' es (runs_reply.Reply.Ready fs) e h =
+ready-told d d' es (runs.Reply.Ready fs) e h =
     let same : fs ≡ es = cc in (h.0.0, h.0.1, subst (λ (gs : List Event). ReadyList h.0.0 gs) same h.0.2)
 ready-told d d' es _ e h = absurd h
 
@@ -95,11 +94,11 @@ lists_ready d d' session es h = elim h [
   | inr none ↦ let other : Reply.Ready es ≡ Reply.Refused Memory = none.1 in absurd (cc)
 ]
 
-value-told : (d d' : AtDesk) (x : ℕ) (v : Word) (answer : runs_reply.Reply) → Reply.Value v ≡ session_reply answer →
+value-told : (d d' : AtDesk) (x : ℕ) (v : Word) (answer : runs.Reply) → Reply.Value v ≡ session_reply answer →
     calculus.TellsValue (execution d) x answer (execution d') → HasValue d x v
-value-told d d' x v (runs_reply.Reply.Value w) e h =
+value-told d d' x v (runs.Reply.Value w) e h =
     let same : w ≡ v = cc in (h.0.0, h.0.1, h.0.2 ∙ ap (λ (u : Word). Some u) same)
-value-told d d' x v (runs_reply.Reply.Refused why) e h = absurd (cc)
+value-told d d' x v (runs.Reply.Refused why) e h = absurd (cc)
 value-told d d' x v _ e h = absurd h
 
 pub has_value : (d d' : AtDesk) (session x : ℕ) (v : Word) → Answers d session (Command.Value x) (Reply.Value v) d' → HasValue d x v

@@ -1,5 +1,5 @@
 -- Going back, for the commands of sessions.
-use Rattle.std.proofs.Common.{◌≡◌, ◌↔◌, inl, ℕ, List, [], ◌∷◌, map, refl, sym, ap, subst, ◌∙◌}
+use Rattle.std.proofs.Common.{◌≡◌, ◌↔◌, inl, ℕ, List, [], ◌∷◌, Some, map, refl, sym, ap, subst, ◌∙◌}
 use Rattle.runs.specs.Answered as calculus
 use Rattle.runs.specs.BackAndForth.{back_and_forth, back_and_forth_replies}
 use Rattle.runs.specs.Does.{Does}
@@ -7,14 +7,14 @@ use Rattle.runs.specs.Live.{events}
 use Rattle.runs.specs.Object.{Object, Reaches}
 use Rattle.runs.specs.Sound.{Sound}
 use Rattle.runs.specs.Steps.{opening}
-use Rattle.runs.specs.declared.command.Command as runs_command
-use Rattle.runs.specs.declared.command.Reply as runs_reply
+use Rattle.runs.specs.Commands as runs
 use Rattle.runs.proofs.public.Effects.{does-effect}
 use Rattle.runs.proofs.public.ObjectLaws.{stays, least-rollback-law, back-then-forth-law, rolls-exactly, rolled-value, consequences-exactly}
 use Rattle.locked_execution.specs.AtDesk.{AtDesk, execution}
 use Rattle.locked_execution.specs.Bridge.{commands_of}
-use Rattle.locked_execution.specs.GoingBack.{NoneTakeLess, RollTakesNoOthers, ConsequencesTellRoll, ValueFromBefore, session_command, PerformsAll, AllAmountToBackAndForth}
-use Rattle.locked_execution.specs.Performs.{Performs, OnExecution, session_reply}
+use Rattle.locked_execution.specs.GoingBack.{NoneTakeLess, RollTakesNoOthers, ConsequencesTellRoll, ValueFromBefore, PerformsAll, AllAmountToBackAndForth}
+use Rattle.locked_execution.specs.Performs.{Performs, OnExecution, execution_command, session_reply}
+use Rattle.locked_execution.specs.declared.command.Command.{Command}
 use Rattle.locked_execution.specs.declared.command.Reply.{Reply}
 use Rattle.locked_execution.proofs.public.BridgeLaws.{are-on-execution}
 use Rattle.locked_execution.proofs.SomeReplies.{same-opening}
@@ -25,83 +25,69 @@ none-take-less d d' commands replies s h t u e f live gone there depends still =
     let on = are-on-execution d d' commands replies h in
     least-rollback-law (execution d) (execution d') (commands_of commands replies) on.0 t u e f s on.2 live gone there depends still
 
-rolled-is : (answer : runs_reply.Reply) (n : ℕ) → Reply.Rolled n ≡ session_reply answer → answer ≡ runs_reply.Reply.Rolled n
-rolled-is (runs_reply.Reply.Stepped t e) n h = let g : Reply.Rolled n ≡ Reply.Stepped t e = h in cc
-rolled-is (runs_reply.Reply.Undone t e) n h = let g : Reply.Rolled n ≡ Reply.Undone t e = h in cc
-rolled-is (runs_reply.Reply.Rolled m) n h = let g : Reply.Rolled n ≡ Reply.Rolled m = h in cc
-rolled-is (runs_reply.Reply.Blamed t) n h = let g : Reply.Rolled n ≡ Reply.Blamed t = h in cc
-rolled-is (runs_reply.Reply.Ready es) n h = let g : Reply.Rolled n ≡ Reply.Ready es = h in cc
-rolled-is (runs_reply.Reply.Consequences ts) n h = let g : Reply.Rolled n ≡ Reply.Consequences ts = h in cc
-rolled-is (runs_reply.Reply.Live l) n h = let g : Reply.Rolled n ≡ Reply.Live l = h in cc
-rolled-is (runs_reply.Reply.Value v) n h = let g : Reply.Rolled n ≡ Reply.Value v = h in cc
-rolled-is (runs_reply.Reply.Refused why) n h = let g : Reply.Rolled n ≡ Reply.Refused why = h in cc
+rolled-is : (answer : runs.Reply) (n : ℕ) → Reply.Rolled n ≡ session_reply answer → answer ≡ runs.Reply.Rolled n
+rolled-is (runs.Reply.Rolled m) n h = let g : Reply.Rolled n ≡ Reply.Rolled m = h in cc
+rolled-is _ n h = absurd (cc)
 
-consequences-is : (answer : runs_reply.Reply) (us : List ℕ) → Reply.Consequences us ≡ session_reply answer → answer ≡ runs_reply.Reply.Consequences us
-consequences-is (runs_reply.Reply.Stepped t e) us h = let g : Reply.Consequences us ≡ Reply.Stepped t e = h in cc
-consequences-is (runs_reply.Reply.Undone t e) us h = let g : Reply.Consequences us ≡ Reply.Undone t e = h in cc
-consequences-is (runs_reply.Reply.Rolled m) us h = let g : Reply.Consequences us ≡ Reply.Rolled m = h in cc
-consequences-is (runs_reply.Reply.Blamed t) us h = let g : Reply.Consequences us ≡ Reply.Blamed t = h in cc
-consequences-is (runs_reply.Reply.Ready es) us h = let g : Reply.Consequences us ≡ Reply.Ready es = h in cc
-consequences-is (runs_reply.Reply.Consequences ts) us h = let g : Reply.Consequences us ≡ Reply.Consequences ts = h in cc
-consequences-is (runs_reply.Reply.Live l) us h = let g : Reply.Consequences us ≡ Reply.Live l = h in cc
-consequences-is (runs_reply.Reply.Value v) us h = let g : Reply.Consequences us ≡ Reply.Value v = h in cc
-consequences-is (runs_reply.Reply.Refused why) us h = let g : Reply.Consequences us ≡ Reply.Refused why = h in cc
+consequences-is : (answer : runs.Reply) (us : List ℕ) → Reply.Consequences us ≡ session_reply answer → answer ≡ runs.Reply.Consequences us
+consequences-is (runs.Reply.Consequences ts) us h = let g : Reply.Consequences us ≡ Reply.Consequences ts = h in cc
+consequences-is _ us h = absurd (cc)
 
 pub roll-takes-no-others : RollTakesNoOthers
 roll-takes-no-others d d' session t n s h =
-    let done : Does (execution d) (runs_command.Command.Roll t) (runs_reply.Reply.Rolled n) (execution d') =
-    subst (λ (r : runs_reply.Reply). Does (execution d) (runs_command.Command.Roll t) r (execution d')) (rolled-is h.0 n h.1) h.2 in
+    let done : Does (execution d) (runs.Command.Roll t) (runs.Reply.Rolled n) (execution d') =
+    subst (λ (r : runs.Reply). Does (execution d) (runs.Command.Roll t) r (execution d')) (rolled-is h.0 n h.1) h.2 in
     let law = rolls-exactly (execution d) s (execution d') t n done in
     (law.0, law.1, law.3, law.4)
 
 pub consequences-tell-roll : ConsequencesTellRoll
 consequences-tell-roll d d' session t ts s h =
-    let done : Does (execution d) (runs_command.Command.Consequences t) (runs_reply.Reply.Consequences ts) (execution d') =
-    subst (λ (r : runs_reply.Reply). Does (execution d) (runs_command.Command.Consequences t) r (execution d')) (consequences-is h.0 ts h.1) h.2 in
+    let done : Does (execution d) (runs.Command.Consequences t) (runs.Reply.Consequences ts) (execution d') =
+    subst (λ (r : runs.Reply). Does (execution d) (runs.Command.Consequences t) r (execution d')) (consequences-is h.0 ts h.1) h.2 in
     consequences-exactly (execution d) s (execution d') t ts done
 
 pub value-from-before : ValueFromBefore
 value-from-before d d' session x n s h =
-    let done : Does (execution d) (runs_command.Command.RollValue x) (runs_reply.Reply.Rolled n) (execution d') =
-    subst (λ (r : runs_reply.Reply). Does (execution d) (runs_command.Command.RollValue x) r (execution d')) (rolled-is h.0 n h.1) h.2 in
+    let done : Does (execution d) (runs.Command.RollValue x) (runs.Reply.Rolled n) (execution d') =
+    subst (λ (r : runs.Reply). Does (execution d) (runs.Command.RollValue x) r (execution d')) (rolled-is h.0 n h.1) h.2 in
     rolled-value (execution d) s (execution d') x n done
 
 -- ---- commands of the execution, asked by a session
 -- the desk that is left, whose execution is m
-pub record LeftBy (d : AtDesk) (session : ℕ) (c : runs_command.Command) (r : runs_reply.Reply) (m : Object) : Type 0 where
+pub record LeftBy (d : AtDesk) (session : ℕ) (c : runs.Command) (r : runs.Reply) (m : Object) : Type 0 where
   pub desk : AtDesk
   pub is : m ≡ execution desk
-  pub performed : Performs d session (session_command c) (session_reply r) desk
+  pub command : Command
+  pub own : execution_command command ≡ Some c
+  pub performed : Performs d session command (session_reply r) desk
 
-performs-on : (d d' : AtDesk) (session : ℕ) (c : runs_command.Command) (reply : Reply) → OnExecution d c reply d' → Performs d session (session_command c) reply d'
-performs-on d d' session (runs_command.Command.Step c) reply h = h
-performs-on d d' session (runs_command.Command.Undo t) reply h = h
-performs-on d d' session (runs_command.Command.Roll t) reply h = h
-performs-on d d' session (runs_command.Command.RollValue x) reply h = h
-performs-on d d' session (runs_command.Command.Blame x) reply h = h
-performs-on d d' session runs_command.Command.Ready reply h = h
-performs-on d d' session (runs_command.Command.Consequences t) reply h = h
-performs-on d d' session runs_command.Command.Live reply h = h
-performs-on d d' session (runs_command.Command.Value x) reply h = h
+performs-on : (d d' : AtDesk) (session : ℕ) (c : runs.Command) (reply : Reply) → OnExecution d c reply d' →
+    (command : Command) × (execution_command command ≡ Some c) × Performs d session command reply d'
+performs-on d d' session (runs.Command.Step c) reply h = (Command.Step c, refl, h)
+performs-on d d' session (runs.Command.Undo t) reply h = (Command.Undo t, refl, h)
+performs-on d d' session (runs.Command.Roll t) reply h = (Command.Roll t, refl, h)
+performs-on d d' session (runs.Command.RollValue x) reply h = (Command.RollValue x, refl, h)
+performs-on d d' session (runs.Command.Blame x) reply h = (Command.Blame x, refl, h)
+performs-on d d' session runs.Command.Ready reply h = (Command.Ready, refl, h)
+performs-on d d' session (runs.Command.Consequences t) reply h = (Command.Consequences t, refl, h)
+performs-on d d' session runs.Command.Live reply h = (Command.Live, refl, h)
+performs-on d d' session (runs.Command.Value x) reply h = (Command.Value x, refl, h)
 
-left-by : (d : AtDesk) (session : ℕ) (c : runs_command.Command) (r : runs_reply.Reply) (m : Object) → Sound (execution d) → Does (execution d) c r m → LeftBy d session c r m
+left-by : (d : AtDesk) (session : ℕ) (c : runs.Command) (r : runs.Reply) (m : Object) → Sound (execution d) → Does (execution d) c r m → LeftBy d session c r m
 left-by d session c r m s does =
     let after : AtDesk = record { machine = record { checked = d.machine.checked; live = m.live; next = m.next }; breaks = d.breaks } in
     let begun : m.opening ≡ opening d.machine.checked = same-opening (execution d) m (does-effect (execution d) c r m s does) in
     let one : m ≡ execution after = (λ i. record { opening = begun i; live = m.live; next = m.next }) in
-    record {
-      desk = after;
-      is = one;
-      performed = performs-on d after session c (session_reply r) (r, refl, subst (λ (o : Object). Does (execution d) c r o) one does, refl, refl);
-    }
+    let done = performs-on d after session c (session_reply r) (r, refl, subst (λ (o : Object). Does (execution d) c r o) one does, refl, refl) in
+    record { desk = after; is = one; command = done.0; own = done.1; performed = done.2 }
 
 -- the desk that is left by all of them
-pub record AllLeftBy (d : AtDesk) (session : ℕ) (cs : List runs_command.Command) (rs : List runs_reply.Reply) (m : Object) : Type 0 where
+pub record AllLeftBy (d : AtDesk) (session : ℕ) (cs : List runs.Command) (rs : List runs.Reply) (m : Object) : Type 0 where
   pub desk : AtDesk
   pub is : m ≡ execution desk
-  pub performed : PerformsAll d session (map session_command cs) (map session_reply rs) desk
+  pub performed : PerformsAll d session cs (map session_reply rs) desk
 
-all-left-by : (d : AtDesk) (session : ℕ) (cs : List runs_command.Command) (rs : List runs_reply.Reply) (m : Object) → Sound (execution d) →
+all-left-by : (d : AtDesk) (session : ℕ) (cs : List runs.Command) (rs : List runs.Reply) (m : Object) → Sound (execution d) →
     calculus.DoesAll (execution d) cs rs m → AllLeftBy d session cs rs m
 all-left-by d session [] rs m s h = record { desk = d; is = h.1; performed = (ap (map session_reply) h.0, refl) }
 all-left-by d session (c ∷ cs) rs m s h =
@@ -111,7 +97,7 @@ all-left-by d session (c ∷ cs) rs m s h =
     record {
       desk = rest.desk;
       is = rest.is;
-      performed = (session_reply h.0, map session_reply h.1, first.desk, ap (map session_reply) h.3, first.performed, rest.performed);
+      performed = (first.command, session_reply h.0, map session_reply h.1, first.desk, first.own, ap (map session_reply) h.3, first.performed, rest.performed);
     }
 
 pub all-amount-to-back-and-forth : AllAmountToBackAndForth

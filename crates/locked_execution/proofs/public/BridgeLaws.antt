@@ -3,36 +3,38 @@ use Rattle.std.proofs.Common.{◌≡◌, ◌⊎◌, inl, inr, ℕ, List, [], ◌
 use Rattle.std.specs.Prelude.{MatchOption, option_map}
 use Rattle.runs.specs.Answered as calculus
 use Rattle.runs.specs.Does.{Answers, MayWantMemory}
-use Rattle.runs.specs.declared.command.Command as runs_command
-use Rattle.runs.specs.declared.command.Reply as runs_reply
+use Rattle.runs.specs.Commands as runs
 use Rattle.runs.specs.declared.command.Refusal.TheVariants.{Memory}
 use Rattle.machine.specs.AtMachine.{AtMachine, object}
 use Rattle.machine.specs.Branching.{StepsBranch}
 use Rattle.machine.specs.declared.branch.BranchReply.{BranchReply}
 use Rattle.locked_execution.specs.AtDesk.{AtDesk, execution, breaks_of}
-use Rattle.locked_execution.specs.Performs.{session_reply, branch_reply, OnExecution, SetsBreak, ClearsBreak}
+use Rattle.locked_execution.specs.Performs.{execution_command, session_reply, branch_reply, OnExecution, SetsBreak, ClearsBreak}
 use Rattle.locked_execution.specs.Bridge.{on_execution, onto, commands_of, replies_of, IsOnExecution, AreOnExecution}
 use Rattle.locked_execution.specs.declared.command.Command.{Command}
 use Rattle.locked_execution.specs.declared.command.Reply.{Reply}
 
 -- the execution answers c with what the session is told
-IsAnswered : AtDesk → AtDesk → Reply → runs_command.Command → Type 0
-IsAnswered d d' reply c = (answer : runs_reply.Reply) × (session_reply answer ≡ reply) × Answers (execution d) c answer (execution d')
+IsAnswered : AtDesk → AtDesk → Reply → runs.Command → Type 0
+IsAnswered d d' reply c = (answer : runs.Reply) × (session_reply answer ≡ reply) × Answers (execution d) c answer (execution d')
 
 -- what the command of the session, if it is one of the execution, is there
 Carries : AtDesk → AtDesk → Command → Reply → Type 0
 Carries d d' command reply = MatchOption (on_execution command reply) (d'.machine ≡ d.machine) (λ c. IsAnswered d d' reply c)
 
-one : (d d' : AtDesk) (c : runs_command.Command) (reply : Reply) →
-    OnExecution d c reply d' ⊎ (MayWantMemory (execution d) c × (reply ≡ Reply.Refused Memory) × (d' ≡ d)) → IsAnswered d d' reply c
+one : (d d' : AtDesk) (o : Option runs.Command) (reply : Reply) → MatchOption o ⊥ (λ c. OnExecution d c reply d')
+    ⊎ (MatchOption o ⊥ (λ c. MayWantMemory (execution d) c) × (reply ≡ Reply.Refused Memory) × (d' ≡ d)) →
+    MatchOption o (d'.machine ≡ d.machine) (λ c. IsAnswered d d' reply c)
 unfolding IsAnswered
-one d d' c reply (inl h) = (h.0, sym h.1, inl h.2)
-one d d' c reply (inr h) = (runs_reply.Reply.Refused Memory, sym h.1, inr (h.0, refl, ap execution h.2))
+one d d' None reply (inl h) = absurd h
+one d d' None reply (inr h) = absurd h.0
+one d d' (Some c) reply (inl h) = (h.0, sym h.1, inl h.2)
+one d d' (Some c) reply (inr h) = (runs.Reply.Refused Memory, sym h.1, inr (h.0, refl, ap execution h.2))
 
 branch : (d d' : AtDesk) (session k : ℕ) (answer : BranchReply) → StepsBranch d.machine k (breaks_of d session) answer d'.machine →
     Carries d d' (Command.Branch k) (branch_reply answer)
 unfolding Carries IsAnswered
-branch d d' session k (BranchReply.Stepped t e) h = (runs_reply.Reply.Stepped t e, refl, inl h.4.1)
+branch d d' session k (BranchReply.Stepped t e) h = (runs.Reply.Stepped t e, refl, inl h.4.1)
 branch d d' session k (BranchReply.Stopped line) h = h.4.1
 branch d d' session k BranchReply.Idle h = h.4.1
 branch d d' session k (BranchReply.Refused why) h = h.4.1
@@ -48,15 +50,6 @@ cleared d d' session line _ h = absurd h
 
 pub is-on-execution : IsOnExecution
 unfolding Carries IsAnswered
-is-on-execution d d' session (Command.Step c) reply h = one d d' (runs_command.Command.Step c) reply h
-is-on-execution d d' session (Command.Undo t) reply h = one d d' (runs_command.Command.Undo t) reply h
-is-on-execution d d' session (Command.Roll t) reply h = one d d' (runs_command.Command.Roll t) reply h
-is-on-execution d d' session (Command.RollValue x) reply h = one d d' (runs_command.Command.RollValue x) reply h
-is-on-execution d d' session (Command.Blame x) reply h = one d d' (runs_command.Command.Blame x) reply h
-is-on-execution d d' session Command.Ready reply h = one d d' runs_command.Command.Ready reply h
-is-on-execution d d' session (Command.Consequences t) reply h = one d d' (runs_command.Command.Consequences t) reply h
-is-on-execution d d' session Command.Live reply h = one d d' runs_command.Command.Live reply h
-is-on-execution d d' session (Command.Value x) reply h = one d d' (runs_command.Command.Value x) reply h
 is-on-execution d d' session (Command.Branch k) reply (inl h) =
     subst (λ (r : Reply). Carries d d' (Command.Branch k) r) (sym h.1) (branch d d' session k h.0 h.2)
 is-on-execution d d' session (Command.Branch k) reply (inr h) =
@@ -66,14 +59,15 @@ is-on-execution d d' session (Command.Break line) reply (inl h) = set d d' sessi
 is-on-execution d d' session (Command.Break line) reply (inr h) = absurd h.0
 is-on-execution d d' session (Command.Clear line) reply (inl h) = cleared d d' session line reply h
 is-on-execution d d' session (Command.Clear line) reply (inr h) = absurd h.0
+is-on-execution d d' session command reply h = one d d' (execution_command command) reply h
 
 -- these commands of the execution, of which the sessions are told these replies, lead from what is held to d'
-Leads : AtMachine → AtDesk → List runs_command.Command → List Reply → Type 0
+Leads : AtMachine → AtDesk → List runs.Command → List Reply → Type 0
 Leads h d' commands replies =
-    (answers : List runs_reply.Reply) × (map session_reply answers ≡ replies) × calculus.Answered (object h) commands answers (execution d')
+    (answers : List runs.Reply) × (map session_reply answers ≡ replies) × calculus.Answered (object h) commands answers (execution d')
 
 -- one more in front
-in-front : (d m d' : AtDesk) (o : Option runs_command.Command) (reply : Reply) (commands : List runs_command.Command) (replies : List Reply) →
+in-front : (d m d' : AtDesk) (o : Option runs.Command) (reply : Reply) (commands : List runs.Command) (replies : List Reply) →
     MatchOption o (m.machine ≡ d.machine) (λ c. IsAnswered d m reply c) → Leads m.machine d' commands replies →
     Leads d.machine d' (onto o commands) (onto (option_map (λ _. reply) o) replies)
 unfolding Leads IsAnswered

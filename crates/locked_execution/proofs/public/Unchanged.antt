@@ -2,23 +2,22 @@
 use Rattle.std.proofs.Common.{◌≡◌, ap}
 use Rattle.runs.specs.Object.{Object}
 use Rattle.runs.specs.Does.{Does}
-use Rattle.runs.specs.declared.command.Command as runs_command
-use Rattle.runs.specs.declared.command.Reply as runs_reply
+use Rattle.runs.specs.Commands as runs
 use Rattle.runs.specs.declared.command.Refusal.{Refusal}
 use Rattle.machine.specs.AtMachine.{AtMachine, object}
 use Rattle.locked_execution.specs.AtDesk.{AtDesk, execution}
 
 -- a refusal leaves the execution
-pub refused-leaves : (o o' : Object) (c : runs_command.Command) (why : Refusal) → Does o c (runs_reply.Reply.Refused why) o' → o' ≡ o
-refused-leaves o o' (runs_command.Command.Step c) why h = h.1
-refused-leaves o o' (runs_command.Command.Undo t) why h = h.1
-refused-leaves o o' (runs_command.Command.Roll t) why h = h.1
-refused-leaves o o' (runs_command.Command.RollValue x) why h = h.1
-refused-leaves o o' (runs_command.Command.Blame x) why h = h.1
-refused-leaves o o' runs_command.Command.Ready why h = absurd h
-refused-leaves o o' (runs_command.Command.Consequences t) why h = h.1
-refused-leaves o o' runs_command.Command.Live why h = absurd h
-refused-leaves o o' (runs_command.Command.Value x) why h = h.1
+pub refused-leaves : (o o' : Object) (c : runs.Command) (why : Refusal) → Does o c (runs.Reply.Refused why) o' → o' ≡ o
+refused-leaves o o' (runs.Command.Step c) why h = h.1
+refused-leaves o o' (runs.Command.Undo t) why h = h.1
+refused-leaves o o' (runs.Command.Roll t) why h = h.1
+refused-leaves o o' (runs.Command.RollValue x) why h = h.1
+refused-leaves o o' (runs.Command.Blame x) why h = h.1
+refused-leaves o o' runs.Command.Ready why h = absurd h
+refused-leaves o o' (runs.Command.Consequences t) why h = h.1
+refused-leaves o o' runs.Command.Live why h = absurd h
+refused-leaves o o' (runs.Command.Value x) why h = h.1
 
 -- one system and one execution are one
 pub held-same : (h k : AtMachine) → k.checked ≡ h.checked → object k ≡ object h → k ≡ h

@@ -16,7 +16,7 @@ use Rattle.runs.specs.Object.{Reaches, most_live, last_ticket, with_event}
 use Rattle.runs.specs.Does.{Steps, RefusesStep}
 use Rattle.runs.specs.declared.event.Event.{Event}
 use Rattle.runs.specs.declared.event.Choice.{Choice}
-use Rattle.runs.specs.declared.command.Reply.{Reply}
+use Rattle.runs.specs.Commands.{Reply}
 use Rattle.runs.specs.declared.command.Refusal.{Refusal}
 use Rattle.runs.proofs.public.Options.{some-injective}
 use Rattle.runs.proofs.public.Lists.{every-in, every-of, in-parts}

@@ -9,8 +9,7 @@ use Rattle.runs.specs.Steps.{Allowed, opening}
 use Rattle.runs.specs.Live.{Live, events, Rising, LiveAt, same, later, NoDependent, WithoutTickets}
 use Rattle.runs.specs.Object.{Object, Reaches, most_live, last_ticket, with_event}
 use Rattle.runs.specs.declared.event.Event.{Event}
-use Rattle.runs.specs.declared.command.Command.{Command}
-use Rattle.runs.specs.declared.command.Reply.{Reply}
+use Rattle.runs.specs.Commands.{Command, Reply}
 use Rattle.runs.proofs.public.Effects.{added, effect-sound, does-sound, reaches-more, sound-formed}
 use Rattle.runs.proofs.public.Orders.{run-formed}
 use Rattle.runs.proofs.public.ReadyLists.{ready-list}

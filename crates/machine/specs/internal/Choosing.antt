@@ -11,7 +11,7 @@ use Rattle.runs.specs.declared.event.Event.{Event}
 use Rattle.runs.specs.declared.command.Refusal.{Refusal}
 use Rattle.runs.specs.declared.command.Refusal.TheVariants.{NotReady, HistoryFull, Spent, Memory}
 use Rattle.runs.specs.Does.{Steps, RefusesStep}
-use Rattle.runs.specs.declared.command.Reply.{Reply}
+use Rattle.runs.specs.Commands.{Reply}
 use Rattle.machine.specs.AtMachine.{AtMachine, object}
 use Rattle.machine.specs.declared.branch.BranchReply.{BranchReply}
 use Rattle.machine.specs.declared.branch.BranchReply.TheVariants.{Stepped, Refused}

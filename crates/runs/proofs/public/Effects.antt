@@ -8,8 +8,7 @@ use Rattle.runs.specs.Does.{Steps, Undoes, Rolls, RollsValue, Blames, ListsReady
 use Rattle.runs.specs.Sound.{Sound}
 use Rattle.runs.specs.declared.event.Event.{Event}
 use Rattle.runs.specs.declared.event.Choice.{Choice}
-use Rattle.runs.specs.declared.command.Command.{Command}
-use Rattle.runs.specs.declared.command.Reply.{Reply}
+use Rattle.runs.specs.Commands.{Command, Reply}
 use Rattle.runs.proofs.public.WellFormed.{WellFormed}
 use Rattle.runs.proofs.public.Opening.{opening-formed}
 use Rattle.runs.proofs.public.Orders.{run-join}

@@ -11,8 +11,7 @@ use Rattle.runs.specs.Does.{Does}
 use Rattle.runs.specs.Answered.{Answered}
 use Rattle.runs.specs.ObjectLaws.{OfSound, BeginsSound, StaysSound, StaysSoundOverLists, AnsweredJoins, StateInEveryOrder, StepMakes, NotReadyExactly, LimitsExactly, StepThenUndo, UndoesExactly, UndoTakesOne, NeededExactly, RollsExactly, TicketsGrow, LeastRollback, BackThenForth, RolledValue, DependsOnIsCauses, StateAfterAnyCommands, RollsValueExactly, ConsequencesExactly}
 use Rattle.runs.specs.declared.event.Event.{Event}
-use Rattle.runs.specs.declared.command.Command.{Command}
-use Rattle.runs.specs.declared.command.Reply.{Reply}
+use Rattle.runs.specs.Commands.{Command, Reply}
 use Rattle.runs.proofs.Rule.{shares_well-keeps}
 use Rattle.runs.proofs.public.Tickets.{rising-one}
 use Rattle.runs.proofs.public.Effects.{stays-sound, does-sound, reaches-more}

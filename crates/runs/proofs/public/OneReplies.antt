@@ -11,8 +11,7 @@ use Rattle.runs.specs.Sound.{Sound}
 use Rattle.runs.specs.ObjectLaws.{OneReply}
 use Rattle.runs.specs.declared.event.Event.{Event}
 use Rattle.runs.specs.declared.event.Choice.{Choice}
-use Rattle.runs.specs.declared.command.Command.{Command}
-use Rattle.runs.specs.declared.command.Reply.{Reply}
+use Rattle.runs.specs.Commands.{Command, Reply}
 use Rattle.runs.specs.declared.command.Refusal.{Refusal}
 use Rattle.runs.specs.declared.command.Refusal.TheVariants.{NotReady, HistoryFull, NoSuchEvent, NeededBy, NeverWritten, Spent}
 use Rattle.runs.proofs.public.WellFormed.{WellFormed}

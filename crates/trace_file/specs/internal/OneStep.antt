@@ -6,7 +6,7 @@ use Rattle.address.specs.declared.Entry.{Entry}
 use Rattle.system.specs.declared.system.System.{System}
 use Rattle.runs.specs.Does.{Steps}
 use Rattle.runs.specs.Live.{events}
-use Rattle.runs.specs.declared.command.Reply.{Reply}
+use Rattle.runs.specs.Commands.{Reply}
 use Rattle.runs.specs.declared.command.Refusal.{Refusal}
 use Rattle.runs.specs.declared.event.Choice.{Choice}
 use Rattle.runs.specs.declared.event.Event.{Event}

@@ -1,5 +1,4 @@
-use Rattle.std.proofs.Common.{ℕ, List, refl, sym, subst}
-use Rattle.runs.specs.Live.{ConsequencesList}
+use Rattle.std.proofs.Common.{refl}
 use Rattle.machine.proofs.public.Standing.{live-at}
 use Rattle.machine.proofs.Stepped.{on-error}
 use Rattle.machine.proofs.history.History.tell_consequences.Goals as goal
@@ -16,6 +15,6 @@ returns-in_err-tickets-in-Some-clause-wanted c =
 pub returns-in_ok-tickets-in-Some-clause-done : goal.returns-in_ok-tickets-in-Some-clause-done
 returns-in_ok-tickets-in-Some-clause-done c = λ system. (
   (c.in-Some.ensures.0, live-at c.args.self.now.live.live c.args.ticket c.in-Some.field-0 c.in-Some.ensures.0 c.in-Some.ensures.1),
-  subst (λ (k : List ℕ). ConsequencesList c.args.self.now.live.live c.args.ticket k) (sym c.from_vec.ensures) c.in_ok-tickets-in-Some.ensures,
+  c.in_ok-tickets-in-Some.ensures,
   refl,
 )

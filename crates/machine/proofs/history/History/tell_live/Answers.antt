@@ -1,7 +1,7 @@
 use Rattle.std.proofs.Common.{◌≡◌, Ok, refl}
 use Rattle.std.proofs.lemmas.Result.{IfOk-weaker}
 use Rattle.runs.specs.Does.{Does}
-use Rattle.runs.specs.declared.command.Command.{Command}
+use Rattle.runs.specs.Commands.{Command}
 use Rattle.machine.specs.Results.{live_reply}
 use Rattle.machine.specs.internal.Histories.{execution}
 use Rattle.machine.proofs.history.History.tell_live.Goals as goal

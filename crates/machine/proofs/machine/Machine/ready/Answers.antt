@@ -5,9 +5,8 @@ use Rattle.runs.specs.Does.{Does, Answers}
 use Rattle.runs.specs.Steps.{State}
 use Rattle.runs.specs.Object.{Reaches}
 use Rattle.runs.specs.Ready.{ReadyList}
-use Rattle.runs.specs.declared.command.Command.{Command}
+use Rattle.runs.specs.Commands.{Command, Reply}
 use Rattle.runs.specs.declared.command.Refusal.TheVariants.{Memory}
-use Rattle.runs.specs.declared.command.Reply.{Reply}
 use Rattle.event_inverse.specs.Grown.{state_of_tree}
 use Rattle.machine.specs.AtMachine.{AtMachine, object}
 use Rattle.machine.specs.Results.{ready_reply}

@@ -1,6 +1,6 @@
 use Rattle.std.proofs.Common.{subst}
 use Rattle.runs.specs.Does.{Answers}
-use Rattle.runs.specs.declared.command.Command.{Command}
+use Rattle.runs.specs.Commands.{Command}
 use Rattle.machine.specs.AtMachine.{AtMachine, object}
 use Rattle.machine.specs.Results.{step_reply}
 use Rattle.machine.specs.internal.Histories.{execution}
