@@ -84,7 +84,6 @@ impl LiveList {
     }
 
     /// Where the event of this ticket stands.
-    #[inline]
     pub(crate) fn index_of(&self, ticket: u64) -> Option<usize>
         ensures { MatchOption result (NoneAt self.now.live ticket) (λ i. StandsAt self.now.live ticket i) }
     {
@@ -93,7 +92,6 @@ impl LiveList {
     }
 
     /// Where the live event of this ticket stands.
-    #[inline]
     pub(crate) fn index_of_live(&self, ticket: u64) -> usize
         requires { IsLive self.now.live ticket }
         ensures { StandsAt self.now.live ticket result }
@@ -105,7 +103,7 @@ impl LiveList {
     }
 
     /// The ticket at an index.
-    #[inline]
+    #[inline(always)]
     pub(crate) fn ticket_at(&self, index: usize) -> u64
         requires { index < length self.now.live }
         ensures { (e : Event) × (slice_get self.now.live index ≡ Some (result, e)) }
@@ -124,7 +122,7 @@ impl LiveList {
     }
 
     /// The links of the event at an index.
-    #[inline]
+    #[inline(always)]
     pub(crate) fn links_at(&self, index: usize) -> &Links
         requires { index < length self.now.live }
         ensures { slice_get self.now.links index ≡ Some result.now }
@@ -134,7 +132,7 @@ impl LiveList {
     }
 
     /// The ticket and the links of the event at an index.
-    #[inline]
+    #[inline(always)]
     pub(crate) fn linked_at(&self, index: usize) -> (u64, &Links)
         requires { index < length self.now.live }
         ensures ticket { (e : Event) × (slice_get self.now.live index ≡ Some (result.0, e)) }
@@ -145,7 +143,7 @@ impl LiveList {
     }
 
     /// The ticket, the event and the links at an index.
-    #[inline]
+    #[inline(always)]
     fn kept_at(&self, index: usize) -> (u64, &Kept)
         requires { index < length self.now.live }
         ensures event { slice_get self.now.live index ≡ Some (result.0, result.1.now.event) }
@@ -170,7 +168,7 @@ impl LiveList {
     }
 
     /// The live event of this ticket.
-    #[inline]
+    #[inline(always)]
     pub(crate) fn event_of(&self, ticket: u64) -> &Event
         requires { IsLive self.now.live ticket }
         ensures { LiveAt self.now.live ticket result.now }
@@ -180,7 +178,7 @@ impl LiveList {
     }
 
     /// The links of the live event of this ticket.
-    #[inline]
+    #[inline(always)]
     pub(crate) fn links_of(&self, ticket: u64) -> &Links
         requires { IsLive self.now.live ticket }
         ensures { LinksOf self.now ticket result.now }
@@ -289,7 +287,7 @@ impl LiveList {
 }
 
 /// The place of the live event of this ticket.
-#[inline]
+#[inline(always)]
 fn place_of(slots: &Slots<Kept>, ticket: u64) -> usize
     requires rising { RiseFrom 0 slots.now.entries }
     requires live { IsLive (events_kept (filled slots.now.entries)) ticket }
@@ -302,7 +300,7 @@ fn place_of(slots: &Slots<Kept>, ticket: u64) -> usize
 }
 
 /// What is kept of the live event of this ticket.
-#[inline]
+#[inline(always)]
 fn kept_of(slots: &Slots<Kept>, ticket: u64) -> &Kept
     requires rising { RiseFrom 0 slots.now.entries }
     requires live { IsLive (events_kept (filled slots.now.entries)) ticket }

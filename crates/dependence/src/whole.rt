@@ -23,7 +23,7 @@ use std::alloc::{AllocError, Global};
 use syntax::Boxed;
 
 /// The tickets of the followers of the live event of this ticket.
-#[inline]
+#[inline(always)]
 pub(crate) fn followers_of<'a>(list: &'a LiveList, ticket: u64) -> &'a [u64]
     requires rising { IsRising list.now.live }
     requires linked { Linked list.now.live list.now.links }

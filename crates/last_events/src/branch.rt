@@ -125,7 +125,7 @@ impl Seat {
     }
 
     /// The way to it.
-    #[inline]
+    #[inline(always)]
     pub(crate) fn way(&self) -> &[Entry]
         ensures { result.now ≡ seat_way self.now }
     {
@@ -242,8 +242,7 @@ fn count_lesser(before: &[Seat], way: &[Entry]) -> usize
     ensures { Splits (map seat_way before.now) (ordered_of way.now) result }
 {
     if ends_at_branch(way) {
-        let likely = before.len().saturating_sub(end_number(way));
-        count_less_near(before, ordered(way), likely)
+        count_less_near(before, ordered(way), likely_lesser(before))
     } else {
         before.len()
     }
@@ -283,21 +282,19 @@ fn find_way(seats: &[Seat], way: &[Entry]) -> (usize, bool)
 
 /// Where a way stands most likely: a branch so far before the last one as its number is less, if each between has
 /// events, and anything else at the end.
+#[inline(always)]
 fn likely_index(seats: &[Seat], way: &[Entry]) -> usize {
     let others = seats.len().saturating_sub(1);
-    let Some(last) = seats.last() else {
-        return others;
-    };
-    match (last.way().last(), way.last()) {
-        (Some(Entry::Branch(end)), Some(Entry::Branch(number))) => {
-            others.saturating_sub(end.saturating_sub(*number) as usize)
+    match (seats.last(), way.last()) {
+        (Some(Seat::Inner(last, _)), Some(Entry::Branch(number))) => {
+            others.saturating_sub(end_number(last.entries()).saturating_sub(*number as usize))
         }
         _ => others,
     }
 }
 
 /// Whether there is something at this index that has this way.
-#[inline]
+#[inline(always)]
 fn has_way(seats: &[Seat], index: usize, way: &[Entry]) -> bool
     ensures yes { result ≡ true → HasSeat seats.now index way.now }
     ensures no { result ≡ false → HasSeat seats.now index way.now → ⊥ }
@@ -367,11 +364,18 @@ fn count_beside(seats: &[Seat], last: &Seat) -> usize
 {
     match last {
         Seat::Event(_, _) => seats.len() - 1,
-        Seat::Inner(way, _) => {
-            let others = seats.len().saturating_sub(1);
-            let likely = others.saturating_sub(end_number(way.entries()));
-            count_less_near(seats, ordered(last.way()), likely)
-        }
+        Seat::Inner(_, _) => count_less_near(seats, ordered(last.way()), likely_lesser(seats)),
+    }
+}
+
+/// How many of these stand before the branches at the end, if there are such and each has events.
+fn likely_lesser(seats: &[Seat]) -> usize {
+    match seats.last() {
+        Some(Seat::Inner(last, _)) => seats
+            .len()
+            .saturating_sub(1)
+            .saturating_sub(end_number(last.entries())),
+        _ => seats.len(),
     }
 }
 

@@ -7,7 +7,7 @@ ghost use Rattle.last_events.specs.internal.Forks.{IsFork, Shares, is_ordered_en
 use address::Entry;
 
 /// How many entries both have in common at their beginning. The first `shared` are known to be.
-#[inline]
+#[inline(always)]
 pub(crate) fn fork(a: &[Entry], b: &[Entry], shared: usize) -> usize
     requires { Shares shared a.now b.now }
     ensures { IsFork result a.now b.now }
@@ -20,7 +20,7 @@ pub(crate) fn fork(a: &[Entry], b: &[Entry], shared: usize) -> usize
 }
 
 /// Whether there is an entry at this index, and it is ordered.
-#[inline]
+#[inline(always)]
 pub(crate) fn is_ordered(place: &[Entry], index: usize) -> bool
     ensures { result ≡ is_ordered_entry (slice_get place.now index) }
 {
@@ -31,7 +31,7 @@ pub(crate) fn is_ordered(place: &[Entry], index: usize) -> bool
 }
 
 /// Whether the first place is less than the second, where they part at this index.
-#[inline]
+#[inline(always)]
 pub(crate) fn is_less(a: &[Entry], b: &[Entry], fork: usize) -> bool
     requires { IsFork fork a.now b.now }
     ensures { result ≡ is_lt (order_of a.now b.now) }

@@ -6,7 +6,7 @@ use std::alloc::AllocError;
 
 /// Puts the item behind so many others: behind all nearly always, so that nothing moves. Without memory for it they
 /// stay.
-#[inline]
+#[inline(always)]
 pub(crate) fn insert_at<T: Drop>(
     items: &mut Vec<T>,
     index: usize,

@@ -20,7 +20,7 @@ pub(crate) trait Placed {
 impl Placed for Seat {
     ghost place = { λ seat. seat_way seat };
 
-    #[inline]
+    #[inline(always)]
     fn place(&self) -> &[Entry] {
         self.way()
     }
@@ -75,7 +75,6 @@ fn parts_at<T: Placed>(seats: &[T], count: usize, place: &[Entry]) -> bool
 
 /// Whether the first so many of these places, which rise, are less than this one. Else there is a last of them, and it
 /// is not.
-#[inline]
 fn is_behind<T: Placed>(seats: &[T], count: usize, place: &[Entry]) -> bool
     requires rising { Rising (map T.place seats.now) }
     requires within { count ≤ length seats.now }

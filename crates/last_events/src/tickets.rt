@@ -7,7 +7,7 @@ use crate::inserts::insert_at;
 use std::alloc::AllocError;
 
 /// How many of the tickets are less than `bound`. The last two are looked at first.
-#[inline]
+#[inline(always)]
 fn count_below(tickets: &[u64], bound: u64) -> usize
     requires { Ascends tickets.now }
     ensures { Parts tickets.now bound result }
@@ -24,7 +24,7 @@ fn count_below(tickets: &[u64], bound: u64) -> usize
 }
 
 /// Whether the first so many of the tickets are less than `bound`. Else there is a last of them, and it is not.
-#[inline]
+#[inline(always)]
 fn is_behind(tickets: &[u64], count: usize, bound: u64) -> bool
     requires ascends { Ascends tickets.now }
     requires within { count ≤ length tickets.now }
@@ -53,7 +53,7 @@ fn count_by_halves(tickets: &[u64], bound: u64) -> usize
 }
 
 /// Whether the ticket is among these, of which `count` are less.
-#[inline]
+#[inline(always)]
 fn is_among(tickets: &[u64], ticket: u64, count: usize) -> bool
     requires ascends { Ascends tickets.now }
     requires parts { Parts tickets.now ticket count }

@@ -23,7 +23,7 @@ pub(crate) fn way_length(place: &[Entry]) -> usize
 }
 
 /// The ordered entries of a way.
-#[inline]
+#[inline(always)]
 pub(crate) fn ordered(way: &[Entry]) -> &[Entry]
     requires { IsWay way.now }
     ensures { result.now ≡ ordered_of way.now }
@@ -38,7 +38,7 @@ pub(crate) fn ordered(way: &[Entry]) -> &[Entry]
 }
 
 /// Whether a way ends with a branch number.
-#[inline]
+#[inline(always)]
 pub(crate) fn ends_at_branch(way: &[Entry]) -> bool
     requires { IsWay way.now }
     ensures event { result ≡ false → AllOrdered way.now }
@@ -54,7 +54,7 @@ pub(crate) fn ends_at_branch(way: &[Entry]) -> bool
 }
 
 /// The branch number at the end of a way: of so many other branches it stands behind, if each has events.
-#[inline]
+#[inline(always)]
 pub(crate) fn end_number(way: &[Entry]) -> usize {
     match way.last() {
         Some(Entry::Branch(number)) => *number as usize,
@@ -64,7 +64,7 @@ pub(crate) fn end_number(way: &[Entry]) -> usize {
 
 /// Whether both are the same entries. The last ones are looked at first, since two ways of one branch mostly differ
 /// there.
-#[inline]
+#[inline(always)]
 pub(crate) fn is_same(one: &[Entry], other: &[Entry]) -> bool
     ensures { IsTrue result ↔ (one.now ≡ other.now) }
 {
@@ -82,7 +82,7 @@ pub(crate) fn is_same(one: &[Entry], other: &[Entry]) -> bool
 }
 
 /// Whether both are the same entry.
-#[inline]
+#[inline(always)]
 fn is_entry(one: Entry, other: Entry) -> bool
     ensures { IsTrue result ↔ (one ≡ other) }
 {

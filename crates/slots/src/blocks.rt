@@ -9,7 +9,7 @@ pub(crate) const BLOCK: usize = 64;
 
 /// The place of the item at this index among those that are there, of which there are `count`. Where no place is empty
 /// it is the index, else it takes as long as to go through the counts.
-#[inline]
+#[inline(always)]
 pub fn place_at<T>(slots: &Slots<T>, counts: &[u8], count: usize, index: usize) -> usize
     requires counted { Counted slots.now.entries counts.now }
     requires count { count ≡ length (filled slots.now.entries) }
@@ -71,7 +71,6 @@ fn items_at<T>(slots: &Slots<T>, place: usize) -> usize
 }
 
 /// How many items are there before this place; there are `count` in all. It takes as long as `place_at`.
-#[inline]
 pub fn index_at<T>(slots: &Slots<T>, counts: &[u8], count: usize, place: usize) -> usize
     requires counted { Counted slots.now.entries counts.now }
     requires count { count ≡ length (filled slots.now.entries) }

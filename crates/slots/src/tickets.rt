@@ -8,7 +8,7 @@ use indexmap::IndexMap;
 pub type Slots<T> = IndexMap<u64, Option<T>>;
 
 /// The place of the item of this ticket. Where tickets follow one another, the distance to the last one tells the place.
-#[inline]
+#[inline(always)]
 pub fn find<T>(slots: &Slots<T>, ticket: u64) -> Option<usize>
     requires { RiseFrom 0 slots.now.entries }
     ensures { MatchOption result (NoneOf slots.now.entries ticket) (λ place. IsOf slots.now.entries ticket place) }
@@ -22,7 +22,7 @@ pub fn find<T>(slots: &Slots<T>, ticket: u64) -> Option<usize>
 }
 
 /// The place of the ticket, if each ticket from it to the last has a place.
-#[inline]
+#[inline(always)]
 fn guess<T>(slots: &Slots<T>, ticket: u64) -> usize {
     match slots.last() {
         Some((last, _)) => (slots.len() - 1).saturating_sub(last.saturating_sub(ticket) as usize),
@@ -31,7 +31,7 @@ fn guess<T>(slots: &Slots<T>, ticket: u64) -> usize {
 }
 
 /// Whether the item of this ticket is at this place.
-#[inline]
+#[inline(always)]
 fn has_item<T>(slots: &Slots<T>, ticket: u64, place: usize) -> bool
     ensures { result ≡ true → IsOf slots.now.entries ticket place }
 {

@@ -1,4 +1,4 @@
-use Rattle.std.proofs.Common.{◌<◌, length, map, arith}
+use Rattle.std.proofs.Common.{map, arith}
 use Rattle.last_events.specs.internal.Seats.{seat_way}
 use Rattle.last_events.proofs.SearchLaws.{split-at, length-places}
 use Rattle.last_events.proofs.SeatLaws.{has-within}

@@ -1,4 +1,4 @@
-use Rattle.std.proofs.Common.{◌≡◌, ◌-◌, drop, length, refl, sym, ap, subst, true≢false, ◌∙◌, arith}
+use Rattle.std.proofs.Common.{◌≡◌, drop, length, refl, sym, ap, subst, true≢false, ◌∙◌, arith}
 use Rattle.last_events.proofs.WayLaws.{drop-whole}
 use Rattle.last_events.proofs.ways.is_same.Goals as goal
 
