@@ -1,11 +1,4 @@
 use Rattle.process_tree.specs.Translation.{system_code}
-<<<<<<< HEAD
-=======
-use Rattle.runs.specs.Does.{Does}
-use Rattle.runs.specs.declared.event.Event.{Event}
-use Rattle.runs.specs.Commands.{Command}
-use Rattle.runs.specs.declared.command.Refusal.{Refusal}
->>>>>>> 343bf0d1d9766fad4caf442108f2d3b359bb41f5
 use Rattle.event_inverse.specs.Grown.{state_of_tree}
 use Rattle.machine.specs.internal.Histories.{execution, tree_of}
 use Rattle.machine.proofs.public.Standing.{stands-stems, stands-tidy}
