@@ -1,6 +1,3 @@
-mod AnsweringLemmas
-mod ExplainingLemmas
-mod Handing
+mod DebuggingLemmas
 mod RunningLemmas
 mod ShellLemmas
-mod TellingLemmas

@@ -2,10 +2,10 @@
 use Rattle.std.proofs.Common.{◌≡◌, inl, inr, ℕ, List, [], Ok, Err, ap, subst, refl}
 use Rattle.std.proofs.lemmas.List.{append-nil}
 use Rattle.debug_session.specs.declared.fault.Fault.{Fault}
-use Rattle.command_line.specs.FaultLine.{fault_line}
+use Rattle.file_answers.specs.FaultLine.{fault_line}
 use Rattle.command_line.specs.Running.{Explains, TellsHelp}
 use Rattle.command_line.specs.Serving.{status_of, told_text, told_with}
-use Rattle.command_line.specs.Used.{Outcome, Used, IsUntouched, Tells}
+use Rattle.file_answers.specs.Used.{Outcome, Used, IsUntouched, Tells}
 use Rattle.command_line.specs.internal.Unasked.{HasText, TellsUnasked}
 use Rattle.command_words.specs.Words.{AreMistaken, AskForHelp, AskForSome, AskNothing}
 use Rattle.command_words.specs.declared.unasked.Unasked.{Unasked}

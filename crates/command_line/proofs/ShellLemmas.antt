@@ -3,9 +3,9 @@ use Rattle.std.proofs.Common.{◌≡◌, inr, ℕ, Bool, List, Option, Some, Ok,
 use Rattle.std.specs.Prelude.{MatchResult}
 use Rattle.shell_files.specs.Files.{Files}
 use Rattle.shell.specs.Taken.{SessionEnds}
-use Rattle.command_line.specs.Answering.{Holding, TextsHad}
+use Rattle.file_answers.specs.Answering.{Holding, TextsHad}
 use Rattle.command_line.specs.Shells.{StartHad, StartRefused, TraceHad, TraceNotHad}
-use Rattle.command_line.specs.Used.{Outcome}
+use Rattle.file_answers.specs.Used.{Outcome}
 
 -- the description was had and is accepted, and then the trace is had or is not
 pub start-had : (holds : Holding) (file stimulus : List ℕ) (trace : Option (List ℕ))

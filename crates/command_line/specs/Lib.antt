@@ -1,12 +1,5 @@
 pub mod Adapter
-pub mod Answering
-pub mod Drawing
-pub mod Explained
-pub mod FaultLine
-pub mod Kept
 pub mod Running
 pub mod Serving
 pub mod Shells
-pub mod Used
-pub mod Working
 pub mod internal

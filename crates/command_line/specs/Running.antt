@@ -1,11 +1,11 @@
 -- What a run does: it serves the request that its words ask for, or says why there is none.
 use Rattle.std.specs.Prelude.{◌≡◌, ◌≢◌, ◌⊎◌, ℕ, List, [], Ok, Err}
-use Rattle.command_line.specs.Answering.{Holding}
-use Rattle.command_line.specs.Explained.{IsBehind}
-use Rattle.command_line.specs.FaultLine.{fault_line}
-use Rattle.command_line.specs.Kept.{Kept}
+use Rattle.file_answers.specs.Answering.{Holding}
+use Rattle.file_answers.specs.Explained.{IsBehind}
+use Rattle.file_answers.specs.FaultLine.{fault_line}
+use Rattle.file_answers.specs.Kept.{Kept}
 use Rattle.command_line.specs.Serving.{status_of, told_with, Serves}
-use Rattle.command_line.specs.Used.{Outcome, Used, IsUntouched, Tells}
+use Rattle.file_answers.specs.Used.{Outcome, Used, IsUntouched, Tells}
 use Rattle.command_words.specs.declared.request.Request.{Request}
 use Rattle.debug_session.specs.declared.fault.Fault.{Fault}
 use Rattle.debug_session.specs.declared.fault.Fault.TheVariants.{Memory, WriteFailed}

@@ -5,15 +5,15 @@ use Rattle.debug_session.specs.Transcript.{Debugged}
 use Rattle.debug_session.specs.declared.fault.Fault.{Fault}
 use Rattle.std.specs.Prelude.{IfErr}
 use Rattle.command_line.specs.Adapter.{IsOfStreams}
-use Rattle.command_line.specs.Answering.{Holding, TextsHad, TextsNotHad, CheckGives, CheckRefuses}
-use Rattle.command_line.specs.Answering.{ReplayGives, ReplayRefuses, WorkGives, WorkRefuses}
-use Rattle.command_line.specs.Answering.{OutlineGives, PageGives, PageRefuses, WaitingGives, WhyGives, WhyRefuses}
-use Rattle.command_line.specs.Drawing.{PictureGives, PictureRefuses}
-use Rattle.command_line.specs.FaultLine.{fault_line}
-use Rattle.command_line.specs.Kept.{Kept}
+use Rattle.file_answers.specs.Answering.{Holding, TextsHad, TextsNotHad, CheckGives, CheckRefuses}
+use Rattle.file_answers.specs.Answering.{ReplayGives, ReplayRefuses, WorkGives, WorkRefuses}
+use Rattle.file_answers.specs.Answering.{OutlineGives, PageGives, PageRefuses, WaitingGives, WhyGives, WhyRefuses}
+use Rattle.file_answers.specs.Drawing.{PictureGives, PictureRefuses}
+use Rattle.file_answers.specs.FaultLine.{fault_line}
+use Rattle.file_answers.specs.Kept.{Kept}
 use Rattle.command_line.specs.Shells.{ShellsFiles}
-use Rattle.command_line.specs.Used.{Outcome, Used, IsUntouched, ReaderBlamed, WriterBlamed, Tells}
-use Rattle.command_line.specs.Used.{bytes_before, bytes_behind}
+use Rattle.file_answers.specs.Used.{Answers, Outcome, Used, IsUntouched, ReaderBlamed, WriterBlamed}
+use Rattle.file_answers.specs.Used.{bytes_before, bytes_behind}
 use Rattle.command_words.specs.declared.request.Request.{Request}
 
 -- the status of a run that ended so
@@ -30,12 +30,6 @@ told_text (Err fault) = fault_line fault
 abbrev pub told_with : Outcome → List ℕ → List ℕ
 told_with (Ok done) words = []
 told_with (Err fault) words = fault_line fault ++ words
-
--- there is no answer and nothing is written, or there is one and it is out, or a beginning of it
-abbrev pub Answers : {O : Type 0} → (List ℕ → Type 0) → (Fault → Type 0) → Used O → Outcome → Type 0
-Answers gives refuses out done =
-    ((fault : Fault) × refuses fault × (done ≡ Err fault) × IsUntouched out)
-    ⊎ ((answer : List ℕ) × gives answer × Tells answer out done)
 
 -- `debug` on the files of these names, of which the stimulus is read behind the source
 abbrev pub DebugsFiles : {I O : Type 0} → Holding → List ℕ → List ℕ → Used I → Used O → Kept → Outcome → Type 0

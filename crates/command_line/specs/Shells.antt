@@ -4,8 +4,8 @@ use Rattle.debug_session.specs.Accepting.{IsRefused}
 use Rattle.debug_session.specs.declared.fault.Fault.{Fault}
 use Rattle.shell_files.specs.Files.{Files}
 use Rattle.shell.specs.Taken.{SessionEnds}
-use Rattle.command_line.specs.Answering.{Holding, NotHad, TextsHad, TextsNotHad}
-use Rattle.command_line.specs.Used.{Outcome, ReaderBlamed, Used, IsUntouched, WriterBlamed, bytes_before, bytes_behind}
+use Rattle.file_answers.specs.Answering.{Holding, NotHad, TextsHad, TextsNotHad}
+use Rattle.file_answers.specs.Used.{Outcome, ReaderBlamed, Used, IsUntouched, WriterBlamed, bytes_before, bytes_behind}
 
 -- what is kept of a trace is had where one is named
 abbrev pub TraceHad : Holding → Option (List ℕ) → List ℕ → Type 0

@@ -3,15 +3,20 @@
 ghost use Rattle.std.specs.Prelude.{IfErr};
 ghost use Rattle.command_line.specs.Adapter.{IsOfStreams};
 
-use crate::files::{Files, Source};
 use debug_session::{Counted, Fault};
 use diagnosis::Unread;
 use editor_session::{Ended, serve};
+use file_answers::{Files, Source};
 use std::alloc::{AllocError, Global};
 use std::io::Write;
 
-// An editor names files as a request does.
-impl<F: Files> editor_session::Files for Source<'_, F> {
+/// The files, as an editor names them: as a request does.
+#[derive(Clone, Copy)]
+struct Named<'a, F> {
+    files: &'a F,
+}
+
+impl<F: Files> editor_session::Files for Named<'_, F> {
     fn read(&self, alloc: Global, name: &str) -> Result<Option<Vec<u8>>, AllocError> {
         // An editor is told that it cannot be read, and not why.
         let mut why = Unread::Failed;
@@ -43,7 +48,8 @@ pub fn serve_editor<R: Input, F: Files, O: Write>(
     ensures { IfErr result IsOfStreams }
 {
     let mut reader = rt.reader();
-    match serve(from.alloc, &mut reader, out, from) {
+    let files = Named { files: from.files };
+    match serve(from.alloc, &mut reader, out, &files) {
         Ok(()) => Ok(()),
         Err(ended) => Err(fault_of(ended)),
     }

@@ -2,20 +2,13 @@
 #![tactic(auto)]
 
 mod adapter;
-mod answer;
-mod draw;
-mod explain;
-mod files;
-mod output;
+mod disk;
 mod program;
-mod question;
-mod reading;
 mod shells;
-mod texts;
 
 use debug_session::{Counted, Fault};
-use files::Disk;
-use output::write_fault;
+use disk::Disk;
+use file_answers::write_fault;
 use program::run;
 use std::io::{BufReader, ErrorKind, Stdin, Write};
 use std::process::ExitCode;

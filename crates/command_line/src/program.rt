@@ -3,25 +3,21 @@
 ghost use Rattle.std.specs.Prelude.{◌≡◌, ◌≢◌, ◌≤◌, ◌⊎◌, ℕ, List, [], map};
 ghost use Rattle.std.specs.Io.Buffered.{reader_remaining};
 ghost use Rattle.command_words.specs.Words.{AreMistaken, AskFor, AskForHelp, AskForSome};
-ghost use Rattle.command_line.specs.Explained.{IsBehind};
-ghost use Rattle.command_line.specs.Kept.{Kept, kept_of};
+ghost use Rattle.file_answers.specs.Explained.{IsBehind};
+ghost use Rattle.file_answers.specs.Kept.{Kept, kept_of};
 ghost use Rattle.command_line.specs.Running.{TellsSome, TellsHelp, Explains, ServesAsked};
 ghost use Rattle.command_line.specs.Serving.{status_of, told_with, DebugsFiles, Serves};
-ghost use Rattle.command_line.specs.Used.{Outcome, Tells, used};
+ghost use Rattle.file_answers.specs.Used.{Outcome, Tells, used};
 ghost use Rattle.command_line.specs.internal.Unasked.{HasText, TellsUnasked};
 
 use crate::adapter::serve_editor;
-use crate::answer::{check, replay_files, work_files};
-use crate::draw::picture_files;
-use crate::explain::words_behind;
-use crate::files::{Files, Source};
-use crate::output::write_refusal;
-use crate::question::{Question, outline_file, show_page, waiting_files, why_files};
-use crate::reading::read_texts;
 use crate::shells::{Start, shell_files};
-use crate::texts::{Names, Part, Texts};
 use command_words::{Request, Unasked, requested};
 use debug_session::{Counted, Fault, debug_keeping, write_out};
+use file_answers::{
+    Files, Names, Part, Question, Source, Texts, check, outline_file, picture_files, read_texts,
+    replay_files, show_page, waiting_files, why_files, words_behind, work_files, write_refusal,
+};
 use std::convert::AsStr;
 use std::fs;
 use std::io::{BufReader, Eprint, Read, Write};

@@ -5,12 +5,10 @@ ghost use Rattle.std.specs.Option.{option_copied};
 ghost use Rattle.std.specs.Io.Buffered.{reader_remaining};
 ghost use Rattle.debug_session.specs.Accepting.{IsRefused};
 ghost use Rattle.command_line.specs.Shells.{ShellsFiles, StartHad, StartRefused, TraceHad, TraceNotHad, text_of};
-ghost use Rattle.command_line.specs.Used.{used};
+ghost use Rattle.file_answers.specs.Used.{used};
 
-use crate::files::{Files, Source};
-use crate::reading::{read_texts, read_trace};
-use crate::texts::{Part, Texts};
 use debug_session::{Counted, Fault, accept};
+use file_answers::{Files, Part, Source, Texts, read_texts, read_trace};
 use shell::{Local, Texts as Begun, run};
 use std::alloc::Global;
 use std::fs;

@@ -2,10 +2,10 @@
 
 ghost use Rattle.std.specs.Prelude.{⊤};
 
-use crate::files::Files;
 use crate::program::run;
 use debug_session::{Counted, Fault};
 use diagnosis::Unread;
+use file_answers::Files;
 use std::alloc::Global;
 use std::io::{BufReader, Eprint, ErrorKind, Read, Write};
 use std::sync::Wait;

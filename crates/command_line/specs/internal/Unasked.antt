@@ -3,7 +3,7 @@ use Rattle.std.specs.Prelude.{◌≡◌, ◌≢◌, ℕ, []}
 use Rattle.debug_session.specs.declared.fault.Fault.TheVariants.{Memory}
 use Rattle.command_words.specs.declared.unasked.Unasked.{Unasked}
 use Rattle.command_line.specs.Running.{TellsFault, TellsHelp, TellsSome}
-use Rattle.command_line.specs.Used.{IsUntouched, Used}
+use Rattle.file_answers.specs.Used.{IsUntouched, Used}
 
 -- its text is not empty
 abbrev pub HasText : Unasked → Type 0

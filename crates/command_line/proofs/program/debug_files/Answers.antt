@@ -1,8 +1,8 @@
 use Rattle.std.proofs.Common.{inl, refl}
 use Rattle.std.specs.Io.Buffered.{reader_remaining}
-use Rattle.command_line.specs.Used.{used}
-use Rattle.command_line.proofs.AnsweringLemmas.{debug-session}
-use Rattle.command_line.proofs.Handing.{handed-on}
+use Rattle.file_answers.specs.Used.{used}
+use Rattle.command_line.proofs.DebuggingLemmas.{debug-session}
+use Rattle.file_answers.proofs.public.Handing.{handed-on}
 use Rattle.command_line.proofs.program.debug_files.Goals as goal
 
 pub returns-in_err-read_texts : goal.returns-in_err-read_texts

@@ -1,5 +1,5 @@
 use Rattle.std.proofs.Common.{map, inl, inr, refl}
-use Rattle.command_line.specs.Used.{used}
+use Rattle.file_answers.specs.Used.{used}
 use Rattle.command_line.proofs.RunningLemmas.{nothing-has-text, tells-unasked}
 use Rattle.command_line.proofs.program.run.Goals as goal
 

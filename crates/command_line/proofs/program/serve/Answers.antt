@@ -1,7 +1,7 @@
 use Rattle.std.proofs.Common.{ℕ, List, subst}
-use Rattle.command_line.specs.Kept.{kept_of}
+use Rattle.file_answers.specs.Kept.{kept_of}
 use Rattle.command_line.specs.Serving.{told_with}
-use Rattle.command_line.specs.Used.{Tells, used}
+use Rattle.file_answers.specs.Used.{Tells, used}
 use Rattle.command_line.proofs.program.serve.Goals as goal
 
 pub returns-clause-served : goal.returns-clause-served

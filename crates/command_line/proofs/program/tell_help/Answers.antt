@@ -1,4 +1,4 @@
-use Rattle.command_line.specs.Used.{used}
+use Rattle.file_answers.specs.Used.{used}
 use Rattle.command_line.proofs.RunningLemmas.{help-told, told-alone}
 use Rattle.command_line.proofs.program.tell_help.Goals as goal
 

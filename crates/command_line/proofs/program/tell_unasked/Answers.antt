@@ -1,6 +1,6 @@
 use Rattle.std.proofs.Common.{◌∙◌, sym, refl, Err}
 use Rattle.debug_session.specs.declared.fault.Fault.TheVariants.{Memory}
-use Rattle.command_line.specs.Used.{used}
+use Rattle.file_answers.specs.Used.{used}
 use Rattle.command_line.proofs.RunningLemmas.{told-alone}
 use Rattle.command_line.proofs.program.tell_unasked.Goals as goal
 

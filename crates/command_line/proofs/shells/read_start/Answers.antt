@@ -1,6 +1,6 @@
 use Rattle.std.proofs.Common.{inl, inr, ap, option_map}
 use Rattle.std.specs.Option.{option_copied}
-use Rattle.command_line.proofs.Handing.{refused}
+use Rattle.file_answers.proofs.public.Handing.{refused}
 use Rattle.command_line.proofs.ShellLemmas.{start-had}
 use Rattle.command_line.proofs.shells.read_start.Goals as goal
 

@@ -1,6 +1,6 @@
 use Rattle.std.proofs.Common.{ℕ, List, subst}
 use Rattle.debug_session.specs.Accepting.{IsRefused}
-use Rattle.command_line.proofs.Handing.{refused}
+use Rattle.file_answers.proofs.public.Handing.{refused}
 use Rattle.command_line.proofs.shells.refuse_source.Goals as goal
 
 pub returns-in_err-accept : goal.returns-in_err-accept

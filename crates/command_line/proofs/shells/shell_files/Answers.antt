@@ -3,7 +3,7 @@ use Rattle.std.specs.Option.{option_copied}
 use Rattle.std.specs.Io.Buffered.{reader_remaining}
 use Rattle.devices.specs.Counting.{device}
 use Rattle.command_line.specs.Shells.{any_files, text_of}
-use Rattle.command_line.proofs.Handing.{handed-on}
+use Rattle.file_answers.proofs.public.Handing.{handed-on}
 use Rattle.command_line.proofs.ShellLemmas.{session-on}
 use Rattle.command_line.proofs.shells.shell_files.Goals as goal
 

@@ -1,6 +1,0 @@
-use Rattle.std.proofs.Common.{◌≡◌}
-use Rattle.command_line.specs.Explained.{empty_lines}
-use Rattle.command_line.proofs.explain.empty_lines.Given as goal
-
-abbrev pub invariant-loop-line : goal.invariant-loop-line
-invariant-loop-line l = l.lines.items ≡ empty_lines l._line

@@ -1,0 +1,4 @@
+pub mod public
+mod AnsweringLemmas
+mod ExplainingLemmas
+mod TellingLemmas
