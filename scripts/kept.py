@@ -5,7 +5,8 @@ import os
 import shutil
 import signal
 import subprocess
-from contextlib import suppress
+from collections.abc import Iterator
+from contextlib import contextmanager, suppress
 from pathlib import Path
 
 TOP = Path(__file__).resolve().parent.parent
@@ -50,6 +51,23 @@ def end(started: subprocess.Popen) -> None:
     if started.poll() is None:
         started.terminate()
         started.wait()
+
+
+@contextmanager
+def begun(words: list, **how) -> Iterator[subprocess.Popen]:
+    """A process that ends with this block. A signal that stops this script while it starts the process waits until the process
+    is known: else nobody would end it."""
+    before = signal.pthread_sigmask(signal.SIG_BLOCK, STOPS)
+    started = None
+    try:
+        as_before = lambda: signal.pthread_sigmask(signal.SIG_SETMASK, before)  # noqa: E731
+        started = subprocess.Popen(words, preexec_fn=as_before, **how)
+        as_before()
+        yield started
+    finally:
+        signal.pthread_sigmask(signal.SIG_SETMASK, before)
+        if started:
+            end(started)
 
 
 def beside(program: Path, ending: str) -> Path:

@@ -1,5 +1,5 @@
 -- The least event in which an action at the place of a choice acts, and opens its arm, is the one that the choice means.
-use Rattle.std.proofs.Common.{◌≡◌, ◌⊎◌, inl, inr, ℕ, ◌==◌, ◌&&◌, List, [], ◌∷◌, ◌++◌, Bool, true, false, cond, Option, Some, None, refl, sym, ◌∙◌, ap, subst}
+use Rattle.std.proofs.Common.{◌≡◌, ◌⊎◌, inl, inr, ℕ, ◌==◌, ◌&&◌, List, [], ◌∷◌, Bool, true, false, cond, Option, Some, None, refl, sym, ◌∙◌, ap, subst}
 use Rattle.std.specs.Prelude.{◌↔◌, MatchOption}
 use Rattle.std.specs.Ordering.{is_lt}
 use Rattle.std.specs.declared.cmp.Ordering.{Ordering}
@@ -17,15 +17,15 @@ use Rattle.runs.specs.WellFormed.{WellFormed}
 use Rattle.runs.specs.internal.AllowedEvents.{those}
 use Rattle.runs.specs.declared.event.Choice.{Choice}
 use Rattle.runs.specs.declared.event.Event.{Event}
-use Rattle.runs.proofs.public.Lists.{in-left, in-right, in-parts}
 use Rattle.runs.proofs.public.Options.{none-some, some-injective, cond-some}
-use Rattle.local_actions.specs.Actions.{Offered}
+use Rattle.local_actions.specs.Actions.{Offered, opened_arm}
+use Rattle.local_actions.specs.Walk.{action_at}
 use Rattle.local_actions.specs.declared.action.LocalAction.{LocalAction}
 use Rattle.local_actions.specs.declared.action.ActionKind.{ActionKind}
 use Rattle.local_actions.specs.declared.action.ActionKind.TheVariants.{Assigns, Tests, Turns, Sends, Receives, Syncs, Opens, Releases, Closes}
 use Rattle.channel_uses.specs.OnChannel.{is_partner_on}
 use Rattle.allowed_events.specs.internal.Acting.{ActedBy}
-use Rattle.allowed_events.specs.internal.Least.{arm_of, is_less, least_of, ActedWith, LeastOfOne, LeastActed}
+use Rattle.allowed_events.specs.internal.Least.{is_less, least_of, LeastActed}
 use Rattle.allowed_events.specs.internal.Meeting.{solo, met, met_with}
 use Rattle.allowed_events.proofs.ActedActions.{in-alone}
 use Rattle.allowed_events.proofs.FromActions.{ByActions, alone, meets, by_actions, actions_allowed, solo-acts, met-acts}
@@ -111,11 +111,6 @@ none-least : (o : Option Event) (es : List Event) → least_of o es ≡ None →
 none-least o [] h = (h, λ f i. absurd i)
 none-least o (e ∷ es) h = absurd (stays-some o e (none-least (cond (is_less e o) (Some e) o) es h).0)
 
--- one list after another
-least-both : (o : Option Event) (es fs : List Event) → least_of o (es ++ fs) ≡ least_of (least_of o es) fs
-least-both o [] fs = refl
-least-both o (e ∷ es) fs = least-both (cond (is_less e o) (Some e) o) es fs
-
 -- one more list of one event at most
 pub least-more : (o new made : Option Event) (rest : List Event) → new ≡ least_of o (those made []) → least_of new rest ≡ least_of o (those made rest)
 least-more o new None rest h = ap (λ (p : Option Event). least_of p rest) h
@@ -126,14 +121,19 @@ pub taken-so : (made o : Option Event) (b : Bool) → MatchOption made (b ≡ fa
 taken-so None o b h = ap (λ t. cond t None o) h
 taken-so (Some e) o b h = ap (λ t. cond t (Some e) o) h
 
+-- one alone is the least
+pub taken-first : (made : Option Event) → made ≡ least_of None (those made [])
+taken-first None = refl
+taken-first (Some e) = refl
+
 -- ---- the arm that an event opens
-solo-arm : (a : Place) (x : ActionKind) (e : Event) → solo a x ≡ Some e → (choice_of e).arm ≡ arm_of x
+solo-arm : (a : Place) (x : ActionKind) (e : Event) → solo a x ≡ Some e → (choice_of e).arm ≡ opened_arm x
 solo-arm a (Assigns x v read) e h = sym (ap (λ (f : Event). (choice_of f).arm) (some-injective _ e h))
 solo-arm a (Tests k read) e h = sym (ap (λ (f : Event). (choice_of f).arm) (some-injective _ e h))
 solo-arm a Turns e h = sym (ap (λ (f : Event). (choice_of f).arm) (some-injective _ e h))
 solo-arm a _ e h = none-some e h
 
-met-arm : (b : Place) (x : ActionKind) (a : Place) (y : ActionKind) (e : Event) → met b x a y ≡ Some e → (choice_of e).arm ≡ arm_of x
+met-arm : (b : Place) (x : ActionKind) (a : Place) (y : ActionKind) (e : Event) → met b x a y ≡ Some e → (choice_of e).arm ≡ opened_arm x
 met-arm b (Receives c x) a (Sends d v read) e h = sym (ap (λ (f : Event). (choice_of f).arm) (some-injective _ e (cond-some (c == d) _ e h).1))
 met-arm b (Opens c k) a (Sends d v read) e h = sym (ap (λ (f : Event). (choice_of f).arm) (some-injective _ e (cond-some (c == d) _ e h).1))
 met-arm b (Opens c k) a (Syncs d) e h = sym (ap (λ (f : Event). (choice_of f).arm) (some-injective _ e (cond-some (c == d) _ e h).1))
@@ -141,46 +141,37 @@ met-arm b (Closes c) a (Releases d) e h = sym (ap (λ (f : Event). (choice_of f)
 met-arm b (Syncs c) a (Syncs d) e h = sym (ap (λ (f : Event). (choice_of f).arm) (some-injective _ e (cond-some ((c == d) && is_lt (order_of b a)) _ e h).1))
 met-arm b x a y e h = none-some e h
 
-acted-arm : (S : State) (x : LocalAction) (e : Event) → ActedBy S x e → (choice_of e).arm ≡ arm_of x.action
+acted-arm : (S : State) (x : LocalAction) (e : Event) → ActedBy S x e → (choice_of e).arm ≡ opened_arm x.action
 acted-arm S x e h = elim h [ inl u ↦ solo-arm x.place x.action e u | inr u ↦ met-arm x.place x.action u.0.place u.0.action e u.2 ]
 
 acted-place : (S : State) (x : LocalAction) (e : Event) → ActedBy S x e → acting e ≡ x.place
 acted-place S x e h = elim h [ inl u ↦ solo-acts x.place x.action e u | inr u ↦ met-acts x.place x.action u.0.place u.0.action e u.2 ]
 
 -- ---- the events of one action
--- of one that opens another arm none
-pub other-arm : (S : State) (k n : ℕ) (x : LocalAction) (o : Option Event) → n ≡ arm_of x.action → (n ≡ k → ⊥) → LeastOfOne S k x o o
-other-arm S k n x o told differ = record {
-  events = [];
-  exactly = λ e. (λ i. absurd i, λ h. absurd (differ (told ∙ h.0)));
-  taken = refl;
-}
-
 -- the one that it makes alone
-pub taken-alone : (S : State) (k n : ℕ) (x : LocalAction) (made old new : Option Event) → n ≡ arm_of x.action → n ≡ k → made ≡ solo x.place x.action
-    → ((b a : Place) (y : ActionKind) → met b x.action a y ≡ None) → new ≡ least_of old (those made []) → LeastOfOne S k x old new
-taken-alone S k n x made old new told same is none taken = record {
+pub taken-alone : (S : State) (x : LocalAction) (made : Option Event) → made ≡ solo x.place x.action → ((b a : Place) (y : ActionKind) → met b x.action a y ≡ None) → LeastActed S x made
+taken-alone S x made is none = record {
   events = those made [];
   exactly = λ e. (
-    λ i. (sym told ∙ same, inl (sym is ∙ in-alone made e i)),
-    λ h. elim h.1 [
+    λ i. inl (sym is ∙ in-alone made e i),
+    λ h. elim h [
       | inl u ↦ in-those-first made e [] (is ∙ u)
       | inr u ↦ none-some e (sym (none x.place u.0.place u.0.action) ∙ u.2)
     ],
   );
-  taken = taken;
+  taken = taken-first made;
 }
 
 -- those that it makes with others
-pub taken-met : (S : State) (k n c : ℕ) (x : LocalAction) (others found : List LocalAction) (old new : Option Event) → n ≡ arm_of x.action → n ≡ k → ((a : Place) → solo a x.action ≡ None)
+pub taken-met : (S : State) (c : ℕ) (x : LocalAction) (others found : List LocalAction) (least : Option Event) → ((a : Place) → solo a x.action ≡ None)
     → others ≡ found → ((y : LocalAction) → In y found ↔ (Offered S y × (is_partner_on c y.action ≡ true)))
-    → ((b a : Place) (y : ActionKind) (e : Event) → met b x.action a y ≡ Some e → is_partner_on c y ≡ true) → new ≡ least_of old (met_with x others) → LeastOfOne S k x old new
-taken-met S k n c x others found old new told same none is exactly looks taken = record {
+    → ((b a : Place) (y : ActionKind) (e : Event) → met b x.action a y ≡ Some e → is_partner_on c y ≡ true) → least ≡ least_of None (met_with x others) → LeastActed S x least
+taken-met S c x others found least none is exactly looks taken = record {
   events = met_with x others;
   exactly = λ e. (
     λ i. let m = met-in x others e i in
-        (sym told ∙ same, inr (m.partner, ((exactly m.partner).0 (subst (λ (l : List LocalAction). In m.partner l) is m.there)).0, m.made)),
-    λ h. elim h.1 [
+        inr (m.partner, ((exactly m.partner).0 (subst (λ (l : List LocalAction). In m.partner l) is m.there)).0, m.made),
+    λ h. elim h [
       | inl u ↦ none-some e (sym (none x.place) ∙ u)
       | inr u ↦ in-met x u.0 others e (subst (λ (l : List LocalAction). In u.0 l) (sym is) ((exactly u.0).1 (u.1, looks x.place u.0.place u.0.action e u.2))) u.2
     ],
@@ -188,96 +179,48 @@ taken-met S k n c x others found old new told same none is exactly looks taken =
   taken = taken;
 }
 
--- ---- the events of all of them
--- those of the actions that are left, and those that were taken, are all
-pub record LeastSoFar (S : State) (k : ℕ) (left all : List LocalAction) (least : Option Event) : Type 0 where
-  pub events : List Event
-  pub exactly : (e : Event) → (In e events ⊎ ActedWith S k left e) ↔ ActedWith S k all e
-  pub taken : least ≡ least_of None events
-
-pub least-start : (S : State) (k : ℕ) (left all : List LocalAction) → left ≡ all → LeastSoFar S k left all None
-least-start S k left all is = record {
-  events = [];
-  exactly = λ e. (
-    λ h. elim h [ inl u ↦ absurd u | inr u ↦ subst (λ (l : List LocalAction). ActedWith S k l e) is u ],
-    λ h. inr (subst (λ (l : List LocalAction). ActedWith S k l e) (sym is) h),
-  );
-  taken = refl;
-}
-
-pub least-step : (S : State) (k : ℕ) (before rest all : List LocalAction) (x : LocalAction) (old new : Option Event) → before ≡ rest ++ x ∷ [] → LeastOfOne S k x old new → LeastSoFar S k before all old
-    → LeastSoFar S k rest all new
-least-step S k before rest all x old new is one so_far = record {
-  events = so_far.events ++ one.events;
-  exactly = λ e. (
-    λ h. (so_far.exactly e).0 (elim h [
-      | inl u ↦ elim (in-parts e so_far.events one.events u) [
-        | inl v ↦ inl v
-        | inr v ↦ let acts = (one.exactly e).0 v in inr (x, last, acts.0, acts.1)
-      ]
-      | inr u ↦ inr (u.0, subst (λ (l : List LocalAction). In u.0 l) (sym is) (in-left u.0 rest (x ∷ []) u.1), u.2, u.3)
-    ]),
-    λ h. elim ((so_far.exactly e).1 h) [
-      | inl u ↦ inl (in-left e so_far.events one.events u)
-      | inr u ↦ elim (in-parts u.0 rest (x ∷ []) (subst (λ (l : List LocalAction). In u.0 l) is u.1)) [
-        | inl v ↦ inr (u.0, v, u.2, u.3)
-        | inr (inl v) ↦ inl (in-right e so_far.events one.events
-            ((one.exactly e).1 (subst (λ (y : LocalAction). (arm_of y.action ≡ k) × ActedBy S y e) v (u.2, u.3))))
-        | inr (inr v) ↦ absurd v
-      ]
-    ],
-  );
-  taken = one.taken ∙ ap (λ (o : Option Event). least_of o one.events) so_far.taken ∙ sym (least-both None so_far.events one.events);
-}
-  where
-    last : In x before
-    last = subst (λ (l : List LocalAction). In x l) (sym is) (in-right x rest (x ∷ []) (inl refl))
-
-pub least-end : (S : State) (k : ℕ) (left all : List LocalAction) (least : Option Event) → left ≡ [] → LeastSoFar S k left all least → LeastActed S k all least
-least-end S k left all least none so_far = record {
-  events = so_far.events;
-  exactly = λ e. (
-    λ i. (so_far.exactly e).0 (inl i),
-    λ h. elim ((so_far.exactly e).1 h) [
-      | inl u ↦ u
-      | inr u ↦ absurd (subst (λ (l : List LocalAction). In u.0 l) none u.1)
-    ],
-  );
-  taken = so_far.taken;
-}
-
 -- ---- the one that the choice means
 choice-is : (e : Event) (c : Choice) → acting e ≡ c.place → (choice_of e).arm ≡ c.arm → choice_of e ≡ c
 choice-is e c p q = λ i. record { place = p i; arm = q i }
 
-module _ (S : State) (c : Choice) (found : List LocalAction) (w : WellFormed S.residual) (exactly : (x : LocalAction) → In x found ↔ (Offered S x × (x.place ≡ c.place))) where
-  with-choice : (e : Event) → ActedWith S c.arm found e → Allowed S e × (choice_of e ≡ c)
-  with-choice e one =
-      let at = (exactly one.0).0 one.1 in (
-        elim one.3 [
-          | inl u ↦ actions_allowed S w e (alone one.0 at.0 u)
-          | inr u ↦ actions_allowed S w e (meets one.0 u.0 at.0 u.1 u.2)
-        ],
-        choice-is e c (acted-place S one.0 e one.3 ∙ at.1) (acted-arm S one.0 e one.3 ∙ one.2),
+module _ (S : State) (c : Choice) (found : Option ActionKind) (w : WellFormed S.residual)
+    (exactly : (x : ActionKind) → (found ≡ Some x) ↔ (Offered S (action_at c.place x) × (opened_arm x ≡ c.arm))) where
+  -- each event with the choice is made by the action that was found
+  there : (e : Event) (x : LocalAction) → Offered S x → ActedBy S x e → choice_of e ≡ c → (found ≡ Some x.action) × ActedBy S (action_at c.place x.action) e
+  there e x o acts is =
+      let place : x.place ≡ c.place = sym (acted-place S x e acts) ∙ ap (λ (d : Choice). d.place) is in (
+        (exactly x.action).1 (subst (λ (a : Place). Offered S (action_at a x.action)) place o, sym (acted-arm S x e acts) ∙ ap (λ (d : Choice). d.arm) is),
+        subst (λ (a : Place). ActedBy S (action_at a x.action) e) place acts,
       )
 
-  there : (e : Event) (x : LocalAction) → Offered S x → ActedBy S x e → choice_of e ≡ c → ActedWith S c.arm found e
-  there e x o acts is = (
-    x,
-    (exactly x).1 (o, sym (acted-place S x e acts) ∙ ap (λ (d : Choice). d.place) is),
-    sym (acted-arm S x e acts) ∙ ap (λ (d : Choice). d.arm) is,
-    acts,
-  )
+  all-there : (e : Event) → ByActions S e → choice_of e ≡ c → (y : ActionKind) × (found ≡ Some y) × ActedBy S (action_at c.place y) e
+  all-there e (alone x o h) is = let t = there e x o (inl h) is in (x.action, t.0, t.1)
+  all-there e (meets x y o q h) is = let t = there e x o (inr (y, q, h)) is in (x.action, t.0, t.1)
 
-  all-there : (e : Event) → ByActions S e → choice_of e ≡ c → ActedWith S c.arm found e
-  all-there e (alone x o h) is = there e x o (inl h) is
-  all-there e (meets x y o q h) is = there e x o (inr (y, q, h)) is
+  pub none-chosen : ((x : ActionKind) → found ≡ Some x → ⊥) → ChoiceAllowed S c → ⊥
+  none-chosen none p = let t = all-there p.0 (by_actions S p.0 w p.1) p.2 in none t.0 t.1
 
-  pub least-chosen : (least : Option Event) → LeastActed S c.arm found least → MatchOption least (ChoiceAllowed S c → ⊥) (λ e. Chosen S c e)
-  least-chosen least l = pick least l.taken
+  -- the least of the events of that action
+  pub least-chosen : (x : LocalAction) (least : Option Event) → x.place ≡ c.place → found ≡ Some x.action → LeastActed S x least → MatchOption least (ChoiceAllowed S c → ⊥) (λ e. Chosen S c e)
+  least-chosen x least at is l = pick least l.taken
     where
+      offered : Offered S x
+      offered = subst (λ (a : Place). Offered S (action_at a x.action)) (sym at) ((exactly x.action).0 is).0
+
       all : (e : Event) → Allowed S e → choice_of e ≡ c → In e l.events
-      all e a is = (l.exactly e).1 (all-there e (by_actions S e w a) is)
+      all e a same =
+          let t = all-there e (by_actions S e w a) same in
+          (l.exactly e).1 (subst (λ (y : ActionKind). ActedBy S (action_at x.place y) e) (some-injective t.0 x.action (sym t.1 ∙ is))
+          (subst (λ (a : Place). ActedBy S (action_at a t.0) e) (sym at) t.2))
+
+      with-choice : (e : Event) → ActedBy S x e → Allowed S e × (choice_of e ≡ c)
+      with-choice e acts = (
+        elim acts [
+          | inl u ↦ actions_allowed S w e (alone x offered u)
+          | inr u ↦ actions_allowed S w e (meets x u.0 offered u.1 u.2)
+        ],
+        choice-is e c (acted-place S x e acts ∙ at) (acted-arm S x e acts ∙ ((exactly x.action).0 is).1),
+      )
 
       pick : (o : Option Event) → o ≡ least_of None l.events → MatchOption o (ChoiceAllowed S c → ⊥) (λ e. Chosen S c e)
       pick None is = λ p. (none-least None l.events (sym is)).1 p.0 (all p.0 p.1 p.2)

@@ -14,7 +14,7 @@ ghost use Rattle.allowed_events.specs.internal.Choosing.{HasNone, FirstWith};
 use crate::least::least_acted;
 use crate::order::has_choice;
 use channel_uses::ChannelUses;
-use local_actions::actions_at;
+use local_actions::action_at;
 use process_tree::Tree;
 use runs::{Choice, Event};
 use std::alloc::{AllocError, Global};
@@ -41,8 +41,10 @@ pub fn event_with(
         (ChoiceAllowed (state_of tree.now store.now) choice.now →
         ⊥) (λ event. Chosen (state_of tree.now store.now) choice.now event)) }
 {
-    let acting = actions_at(alloc, tree, store, &choice.place)?;
-    least_acted(alloc, uses, tree, store, acting, choice.arm)
+    let Some(action) = action_at(alloc, tree, store, &choice.place, choice.arm)? else {
+        return Ok(None);
+    };
+    least_acted(alloc, uses, tree, store, &choice.place, action)
 }
 
 /// The first of the events that has the choice.

@@ -3,53 +3,56 @@ ghost use Rattle.std.specs.Prelude.{◌≡◌, IfOk};
 ghost use Rattle.allowed_events.specs.internal.Meeting as model;
 
 use address::{Address, compare};
-use local_actions::{ActionKind, LocalAction};
+use local_actions::ActionKind;
 use runs::{Event, Kind};
 use std::alloc::{AllocError, Global};
 use system::Variables;
 
-/// The event that an action makes alone, if it makes one, with the place and the variables of the action.
-pub(crate) fn alone(alloc: Global, one: LocalAction) -> Option<Event>
-    ensures { result ≡ model.solo one.place one.action }
+/// The event that an action makes alone, if it makes one, with the variables of the action.
+pub(crate) fn alone(
+    alloc: Global,
+    place: &Address,
+    action: ActionKind,
+) -> Result<Option<Event>, AllocError>
+    ensures { IfOk result (λ made. made ≡ model.solo place.now action) }
 {
-    let LocalAction { place, action } = one;
     match action {
-        ActionKind::Assigns(variable, value, read) => Some(Event {
+        ActionKind::Assigns(variable, value, read) => Ok(Some(Event {
             kind: Kind::Assign,
-            first: place,
+            first: place.copy(alloc)?,
             second: None,
             arm: None,
             channel: None,
             value: Some(value),
             written: Some(variable),
             read,
-        }),
-        ActionKind::Tests(arm, read) => Some(Event {
+        })),
+        ActionKind::Tests(arm, read) => Ok(Some(Event {
             kind: Kind::Test,
-            first: place,
+            first: place.copy(alloc)?,
             second: None,
             arm,
             channel: None,
             value: None,
             written: None,
             read,
-        }),
-        ActionKind::Turns => Some(Event {
+        })),
+        ActionKind::Turns => Ok(Some(Event {
             kind: Kind::Turn,
-            first: place,
+            first: place.copy(alloc)?,
             second: None,
             arm: None,
             channel: None,
             value: None,
             written: None,
             read: Variables::none(alloc),
-        }),
+        })),
         ActionKind::Sends(_, _, _)
         | ActionKind::Receives(_, _)
         | ActionKind::Syncs(_)
         | ActionKind::Opens(_, _)
         | ActionKind::Releases(_)
-        | ActionKind::Closes(_) => None,
+        | ActionKind::Closes(_) => Ok(None),
     }
 }
 

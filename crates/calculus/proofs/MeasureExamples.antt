@@ -2,7 +2,7 @@
 use Rattle.std.proofs.Common.{◌≡◌, ℕ, [], ◌∷◌, refl}
 use Rattle.system.specs.Expression.{word, constant, variable}
 use Rattle.system.specs.Residual.{Residual, done, inside, beside, assign, send, receive, sync, choose, no_arms, arm}
-use Rattle.sharing_check.specs.Measure.{amount, sending, receiving, syncing}
+use Rattle.sharing_rule.specs.Measure.{amount, sending, receiving, syncing}
 use Rattle.runs.proofs.public.SharingWidths.{on_variable}
 
 -- y := x

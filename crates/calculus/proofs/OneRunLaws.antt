@@ -4,7 +4,7 @@ use Rattle.std.specs.Prelude.{IsTrue, MatchOption, is_some}
 use Rattle.calculus.specs.ResidualTree.{state_of}
 use Rattle.calculus.specs.declared.plain.Plain.{Plain}
 use Rattle.system.specs.declared.system.System.{System}
-use Rattle.sharing_check.specs.Rule.{is_shared, SharesWell}
+use Rattle.sharing_rule.specs.Rule.{is_shared, SharesWell}
 use Rattle.runs.specs.Dependence.{OnOneVariable, Earlier, Rearranged, Respecting}
 use Rattle.runs.specs.Related.{OnOneShared}
 use Rattle.runs.specs.Steps.{State, Run, opening}

@@ -4,7 +4,7 @@ use Rattle.std.specs.Prelude.{IfOk, MatchOption}
 use Rattle.std.specs.Option.{option_map, IfSome}
 use Rattle.std.proofs.lemmas.Result.{IfOk-weaker}
 use Rattle.system.specs.declared.system.System.{System}
-use Rattle.sharing_check.specs.Rule.{SharesWell}
+use Rattle.sharing_rule.specs.Rule.{SharesWell}
 use Rattle.calculus.specs.Ruled.{RelatedInOrder, OneForEachChoice}
 use Rattle.runs.specs.Steps.{State, Step, Allowed, Run, opening}
 use Rattle.runs.specs.internal.StepOf.{step_of, run_of}

@@ -8,9 +8,9 @@ use Rattle.system.specs.declared.expression.Use.{Use}
 use Rattle.system.specs.declared.system.System.{System}
 use Rattle.system.specs.declared.system.Branch.{Branch}
 use Rattle.system.specs.declared.system.Branch.TheVariants.{Feed}
-use Rattle.sharing_check.specs.Measure.{amount, sending, receiving, syncing}
-use Rattle.sharing_check.specs.Sharing.{OneBranchWrites}
-use Rattle.sharing_check.specs.Rule.{sender_on, receiver_on, user_on, SharesWell}
+use Rattle.sharing_rule.specs.Measure.{amount, sending, receiving, syncing}
+use Rattle.sharing_rule.specs.Sharing.{OneBranchWrites}
+use Rattle.sharing_rule.specs.Rule.{sender_on, receiver_on, user_on, SharesWell}
 use Rattle.runs.proofs.public.VariableRule.{only_bound}
 use Rattle.system.specs.declared.command.Action.TheOpen.{Action-F}
 use Rattle.system.specs.declared.command.Action.TheFolds.{fold-roll-Action, fold-roll-Command}

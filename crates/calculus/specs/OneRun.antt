@@ -1,7 +1,7 @@
 -- When two lists of events are one run.
 use Rattle.std.specs.Prelude.{◌≡◌, ◌↔◌, List}
 use Rattle.system.specs.declared.system.System.{System}
-use Rattle.sharing_check.specs.Rule.{is_shared, SharesWell}
+use Rattle.sharing_rule.specs.Rule.{is_shared, SharesWell}
 use Rattle.runs.specs.Dependence.{Earlier, Causes, Rearranged, Respecting}
 use Rattle.runs.specs.Related.{OnOneShared}
 use Rattle.runs.specs.Steps.{State, Run, opening}

@@ -1,7 +1,7 @@
 -- What the rule on sharing gives to a run.
 use Rattle.std.specs.Prelude.{◌≡◌, List}
 use Rattle.system.specs.declared.system.System.{System}
-use Rattle.sharing_check.specs.Rule.{is_shared}
+use Rattle.sharing_rule.specs.Rule.{is_shared}
 use Rattle.runs.specs.Choices.{choice_of}
 use Rattle.runs.specs.Dependence.{SomeBefore, Earlier}
 use Rattle.runs.specs.Related.{Related}

@@ -6,7 +6,7 @@ use Rattle.address.specs.declared.Entry.{Entry}
 use Rattle.address.specs.declared.Entry.TheVariants.{Ordered, Branch}
 use Rattle.syntax.specs.Lists.{In}
 use Rattle.system.specs.declared.system.System.{System}
-use Rattle.sharing_check.specs.Rule.{is_shared}
+use Rattle.sharing_rule.specs.Rule.{is_shared}
 use Rattle.sharing_check.specs.Refusal.{Clash}
 use Rattle.sharing_check.specs.Uses.{VariableUse, uses_of}
 use Rattle.clash_places.specs.Others.{TellsOther}

@@ -1,6 +1,6 @@
 // Two uses that clash.
 ghost use Rattle.std.specs.Prelude.{◌≡◌, ◌==◌, IfOk};
-ghost use Rattle.sharing_check.specs.Rule.{is_shared};
+ghost use Rattle.sharing_rule.specs.Rule.{is_shared};
 ghost use Rattle.clash_places.specs.Others.{TellsOther};
 ghost use Rattle.clash_places.specs.internal.Pairs as model;
 

@@ -16,7 +16,7 @@ use Rattle.dap.specs.declared.launch.Launched.{Launched}
 
 -- the machine of a system, behind this trace if there is one
 abbrev pub BeginsOn : System → Option (List ℕ) → AtMachine → Type 0
-BeginsOn system None m = m ≡ record { checked = system; live = []; next = 1 }
+BeginsOn system None m = m ≡ record { checked = system; live = []; next = 1; marked = [] }
 BeginsOn system (Some trace) m = IsLoaded system trace m
 
 -- the machine of this source and this stimulus, behind this trace if there is one

@@ -12,7 +12,7 @@ use Rattle.locked_execution.specs.AtDesk.{AtDesk, execution}
 use Rattle.locked_execution.specs.Performs.{Answers, OnExecution, session_reply}
 use Rattle.locked_execution.specs.declared.command.Command.{Command}
 use Rattle.locked_execution.specs.declared.command.Reply.{Reply}
-use Rattle.locked_execution.proofs.public.Unchanged.{all-same}
+use Rattle.locked_execution.proofs.public.Unchanged.{refused-stays}
 use Rattle.dap_moves.specs.Moves.{quiet}
 use Rattle.dap_moves.specs.Laws.{RefusedBack, BackWhereAlone}
 
@@ -44,7 +44,7 @@ refused-on : (d d' : AtDesk) (t : ℕ) (e : Event) (why : Refusal) → LiveAt d.
 refused-on d d' t e why live h =
     let told = told-refused (execution d) (execution d') t why h.0 h.1 h.2 in
     let found = refused-undo (execution d) (execution d') t e why live told in
-    (found.0, found.1, found.2, all-same d d' h.3 found.3 h.4)
+    (found.0, found.1, found.2, refused-stays d d' (runs.Command.Undo t) why h found.3)
 
 pub refused-back : RefusedBack
 refused-back d d' k t why h =

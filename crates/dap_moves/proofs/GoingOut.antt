@@ -18,6 +18,7 @@ use Rattle.runs.proofs.public.Tickets.{rising-one}
 use Rattle.dependence.proofs.public.ListPlaces.{at-one, at-within, in-at, index-in}
 use Rattle.dependence.proofs.public.Markings.{without-in}
 use Rattle.dependence.proofs.public.Standing.{index-rises}
+use Rattle.machine.specs.Marks.{marks_behind}
 use Rattle.locked_execution.specs.AtDesk.{AtDesk, execution}
 use Rattle.locked_execution.specs.Performs.{Answers, session_reply}
 use Rattle.locked_execution.specs.declared.command.Command.{Command}
@@ -33,20 +34,21 @@ use Rattle.dap_moves.proofs.Backward.{refused-undo}
 -- what an undo of a live step is answered: that it is undone, or that another depends on it, which changes nothing
 undo-told : (d d' : AtDesk) (t : ℕ) (e : Event) (reply : Reply) (answer : runs.Reply) → LiveAt d.machine.live t e → reply ≡ session_reply answer →
     Undoes (execution d) t answer (execution d') → d'.machine.checked ≡ d.machine.checked → d'.breaks ≡ d.breaks →
+    d'.machine.marked ≡ marks_behind answer d.machine.marked →
     ((f : Event) × LiveAt d.machine.live t f × (reply ≡ Reply.Undone t f))
     ⊎ ((u : ℕ) × (reply ≡ Reply.Refused (NeededBy u)) × FirstDependent d.machine.live t u × (d' ≡ d))
-undo-told d d' t e reply (runs.Reply.Undone u f) live is h checked breaks =
+undo-told d d' t e reply (runs.Reply.Undone u f) live is h checked breaks marks =
     inl (f, h.1, is ∙ ap (λ (n : ℕ). Reply.Undone n f) h.0)
-undo-told d d' t e reply (runs.Reply.Refused why) live is h checked breaks =
+undo-told d d' t e reply (runs.Reply.Refused why) live is h checked breaks marks =
     let found = refused-undo (execution d) (execution d') t e why live h in
-    inr (found.0, is ∙ ap (λ (w : Refusal). Reply.Refused w) found.1, found.2, all-same d d' checked found.3 breaks)
-undo-told d d' t e reply _ live is h checked breaks = absurd h
+    inr (found.0, is ∙ ap (λ (w : Refusal). Reply.Refused w) found.1, found.2, all-same d d' checked found.3 breaks marks)
+undo-told d d' t e reply _ live is h checked breaks marks = absurd h
 
 pub undo_told : (d d' : AtDesk) (t : ℕ) (e : Event) (reply : Reply) → LiveAt d.machine.live t e → Answers d quiet (Command.Undo t) reply d' →
     ((f : Event) × LiveAt d.machine.live t f × (reply ≡ Reply.Undone t f))
     ⊎ ((u : ℕ) × (reply ≡ Reply.Refused (NeededBy u)) × FirstDependent d.machine.live t u × (d' ≡ d))
 undo_told d d' t e reply live h = elim h [
-  | inl done ↦ undo-told d d' t e reply done.0 live done.1 done.2 done.3 done.4
+  | inl done ↦ undo-told d d' t e reply done.0 live done.1 done.2 done.3 done.4 done.5
   | inr none ↦ absurd none.0
 ]
 

@@ -20,6 +20,7 @@ use Rattle.runs.specs.declared.command.Refusal.TheVariants.{Memory}
 use Rattle.machine.specs.AtMachine.{AtMachine}
 use Rattle.machine.specs.Branching.{AllKeptBack, Branched, acts_in, has_no_break, in_branch, is_branch, is_free, line_of}
 use Rattle.machine.specs.declared.branch.BranchReply.{BranchReply}
+use Rattle.machine.specs.Marks.{marks_behind}
 use Rattle.locked_execution.specs.AtDesk.{AtDesk, breaks_of, execution}
 use Rattle.locked_execution.specs.Performs.{Answers, branch_reply, session_reply}
 use Rattle.locked_execution.specs.declared.command.Command.{Command}
@@ -283,22 +284,22 @@ took-lacking plan turn seen d d' branch reply go sooner is same =
 -- a step by its choice
 took-chosen : (plan : Plan) (turn : ℕ) (seen : List Choice) (d d' : AtDesk) (c : Choice) (branch : ℕ) (reply : Reply) (answer : runs.Reply) →
     reply ≡ session_reply answer → Steps (execution d) c answer (execution d') → d'.machine.checked ≡ d.machine.checked → d'.breaks ≡ d.breaks →
-    MayAsk d plan.only turn branch plan.lines.now seen (Command.Step c) → Answers d quiet (Command.Step c) reply d' →
+    d'.machine.marked ≡ marks_behind answer d.machine.marked → MayAsk d plan.only turn branch plan.lines.now seen (Command.Step c) → Answers d quiet (Command.Step c) reply d' →
     TakesOne plan turn seen d d' (turn_of plan.watched.now branch reply) seen
-took-chosen plan turn seen d d' c branch reply (runs.Reply.Stepped t e) is h checked breaks may answers =
+took-chosen plan turn seen d d' c branch reply (runs.Reply.Stepped t e) is h checked breaks marks may answers =
     subst (λ (r : Reply). TakesOne plan turn seen d d' (turn_of plan.watched.now branch r) seen) (sym is)
     (took-stepped plan turn seen d d' (Command.Step c) branch t e may (subst (λ (r : Reply). Answers d quiet (Command.Step c) r d') is answers))
-took-chosen plan turn seen d d' c branch reply (runs.Reply.Refused why) is h checked breaks may answers =
+took-chosen plan turn seen d d' c branch reply (runs.Reply.Refused why) is h checked breaks marks may answers =
     subst (λ (r : Reply). TakesOne plan turn seen d d' (turn_of plan.watched.now branch r) seen) (sym is)
-    (took-refused plan turn seen d d' (Command.Step c) branch why (all-same d d' checked h.1 breaks) may.1.may may.1.sooner may
+    (took-refused plan turn seen d d' (Command.Step c) branch why (all-same d d' checked h.1 breaks marks) may.1.may may.1.sooner may
     (subst (λ (r : Reply). Answers d quiet (Command.Step c) r d') is answers))
-took-chosen plan turn seen d d' c branch reply _ is h checked breaks may answers = absurd h
+took-chosen plan turn seen d d' c branch reply _ is h checked breaks marks may answers = absurd h
 
 chosen-on : (plan : Plan) (turn : ℕ) (seen : List Choice) (d d' : AtDesk) (c : Choice) (branch : ℕ) (reply : Reply) →
     MayAsk d plan.only turn branch plan.lines.now seen (Command.Step c) → Answers d quiet (Command.Step c) reply d' →
     TakesOne plan turn seen d d' (turn_of plan.watched.now branch reply) seen
 chosen-on plan turn seen d d' c branch reply may h = elim h [
-  | inl done ↦ took-chosen plan turn seen d d' c branch reply done.0 done.1 done.2 done.3 done.4 may (inl done)
+  | inl done ↦ took-chosen plan turn seen d d' c branch reply done.0 done.1 done.2 done.3 done.4 done.5 may (inl done)
   | inr none ↦ took-lacking plan turn seen d d' branch reply may.1.may may.1.sooner none.1 none.2
 ]
 

@@ -6,7 +6,7 @@ use Rattle.locked_execution.specs.AtDesk.{AtDesk, execution}
 use Rattle.locked_execution.specs.Performs.{Answers, OnExecution}
 use Rattle.locked_execution.specs.declared.command.Command.{Command}
 use Rattle.locked_execution.specs.declared.command.Reply.{Reply}
-use Rattle.locked_execution.proofs.public.Unchanged.{all-same}
+use Rattle.locked_execution.proofs.public.Unchanged.{desk-stays}
 use Rattle.dap_moves.proofs.public.Leading.{led_nowhere, ready_leaves, value_leaves}
 use Rattle.dap_moves.specs.Led.{Led}
 use Rattle.dap_requests.specs.Reading.{reads}
@@ -26,13 +26,13 @@ lived d d' (runs.Reply.Live l) h = h.1
 lived d d' _ h = absurd h
 
 blame-stays : (d d' : AtDesk) (x : ℕ) (reply : Reply) → OnExecution d (runs.Command.Blame x) reply d' → d' ≡ d
-blame-stays d d' x reply h = all-same d d' h.3 (blamed d d' x h.0 h.2) h.4
+blame-stays d d' x reply h = desk-stays d d' (runs.Command.Blame x) reply tt h (blamed d d' x h.0 h.2)
 
 followed-stays : (d d' : AtDesk) (t : ℕ) (reply : Reply) → OnExecution d (runs.Command.Consequences t) reply d' → d' ≡ d
-followed-stays d d' t reply h = all-same d d' h.3 (followed d d' t h.0 h.2) h.4
+followed-stays d d' t reply h = desk-stays d d' (runs.Command.Consequences t) reply tt h (followed d d' t h.0 h.2)
 
 live-stays : (d d' : AtDesk) (reply : Reply) → OnExecution d runs.Command.Live reply d' → d' ≡ d
-live-stays d d' reply h = all-same d d' h.3 (lived d d' h.0 h.2) h.4
+live-stays d d' reply h = desk-stays d d' runs.Command.Live reply tt h (lived d d' h.0 h.2)
 
 -- a command that only reads leaves the desk
 pub reading_leaves : (d d' : AtDesk) (session : ℕ) (command : Command) (reply : Reply) → reads command ≡ true → Answers d session command reply d' → d' ≡ d

@@ -135,7 +135,10 @@ pub fn next_in(
         memo.new.seen.items }
 {
     match desk.machine().ready() {
-        Ok(events) => take_target(alloc, desk, program, memo, &events, branch, number, answer),
+        Ok(events) => {
+            let events = Items::from_vec(events);
+            take_target(alloc, desk, program, memo, &events, branch, number, answer)
+        }
         Err(_) => no_memory(alloc, program, memo, branch, answer),
     }
 }
@@ -436,7 +439,7 @@ fn see_in(alloc: Global, machine: &Machine, branch: u32, seen: &mut Vec<Choice>)
         (seen.new.items ≡ seen.old.items) }
 {
     match machine.ready() {
-        Ok(events) => see_among(alloc, machine, branch, &events, seen),
+        Ok(events) => see_among(alloc, machine, branch, &Items::from_vec(events), seen),
         Err(_) => false,
     }
 }

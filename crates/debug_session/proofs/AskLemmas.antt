@@ -1,5 +1,5 @@
 -- What a line asks for.
-use Rattle.std.proofs.Common.{◌≡◌, ℕ, ◌≤◌, ◌<◌, arith, List, [], ◌++◌, Option, Some, None, MatchOption, Result, Ok, Err, IfOk, IfErr, OnErr, ◌≢◌, ◌⊎◌, inl, inr, refl, sym, ap, ◌∙◌, subst}
+use Rattle.std.proofs.Common.{◌≡◌, ℕ, ◌≤◌, ◌<◌, arith, List, [], ◌++◌, Option, Some, None, MatchOption, Result, Ok, Err, IfOk, IfErr, ◌≢◌, ◌⊎◌, inl, inr, refl, sym, ap, ◌∙◌, subst}
 use Rattle.system.specs.declared.system.System.{System}
 use Rattle.line_text.specs.declared.keyword.Keyword.{Keyword}
 use Rattle.line_text.specs.declared.keyword.Keyword.TheVariants as keywords
@@ -95,34 +95,30 @@ value-nothing system w rest e none = subst (λ v. AsksNothingBy system v rest) (
 pub step-nothing : (system : System) (w : Keyword) (rest : List ℕ) → w ≡ keywords.Step → IsNoChoice rest → AsksNothingBy system w rest
 step-nothing system w rest e none = subst (λ v. AsksNothingBy system v rest) (sym e) (λ c h. none h.0 h.1)
 
--- what is read behind the keyword is what the line asks for
-asked-found : (system : System) (line text rest : List ℕ) (w : Keyword) (found : Option Line) → CutAtSpace line text rest
-    → spelling w ≡ text → MatchOption found (AsksNothingBy system w rest) (λ c. AsksBy system w rest c)
-    → MatchOption found (AsksNothing system line) (λ c. Asks system line c)
-asked-found system line text rest w None cut h none = nothing-behind system line text rest w cut h none
-asked-found system line text rest w (Some c) cut h some = asks-behind system line text rest w c cut h some
-
--- the same of the answer, unless there was no memory
-pub asked-read : {E : Type 0} → (system : System) (line text rest : List ℕ) (w : Keyword) (r : Result (Option Line) E) → CutAtSpace line text rest
-    → spelling w ≡ text
-    → IfOk r (λ found. MatchOption found (AsksNothingBy system w rest) (λ c. AsksBy system w rest c))
-    → IfOk r (λ found. MatchOption found (AsksNothing system line) (λ c. Asks system line c))
-asked-read system line text rest w (Ok found) cut h is = asked-found system line text rest w found cut h is
-asked-read system line text rest w (Err e) cut h is = tt
-
--- only a line that may ask for a step takes memory
-pub asked-memory : {A E : Type 0} → (line text rest : List ℕ) (w : Keyword) (r : Result A E) → CutAtSpace line text rest
-    → spelling w ≡ text → OnErr r ((w ≡ keywords.Step) × MayBeChoice rest) → OnErr r (MayBeStep line)
-asked-memory line text rest w (Ok found) cut h is = tt
-asked-memory line text rest w (Err e) cut h is =
-    (rest, sym cut.joined ∙ ap (λ t. t ++ rest) (sym h ∙ ap spelling is.0), is.1)
-
--- what a line says where something was found, or nothing
-pub found-says : (system : System) (line : List ℕ) (number : ℕ) (found : Option Line) (r : Result Line Fault)
+-- what a keyword asks for where something was found behind it
+pub found-by : (system : System) (w : Keyword) (rest : List ℕ) (number : ℕ) (found : Option Line) (r : Result Line Fault)
     → MatchOption found (r ≡ Err (Fault.BadCommand number)) (λ c. r ≡ Ok c)
-    → MatchOption found (AsksNothing system line) (λ c. Asks system line c) → IfOk r (λ said. Says system line said)
-found-says system line number None r e h = subst (λ x. IfOk x (λ said. Says system line said)) (sym e) tt
-found-says system line number (Some c) r e h = subst (λ x. IfOk x (λ said. Says system line said)) (sym e) (inl h)
+    → MatchOption found (AsksNothingBy system w rest) (λ c. AsksBy system w rest c) → IfOk r (λ c. AsksBy system w rest c)
+found-by system w rest number None r e h = subst (λ x. IfOk x (λ c. AsksBy system w rest c)) (sym e) tt
+found-by system w rest number (Some c) r e h = subst (λ x. IfOk x (λ c'. AsksBy system w rest c')) (sym e) h
+
+-- why a keyword asks for nothing
+abbrev pub UnsaidBy : System → Keyword → List ℕ → ℕ → Fault → Type 0
+UnsaidBy system w rest number fault =
+    ((fault ≡ Fault.Memory) × (w ≡ keywords.Step) × MayBeChoice rest) ⊎ ((fault ≡ Fault.BadCommand number) × AsksNothingBy system w rest)
+
+-- why a keyword asks for nothing where nothing was found behind it
+pub nothing-by : (system : System) (w : Keyword) (rest : List ℕ) (number : ℕ) (found : Option Line) (r : Result Line Fault)
+    → MatchOption found (r ≡ Err (Fault.BadCommand number)) (λ c. r ≡ Ok c)
+    → MatchOption found (AsksNothingBy system w rest) (λ c. AsksBy system w rest c) → IfErr r (UnsaidBy system w rest number)
+nothing-by system w rest number None r e h = subst (λ x. IfErr x (UnsaidBy system w rest number)) (sym e) (inr (refl, h))
+nothing-by system w rest number (Some c) r e h = subst (λ x. IfErr x (UnsaidBy system w rest number)) (sym e) tt
+
+-- a line says what its keyword asks for with what is behind it
+pub behind-says : (system : System) (line text rest : List ℕ) (w : Keyword) (r : Result Line Fault) → CutAtSpace line text rest
+    → spelling w ≡ text → IfOk r (λ c. AsksBy system w rest c) → IfOk r (λ said. Says system line said)
+behind-says system line text rest w (Ok c) cut h asked = inl (asks-behind system line text rest w c cut h asked)
+behind-says system line text rest w (Err f) cut h asked = tt
 
 -- a session that a line names is one of the sixteen
 session-by : (system : System) (w : Keyword) (rest : List ℕ) (c : Line) → AsksBy system w rest c → SaysSession c
@@ -142,20 +138,21 @@ session-by system keywords.Session rest c (k, h, e) = subst SaysSession (sym e) 
 session-by system keywords.View rest c (h, e) = subst SaysSession (sym e) tt
 session-by system keywords.Trace rest c (h, e) = subst SaysSession (sym e) tt
 
-pub found-session : (system : System) (line : List ℕ) (number : ℕ) (found : Option Line) (r : Result Line Fault)
-    → MatchOption found (r ≡ Err (Fault.BadCommand number)) (λ c. r ≡ Ok c)
-    → MatchOption found (AsksNothing system line) (λ c. Asks system line c) → IfOk r SaysSession
-found-session system line number None r e h = subst (λ x. IfOk x SaysSession) (sym e) tt
-found-session system line number (Some c) r e h = subst (λ x. IfOk x SaysSession) (sym e) (session-by system h.keyword h.rest c h.asked)
+pub behind-session : (system : System) (w : Keyword) (rest : List ℕ) (r : Result Line Fault) → IfOk r (λ c. AsksBy system w rest c) → IfOk r SaysSession
+behind-session system w rest (Ok c) asked = session-by system w rest c asked
+behind-session system w rest (Err f) asked = tt
 
 -- why a line says nothing
 abbrev pub Unsaid : System → List ℕ → ℕ → Fault → Type 0
 Unsaid system line number fault =
     ((fault ≡ Fault.Memory) × MayBeStep line) ⊎ ((fault ≡ Fault.BadCommand number) × (line ≢ []) × AsksNothing system line)
 
--- why a line says nothing where no command was found
-pub found-nothing : (system : System) (line : List ℕ) (number : ℕ) (found : Option Line) (r : Result Line Fault)
-    → MatchOption found (r ≡ Err (Fault.BadCommand number)) (λ c. r ≡ Ok c) → (line ≡ [] → ⊥)
-    → MatchOption found (AsksNothing system line) (λ c. Asks system line c) → IfErr r (Unsaid system line number)
-found-nothing system line number None r e some h = subst (λ x. IfErr x (Unsaid system line number)) (sym e) (inr (refl, some, h))
-found-nothing system line number (Some c) r e some h = subst (λ x. IfErr x (Unsaid system line number)) (sym e) tt
+-- a line says nothing where its keyword asks for nothing
+pub behind-unsaid : (system : System) (line text rest : List ℕ) (w : Keyword) (number : ℕ) (r : Result Line Fault) → CutAtSpace line text rest
+    → spelling w ≡ text → (line ≡ [] → ⊥) → IfErr r (UnsaidBy system w rest number) → IfErr r (Unsaid system line number)
+behind-unsaid system line text rest w number (Ok c) cut h some why = tt
+behind-unsaid system line text rest w number (Err f) cut h some why =
+    elim why [
+      | inl memory ↦ inl (memory.0, (rest, sym cut.joined ∙ ap (λ t. t ++ rest) (sym h ∙ ap spelling memory.1), memory.2))
+      | inr bad ↦ inr (bad.0, some, nothing-behind system line text rest w cut h bad.1)
+    ]

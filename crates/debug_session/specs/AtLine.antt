@@ -12,4 +12,4 @@ pub record AtLine : Type 0 where
 -- before the first line: an execution of the system, no breakpoints, and session 0
 abbrev pub first_line : System → List ℕ → AtLine
 first_line system source =
-    record { desk = new_desk (record { checked = system; live = []; next = 1 }); session = 0; source = source }
+    record { desk = new_desk (record { checked = system; live = []; next = 1; marked = [] }); session = 0; source = source }

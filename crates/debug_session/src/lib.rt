@@ -25,4 +25,4 @@ pub use read::read_command;
 pub use replay_live::replay;
 pub use reply::{write_answer, write_reply, write_session};
 pub use session::Session;
-pub use whole::{accept, debug, debug_keeping};
+pub use whole::{accept, accept_leaving, debug, debug_keeping};

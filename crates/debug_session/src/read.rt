@@ -1,6 +1,6 @@
-ghost use Rattle.std.specs.Prelude.{◌≡◌, ◌≢◌, ◌⊎◌, [], Ok, Err, Some, MatchOption, IfOk, IfErr, OnErr};
+ghost use Rattle.std.specs.Prelude.{◌≡◌, ◌≢◌, ◌⊎◌, [], Ok, Err, Some, MatchOption, IfOk, IfErr};
 ghost use Rattle.line_text.specs.Operands.{MayBeChoice};
-ghost use Rattle.debug_session.specs.Lines.{IsSession, Asks, AsksBy, AsksNothing, MayBeStep, Says, SaysSession};
+ghost use Rattle.debug_session.specs.Lines.{IsSession, AsksBy, AsksNothing, MayBeStep, Says, SaysSession};
 ghost use Rattle.debug_session.specs.internal.NotAsked.{IsNoSession, AsksNothingBy};
 ghost use Rattle.line_text.specs.declared.keyword.Keyword.TheVariants as keywords;
 ghost use Rattle.debug_session.specs.declared.fault.Fault.TheVariants.{Memory, BadCommand};
@@ -9,7 +9,7 @@ use crate::{Fault, Line};
 use line_text::{Keyword, cut_at_space, read_branch, read_choice, read_ticket, read_variable};
 use locked_execution::Command;
 use sharing_check::Checked;
-use std::alloc::{AllocError, Global};
+use std::alloc::Global;
 use system::System;
 
 /// What the line, without byte 10, says. `number` counts lines from 1 and is what a fault names.
@@ -30,7 +30,33 @@ pub fn read_command(
     if line.is_empty() {
         return Ok(Line::Empty);
     }
-    or_fault(read_asked(alloc, checked.system(), line)?, number)
+    let (text, rest) = cut_at_space(line);
+    let Some(keyword) = Keyword::read(text) else {
+        return Err(Fault::BadCommand(number));
+    };
+    read_behind(alloc, checked.system(), keyword, rest, number)
+}
+
+/// What the keyword asks for with `rest` behind it, in the line of this number. A step is made where it is read, since
+/// most lines ask for one.
+fn read_behind(
+    alloc: Global,
+    system: &System,
+    keyword: Keyword,
+    rest: &[u8],
+    number: u64,
+) -> Result<Line, Fault>
+    ensures line { IfOk result (λ said. AsksBy system.now keyword rest.now said) }
+    ensures fault { IfErr result (λ fault. ((fault ≡ Memory) × (keyword ≡ keywords.Step) × MayBeChoice rest.now)
+        ⊎ ((fault ≡ BadCommand number) × AsksNothingBy system.now keyword rest.now)) }
+{
+    match keyword {
+        Keyword::Step => match read_choice(alloc, rest)? {
+            Some(choice) => Ok(Line::Asked(Command::Step(choice))),
+            None => Err(Fault::BadCommand(number)),
+        },
+        other => or_fault(read_simple(system, other, rest), number),
+    }
 }
 
 /// What the line of this number asks for, where it asks for something.
@@ -40,40 +66,6 @@ fn or_fault(found: Option<Line>, number: u64) -> Result<Line, Fault>
     match found {
         Some(said) => Ok(said),
         None => Err(Fault::BadCommand(number)),
-    }
-}
-
-/// What the line asks for.
-fn read_asked(alloc: Global, system: &System, line: &[u8]) -> Result<Option<Line>, AllocError>
-    ensures found { IfOk result (λ found.
-        MatchOption found (AsksNothing system.now line.now) (λ said. Asks system.now line.now said)) }
-    ensures memory { OnErr result (MayBeStep line.now) }
-{
-    let (text, rest) = cut_at_space(line);
-    let Some(keyword) = Keyword::read(text) else {
-        return Ok(None);
-    };
-    read_behind(alloc, system, keyword, rest)
-}
-
-/// What the keyword asks for with `rest` behind it.
-fn read_behind(
-    alloc: Global,
-    system: &System,
-    keyword: Keyword,
-    rest: &[u8],
-) -> Result<Option<Line>, AllocError>
-    ensures found { IfOk result (λ found.
-        MatchOption found
-        (AsksNothingBy system.now keyword rest.now) (λ said. AsksBy system.now keyword rest.now said)) }
-    ensures memory { OnErr result ((keyword ≡ keywords.Step) × MayBeChoice rest.now) }
-{
-    match keyword {
-        Keyword::Step => match read_choice(alloc, rest)? {
-            Some(choice) => Ok(asked(Command::Step(choice))),
-            None => Ok(None),
-        },
-        other => Ok(read_simple(system, other, rest)),
     }
 }
 

@@ -15,6 +15,7 @@ use locked_execution::Machine;
 use sharing_check::Checked;
 use std::alloc::Global;
 use std::mem;
+use typed::Typed;
 
 /// The system that the source and the stimulus describe, or the first fault of the first pass that refuses them: the
 /// source is cut, parsed and typed, then the stimulus is read, then the system is made, and then the rule on sharing is
@@ -24,6 +25,19 @@ pub fn accept(alloc: Global, source: &[u8], stimulus: &[u8]) -> Result<Checked, 
     ensures fault { IfErr result (λ fault. IsRefused source.now stimulus.now fault) }
 {
     Ok(front_end::accept(alloc, source, stimulus)?)
+}
+
+/// The same, with the typed source put into `left`: whoever ends behind this need not free it node by node.
+pub fn accept_leaving(
+    alloc: Global,
+    source: &[u8],
+    stimulus: &[u8],
+    left: &mut Option<Typed>,
+) -> Result<Checked, Fault>
+    ensures system { IfOk result (λ checked. AcceptedAs source.now stimulus.now checked) }
+    ensures fault { IfErr result (λ fault. IsRefused source.now stimulus.now fault) }
+{
+    Ok(front_end::accept_leaving(alloc, source, stimulus, left)?)
 }
 
 /// Answers the lines of `reader` on `writer`, over the system of source and stimulus.

@@ -98,7 +98,7 @@ pub(crate) fn push_event(
 }
 
 /// Takes the live event of this ticket, on which no other depends, out of the list.
-pub(crate) fn take_out(list: &mut LiveList, ticket: u64) -> Event
+pub(crate) fn take_out(list: &mut LiveList, ticket: u64) -> Boxed<Event>
     requires rising { IsRising list.old.live }
     requires linked { Linked list.old.live list.old.links }
     requires live { IsLive list.old.live ticket }
@@ -109,5 +109,5 @@ pub(crate) fn take_out(list: &mut LiveList, ticket: u64) -> Event
 {
     let kept = list.take(ticket);
     unlink_all(list, kept.links.leads.as_slice(), ticket);
-    kept.event.into_inner()
+    kept.event
 }

@@ -258,6 +258,17 @@ impl Live {
         ensures live { WithoutTickets (λ t. t ≡ ticket) self.old.live self.new.live }
         ensures marked { Without (λ t. t ≡ ticket) self.old.marked self.new.marked }
     {
+        self.take_boxed(ticket).into_inner()
+    }
+
+    /// The same, and the event stays where it lies on the heap.
+    pub fn take_boxed(&mut self, ticket: u64) -> Boxed<Event>
+        requires live { IsLive self.old.live ticket }
+        requires alone { NoDependent self.old.live ticket }
+        ensures event { LiveAt self.old.live ticket result }
+        ensures live { WithoutTickets (λ t. t ≡ ticket) self.old.live self.new.live }
+        ensures marked { Without (λ t. t ≡ ticket) self.old.marked self.new.marked }
+    {
         take_event(
             &mut self.list,
             &mut self.marks,

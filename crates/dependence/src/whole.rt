@@ -150,7 +150,7 @@ pub(crate) fn take_event(
     tables: &mut Tables,
     first: u64,
     ticket: u64,
-) -> Event
+) -> Boxed<Event>
     requires whole { IsWhole list.old.live list.old.links marks.old.items }
     requires lower { NoneLess list.old.live marks.old.items first }
     requires tabled { IsTabled list.old.live tables.old }
@@ -166,6 +166,6 @@ pub(crate) fn take_event(
 {
     remove_mark(list, marks, first, ticket);
     let event = take_out(list, ticket);
-    tables.remove(ticket, &event);
+    tables.remove(ticket, event.get());
     event
 }

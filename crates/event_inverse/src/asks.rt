@@ -1,32 +1,43 @@
 // What an event asks the tree for.
 ghost use Rattle.std.specs.Prelude.{◌≡◌};
-ghost use Rattle.std.specs.Option.{option_and_then};
-ghost use Rattle.runs.specs.Asking.{asked};
-ghost use Rattle.event_inverse.specs.internal.Moved.{placed};
+ghost use Rattle.event_inverse.specs.internal.Moved as moved;
 
 use runs::{Ask, Event, Kind};
 
-/// What an event asks for at its place, or at its two places.
-#[derive(Clone, Copy)]
-pub(crate) enum Asks {
-    Alone(Ask),
-    Together(Ask, Ask),
-}
-
-/// What the event asks for. `None` where an opening names no arm.
-pub(crate) fn asks_of(event: &Event) -> Option<Asks>
-    ensures { asked event.now ≡ option_and_then (placed event.now.first event.now.second) result }
+/// What an event of a kind with one place asks for.
+#[inline(always)]
+pub(crate) fn ask_alone(event: &Event) -> Ask
+    ensures { result ≡ moved.ask_alone event.now.kind event.now.arm }
 {
     match event.kind {
-        Kind::Assign => Some(Asks::Alone(Ask::Assign)),
-        Kind::Test => Some(Asks::Alone(Ask::Test(event.arm))),
-        Kind::Turn => Some(Asks::Alone(Ask::Turn)),
-        Kind::Meet => Some(Asks::Together(Ask::Send, Ask::Receive)),
-        Kind::Open => match event.arm {
-            Some(arm) => Some(Asks::Together(Ask::Hold, Ask::Open(arm, event.value))),
-            None => None,
-        },
-        Kind::Close => Some(Asks::Together(Ask::Release, Ask::Close)),
-        Kind::Sync => Some(Asks::Together(Ask::Sync, Ask::Sync)),
+        Kind::Assign => Ask::Assign,
+        Kind::Test => Ask::Test(event.arm),
+        _ => Ask::Turn,
+    }
+}
+
+/// What an event of a kind with two places asks for at the first.
+#[inline(always)]
+pub(crate) fn ask_first(kind: Kind) -> Ask
+    ensures { result ≡ moved.ask_first kind }
+{
+    match kind {
+        Kind::Meet => Ask::Send,
+        Kind::Open => Ask::Hold,
+        Kind::Close => Ask::Release,
+        _ => Ask::Sync,
+    }
+}
+
+/// And at the second. An opening names an arm.
+#[inline(always)]
+pub(crate) fn ask_second(event: &Event) -> Ask
+    ensures { result ≡ moved.ask_second event.now.kind event.now.arm event.now.value }
+{
+    match (event.kind, event.arm) {
+        (Kind::Meet, _) => Ask::Receive,
+        (Kind::Open, Some(arm)) => Ask::Open(arm, event.value),
+        (Kind::Close, _) => Ask::Close,
+        _ => Ask::Sync,
     }
 }

@@ -4,7 +4,7 @@ ghost use Rattle.std.specs.Option.{option_map};
 ghost use Rattle.system.specs.Expression.{get};
 ghost use Rattle.runs.specs.Events.{store_after, written_by};
 ghost use Rattle.event_inverse.specs.Grown.{applied};
-ghost use Rattle.event_inverse.specs.View.{both_view, record_view};
+ghost use Rattle.event_inverse.specs.View.{both_view, inverse_view, record_view};
 ghost use Rattle.event_inverse.specs.internal.Reverted.{reverted};
 
 use crate::moves::make;
@@ -32,14 +32,38 @@ pub fn apply(
         reverted (both_view tree.new store.new) event (record_view r).1 ≡ Some (both_view tree.old store.old)) }
     ensures without_memory { OnErr result (both_view tree.new store.new ≡ both_view tree.old store.old) }
 {
-    match make(alloc, tree, &event) {
+    match apply_by(alloc, tree, store, &event) {
+        Ok(inverse) => Ok(Record { event, inverse }),
+        Err(error) => Err(error),
+    }
+}
+
+/// Makes the event, which stays where it is, on the tree and the store. The inverse takes it back (`invert_by`), now or
+/// later.
+///
+/// Without memory nothing is changed.
+pub fn apply_by(
+    alloc: Global,
+    tree: &mut Tree,
+    store: &mut Store,
+    event: &Event,
+) -> Result<Inverse, AllocError>
+    requires possible { IsSome (applied (both_view tree.old store.old) event.now) }
+    ensures made { IfOk result (λ inverse.
+        applied (both_view tree.old store.old) event.now
+        ≡ Some (both_view tree.new store.new, inverse_view inverse)) }
+    ensures back { IfOk result (λ inverse.
+        reverted (both_view tree.new store.new) event.now (inverse_view inverse)
+        ≡ Some (both_view tree.old store.old)) }
+    ensures without_memory { OnErr result (both_view tree.new store.new ≡ both_view tree.old store.old) }
+{
+    match make(alloc, tree, event) {
         Ok(removed) => {
-            let overwritten = write(store, &event);
-            let inverse = Inverse {
+            let overwritten = write(store, event);
+            Ok(Inverse {
                 removed,
                 overwritten,
-            };
-            Ok(Record { event, inverse })
+            })
         }
         Err(error) => Err(error),
     }

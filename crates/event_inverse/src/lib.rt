@@ -9,7 +9,7 @@ mod moves;
 mod record;
 
 pub use backward::{invert, invert_by};
-pub use forward::apply;
+pub use forward::{apply, apply_by};
 pub use laws::{
     neighbours_keep_records, orders_have_one_tree, records_revert, runs_have_trees,
     steps_are_applied, undone_by_records,

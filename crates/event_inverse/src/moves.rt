@@ -5,11 +5,11 @@ ghost use Rattle.event_inverse.specs.Grown.{all_advanced};
 ghost use Rattle.event_inverse.specs.View.{removed_view};
 ghost use Rattle.event_inverse.specs.internal.Moved.{moved, moved_back, both_back};
 
-use crate::asks::{Asks, asks_of};
+use crate::asks::{ask_alone, ask_first, ask_second};
 use crate::record::Removed;
 use address::Entry;
 use process_tree::{Proc, Tree};
-use runs::{Ask, Event};
+use runs::{Ask, Event, Kind};
 use std::alloc::{AllocError, Global};
 
 /// Makes the moves that the event asks for. Without memory none is made.
@@ -19,20 +19,21 @@ pub(crate) fn make(alloc: Global, tree: &mut Tree, event: &Event) -> Result<Remo
         moved (tree_view tree.old) event.now ≡ Some (tree_view tree.new, removed_view removed)) }
     ensures without_memory { OnErr result (tree_view tree.new ≡ tree_view tree.old) }
 {
-    match asks_of(event) {
-        Some(Asks::Alone(ask)) => make_one(alloc, tree, event.first.entries(), ask),
-        Some(Asks::Together(first, second)) => match &event.second {
+    match event.kind {
+        Kind::Assign | Kind::Test | Kind::Turn => {
+            make_one(alloc, tree, event.first.entries(), ask_alone(event))
+        }
+        Kind::Meet | Kind::Open | Kind::Close | Kind::Sync => match &event.second {
             Some(place) => make_two(
                 alloc,
                 tree,
                 event.first.entries(),
-                first,
+                ask_first(event.kind),
                 place.entries(),
-                second,
+                ask_second(event),
             ),
             None => unreachable!(),
         },
-        None => unreachable!(),
     }
 }
 
@@ -81,19 +82,19 @@ fn make_two(
     }
 }
 
-/// Takes the moves of the event back, the last first, and puts what they took out where it was.
+/// Takes the moves of the event back, the last first, and puts what they took out where it was. What they took out tells
+/// how many they were.
 pub(crate) fn take_back(tree: &mut Tree, event: &Event, removed: Removed)
     requires { IsSome (moved_back (tree_view tree.old) event.now (removed_view removed)) }
     ensures { moved_back (tree_view tree.old) event.now (removed_view removed) ≡ Some (tree_view tree.new) }
 {
     let first = event.first.entries();
-    match (asks_of(event), removed) {
-        (Some(Asks::Alone(_)), Removed::One(out)) => tree.retreat(first, out),
-        (Some(Asks::Together(_, _)), Removed::Two(out, other)) => match &event.second {
+    match removed {
+        Removed::One(out) => tree.retreat(first, out),
+        Removed::Two(out, other) => match &event.second {
             Some(second) => take_two_back(tree, first, out, second.entries(), other),
             None => unreachable!(),
         },
-        _ => unreachable!(),
     }
 }
 

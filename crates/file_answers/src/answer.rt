@@ -28,9 +28,10 @@ pub fn check<F: Files, O: Write>(
         (CheckRefuses (F.holds from.now.files.now) file.now (kept_of texts.new))
         (used O.contents out.old out.new) result }
 {
-    let checked = accepted_source(from, file, texts)?;
-    // The process ends behind this answer: to free the system node by node would only take time.
-    mem::forget(checked);
+    let mut left = None;
+    let checked = accepted_source(from, file, texts, &mut left)?;
+    // The process ends behind this answer: to free system and typed source node by node would only take time.
+    mem::forget((checked, left));
     write_out(out, b"accepted\n")
 }
 

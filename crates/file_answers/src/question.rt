@@ -41,7 +41,7 @@ pub fn outline_file<F: Files, O: Write>(
         (CheckRefuses (F.holds from.now.files.now) file.now (kept_of texts.new))
         (used O.contents out.old out.new) result }
 {
-    let checked = accepted_source(from, file, texts)?;
+    let checked = accepted_source(from, file, texts, &mut None)?;
     let text = outline_text(from.alloc, &checked, texts.source.as_slice())?;
     write_out(out, text.as_slice())
 }

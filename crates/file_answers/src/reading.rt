@@ -7,8 +7,9 @@ ghost use Rattle.file_answers.specs.internal.Answers.{RunHad, RunNotHad, SourceG
 
 use crate::files::{Files, Source};
 use crate::texts::{Names, Part, Texts};
-use debug_session::{Fault, accept};
+use debug_session::{Fault, accept, accept_leaving};
 use sharing_check::Checked;
+use typed::Typed;
 
 /// Keeps what the description of this name holds.
 fn read_source<F: Files>(from: &Source<'_, F>, file: &str, texts: &mut Texts) -> Result<(), Fault>
@@ -21,17 +22,18 @@ fn read_source<F: Files>(from: &Source<'_, F>, file: &str, texts: &mut Texts) ->
     Ok(())
 }
 
-/// The system that the description of this name describes without a stimulus.
+/// The system that the description of this name describes without a stimulus. Its typed source is put into `left`.
 pub fn accepted_source<F: Files>(
     from: &Source<'_, F>,
     file: &str,
     texts: &mut Texts,
+    left: &mut Option<Typed>,
 ) -> Result<Checked, Fault>
     ensures { MatchResult result (SourceGives (F.holds from.now.files.now) file.now texts.new.source.items)
         (CheckRefuses (F.holds from.now.files.now) file.now (kept_of texts.new)) }
 {
     read_source(from, file, texts)?;
-    accept(from.alloc, texts.source.as_slice(), b"")
+    accept_leaving(from.alloc, texts.source.as_slice(), b"", left)
 }
 
 /// Keeps what the files of these names hold, of which that of the stimulus is read behind that of the source.

@@ -30,6 +30,22 @@ pub fn accept(alloc: Global, source: &[u8], stimulus: &[u8]) -> Result<Checked, 
     ensures system { IfOk result (λ checked. AcceptedAs source.now stimulus.now checked) }
     ensures fault { IfErr result (λ fault. IsRefused source.now stimulus.now fault) }
 {
+    let mut left = None;
+    accept_leaving(alloc, source, stimulus, &mut left)
+}
+
+/// The same, with the typed source put into `left`: whoever ends behind this need not free it node by node.
+pub fn accept_leaving(
+    alloc: Global,
+    source: &[u8],
+    stimulus: &[u8],
+    left: &mut Option<Typed>,
+) -> Result<Checked, Fault>
+    ensures system { IfOk result (λ checked. AcceptedAs source.now stimulus.now checked) }
+    ensures fault { IfErr result (λ fault. IsRefused source.now stimulus.now fault) }
+{
     let typed = typed_source(alloc, source)?;
-    checked(alloc, &typed, stimulus)
+    let made = checked(alloc, &typed, stimulus);
+    *left = Some(typed);
+    made
 }

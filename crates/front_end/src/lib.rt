@@ -7,6 +7,6 @@ mod fault;
 mod laws;
 mod make;
 
-pub use acceptance::accept;
+pub use acceptance::{accept, accept_leaving};
 pub use fault::Fault;
 pub use laws::{names_are_distinct, system_is_small};

@@ -7,12 +7,12 @@ use Rattle.last_events.specs.LastEvents.{PutAt, Orderly}
 use Rattle.last_events.specs.declared.branch.Seat.{Seat}
 use Rattle.last_events.specs.declared.branch.Seat.TheVariants.{Event, Inner}
 use Rattle.last_events.specs.internal.Depths.{entries-append, entries-inner}
-use Rattle.last_events.specs.internal.Search.{AllLess, Splits}
+use Rattle.last_events.specs.internal.Search.{Splits}
 use Rattle.last_events.specs.internal.Seats.{Places, way_of, rest_of, ordered_of, AllOrdered, EndsAtBranch, IsWay, behind_way, seat_way, seat_places, flat, HasSeat, IsSound, IsBranch, IsMadeOf}
 use Rattle.last_events.specs.internal.Sizes.{entries_of}
 use Rattle.last_events.specs.internal.Walks.{Related, AddedLast, AddedInner, AddedFrom, IsGroup, IsNearer}
 use Rattle.last_events.proofs.LastLaws.{absent-inner, branch-taken, each-next, near-group, from-lesser, from-seat}
-use Rattle.last_events.proofs.ListLaws.{whole, get-at, map-take}
+use Rattle.last_events.proofs.ListLaws.{whole, get-at}
 use Rattle.last_events.proofs.SearchLaws.{length-places, in-at, some-is, none-some}
 use Rattle.last_events.proofs.SeatLaws.{Stands, stands-at, has-within, more-branch, more-put, split-low, split-high}
 use Rattle.last_events.proofs.WayLaws.{way-twice, event-way, way-and-rest, ordered-of-way}
@@ -84,17 +84,10 @@ module _ (ss xs ys after : List Seat) (w p a : List Entry) (i : ℕ) (s : Seat) 
       (subst (λ (zs : List Seat). PutAt (flat zs) a n (flat (take i ss ++ s ∷ drop i ss))) (whole i ss)
       (more-put (take i ss) (drop i ss) s a n parts made (split-low ss (way_of a) i splits) (split-high ss (way_of a) i h splits absent)))
 
-in-front : {X : Type 0} (n : ℕ) (xs : List X) (x : X) → In x (take n xs) → In x xs
+pub in-front : {X : Type 0} (n : ℕ) (xs : List X) (x : X) → In x (take n xs) → In x xs
 in-front zero xs x i = absurd i
 in-front (suc n) [] x i = absurd i
 in-front (suc n) (y ∷ xs) x i = elim i [ inl is ↦ inl is | inr later ↦ inr (in-front n xs x later) ]
-
--- what is in front of a way is less
-pub less-before : (ss xs before : List Seat) (w : List Entry) (i : ℕ) → xs ≡ ss → Splits (map seat_way xs) w i → before ≡ take i ss →
-    AllLess (map seat_way before) (length before) w
-less-before ss xs before w i same split is = λ a at.
-    split.below a (subst (λ (ys : List Seat). In a (take i (map seat_way ys))) (sym same)
-    (subst (λ (ps : List (List Entry)). In a ps) (ap (map seat_way) is ∙ map-take seat_way i ss) (in-front (length before) (map seat_way before) a at)))
 
 -- ---- walks
 get-dropped : (ss : List Seat) (i : ℕ) (d e : Seat) → i < length ss → get_or (drop i ss) 0 d ≡ get_or ss i e

@@ -1,10 +1,10 @@
 -- The last events before a place: of each branch of the parallel before it that has some.
-use Rattle.std.proofs.Common.{◌≡◌, ◌⊎◌, inl, inr, ℕ, suc, ◌<◌, ◌≤◌, Bool, true, false, cond, List, [], ◌∷◌, ◌++◌, append-nil, append_assoc, length, take, drop, map, Option, Some, None, refl, sym, ap, subst, ◌∙◌, true≢false, arith, Ordering, Less}
+use Rattle.std.proofs.Common.{◌≡◌, ◌⊎◌, inl, inr, ℕ, zero, suc, ◌<◌, ◌≤◌, Bool, true, false, cond, List, [], ◌∷◌, ◌++◌, append-nil, append_assoc, length, take, drop, map, Option, Some, None, slice_get, refl, sym, ap, subst, ◌∙◌, true≢false, arith, Ordering, Less}
 use Rattle.std.specs.Global.{Box}
 use Rattle.std.specs.Ordering.{is_eq}
 use Rattle.address.specs.declared.Entry.{Entry}
 use Rattle.address.specs.declared.Entry.TheVariants.{Ordered, Branch}
-use Rattle.address.specs.Places.{Before}
+use Rattle.address.specs.Places.{Before, Apart}
 use Rattle.address.specs.Order.{order_of}
 use Rattle.address.specs.internal.OrderLaws.{less-not-equal, greater-not-less}
 use Rattle.address.proofs.public.Places.{before-end, before-transitive, before-left, apart-left, before-irreflexive, tail-injective, ordered-injective, nil-not-cons}
@@ -18,7 +18,7 @@ use Rattle.last_events.specs.internal.Seats.{Places, way_of, rest_of, ordered_of
 use Rattle.last_events.specs.internal.Walks.{Related, Covered, AddedLast, AddedBefore, AddedInner, AddedLesser, AddedFrom, IsGroup, IsNearer}
 use Rattle.last_events.proofs.ForkLaws.{number-less, less-first, less-parts, less-rest, less-number}
 use Rattle.last_events.proofs.ListLaws.{in-left, in-right, in-either, every-in, every-left, every-right, whole, map-take, take-again, take-none, take-some, take-within, drop-either}
-use Rattle.last_events.proofs.SearchLaws.{none-some, length-places}
+use Rattle.last_events.proofs.SearchLaws.{none-some, some-is, length-places}
 use Rattle.last_events.proofs.SeatLaws.{is_key, key-is, first_of, look-here, look-behind, in-behind, less-differs, seat-ways, flat-ways, look-append, look-parts, look-seat, left-none, right-none, split-low, split-not-high, rising-left, rising-right, Stands, absent-way}
 use Rattle.last_events.proofs.WayLaws.{way-behind, rest-behind, way-and-rest, ordered-of-way, same-rest}
 
@@ -197,10 +197,17 @@ inner-last w es old new h added = record {
       );
 }
 
+-- what is before a place or apart from it stands in one tree with it
+pub in-tree : (b a : List Entry) → Before b a ⊎ Apart b a → OneTree b a
+in-tree b a h = elim h [ inl low ↦ inr (inl low) | inr apart ↦ inr (inr (inr apart)) ]
+
+outside-behind : (w b r : List Entry) → Before (w ++ b) (w ++ r) ⊎ Apart (w ++ b) (w ++ r) → Before b r ⊎ Apart b r
+outside-behind w b r h = elim h [ inl low ↦ inl ((before-left w b r).0 low) | inr apart ↦ inr ((apart-left w b r).0 apart) ]
+
 pub orderly-behind : (w : List Entry) (es : Places) (r : List Entry) → Orderly (behind_way w es) (w ++ r) → Orderly es r
 orderly-behind w es r orderly = record {
   inside = related-behind w es orderly.inside;
-  outside = λ b t at. tree-behind w b r (orderly.outside (w ++ b) t (behind-at w es b t at));
+  outside = λ b t at. outside-behind w b r (orderly.outside (w ++ b) t (behind-at w es b t at));
 }
 
 before-in : (w b r : List Entry) → b ≡ w ++ rest_of b → Before b (w ++ r) → Before (rest_of b) r
@@ -386,6 +393,19 @@ module _ (ss : List Seat) (last : Seat) (n : ℕ) (h : IsBranch ss) (related : R
           ];
         }
 
+-- the last one alone
+drop-last : (ss : List Seat) (n : ℕ) (s : Seat) → slice_get ss n ≡ Some s → length ss ≡ suc n → drop n ss ≡ s ∷ []
+drop-last [] n s at h = absurd (omega arith)
+drop-last (x ∷ []) zero s at h = ap (λ (y : Seat). y ∷ []) (some-is x s at)
+drop-last (x ∷ y ∷ ss) zero s at h = absurd (omega arith)
+drop-last (x ∷ ss) (suc n) s at h = let less : length ss ≡ suc n = omega arith in drop-last ss n s at less
+
+pub alone-last : (ss : List Seat) (n m : ℕ) (s : Seat) (old new : List ℕ) → slice_get ss m ≡ Some s → m ≡ n → length ss ≡ suc n → AddedLast (seat_places s) old new →
+    AddedLast (flat (drop n ss)) old new
+alone-last ss n m s old new at same long added =
+    subst (λ (xs : List Seat). AddedLast (flat xs) old new) (sym (drop-last ss n s (subst (λ (k : ℕ). slice_get ss k ≡ Some s) same at) long))
+    (subst (λ (es : Places). AddedLast es old new) (sym (append-nil (seat_places s))) added)
+
 -- ---- before a place
 some-first : (ss : List Seat) → 0 < length ss → (s : Seat) × In s ss
 some-first [] h = absurd (omega arith)
@@ -400,7 +420,7 @@ module _ (ss : List Seat) (a p : List Entry) (n : ℕ) (h : IsBranch ss) (orderl
       (subst (λ (q : List Entry). order_of (seat_way s.0) q ≡ Less) begins (split-low ss p n split s.0 s.1))
 
   lesser-before : (b : List Entry) (t : ℕ) → IsAt (flat (take n ss)) b t → Before b a
-  lesser-before b t at = less-before b a (lesser-way b t at) (orderly.outside b t (at-taken ss n b t at))
+  lesser-before b t at = less-before b a (lesser-way b t at) (in-tree b a (orderly.outside b t (at-taken ss n b t at)))
 
   -- and no other is
   lesser-in : (b : List Entry) (t : ℕ) → IsAt (flat ss) b t → order_of (way_of b) (ordered_of a) ≡ Less → IsAt (flat (take n ss)) b t
@@ -469,7 +489,7 @@ module _ (ss : List Seat) (i : ℕ) (s : Seat) (a : List Entry) (h : IsBranch ss
   pub orderly-seat : (v : List Entry) → v ≡ a → Orderly (flat ss) a → Orderly (seat_places s) v
   orderly-seat v is orderly = record {
     inside = λ b c t u at cu. orderly.inside b c t u (there b t at) (there c u cu);
-    outside = λ b t at. subst (λ (x : List Entry). OneTree b x) (sym is) (orderly.outside b t (there b t at));
+    outside = λ b t at. subst (λ (x : List Entry). Before b x ⊎ Apart b x) (sym is) (orderly.outside b t (there b t at));
   }
 
   -- what is before the place in the seat is all that takes the same way
@@ -551,7 +571,7 @@ split-more ps w p i n split under low = record {
   ];
 }
 
-less-ordered : (b a : List Entry) → order_of b (ordered_of a) ≡ Less → order_of b (way_of a) ≡ Less
+pub less-ordered : (b a : List Entry) → order_of b (ordered_of a) ≡ Less → order_of b (way_of a) ≡ Less
 less-ordered b [] h = h
 less-ordered b (Branch i ∷ a) h = absurd (not-under-none b h)
 less-ordered [] (Ordered i ∷ a) h = refl

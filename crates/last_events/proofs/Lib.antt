@@ -1,3 +1,4 @@
+mod BesideLaws
 mod ChildLaws
 mod CodeLaws
 mod ForkLaws

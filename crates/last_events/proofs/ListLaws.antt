@@ -114,6 +114,10 @@ pub on-ok : {A E P Q : Type 0} (r : Result A E) → (P → Q) → OnOk r P → O
 on-ok (Ok x) f h = f h
 on-ok (Err e) f h = tt
 
+pub ok-if : {A E P Q : Type 0} (r : Result A E) → (P → Q) → OnOk r P → IfOk r (λ x. Q)
+ok-if (Ok x) f h = f h
+ok-if (Err e) f h = tt
+
 pub err-on : {A E P Q : Type 0} (r : Result A E) → (P → Q) → OnErr r P → OnErr r Q
 err-on (Ok x) f h = tt
 err-on (Err e) f h = f h

@@ -23,13 +23,13 @@ in-at [] (suc m) a at = absurd (none-some a at)
 in-at (x ∷ ps) zero a at = inl (sym (some-is x a at))
 in-at (x ∷ ps) (suc m) a at = inr (in-at ps m a at)
 
-in-drop-at : (low m : ℕ) (ps : List (List Entry)) (a : List Entry) → low ≤ m → slice_get ps m ≡ Some a → In a (drop low ps)
+pub in-drop-at : (low m : ℕ) (ps : List (List Entry)) (a : List Entry) → low ≤ m → slice_get ps m ≡ Some a → In a (drop low ps)
 in-drop-at zero m ps a h at = in-at ps m a at
 in-drop-at (suc low) zero ps a h at = absurd (omega arith)
 in-drop-at (suc low) (suc m) [] a h at = absurd (none-some a at)
 in-drop-at (suc low) (suc m) (x ∷ ps) a h at = let less : low ≤ m = omega arith in in-drop-at low m ps a less at
 
-in-take-at : (high m : ℕ) (ps : List (List Entry)) (a : List Entry) → m < high → slice_get ps m ≡ Some a → In a (take high ps)
+pub in-take-at : (high m : ℕ) (ps : List (List Entry)) (a : List Entry) → m < high → slice_get ps m ≡ Some a → In a (take high ps)
 in-take-at zero m ps a h at = absurd (omega arith)
 in-take-at (suc high) zero [] a h at = absurd (none-some a at)
 in-take-at (suc high) zero (x ∷ ps) a h at = inl (sym (some-is x a at))

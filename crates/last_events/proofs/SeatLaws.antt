@@ -65,7 +65,7 @@ look-append a [] ys = refl
 look-append a (x ∷ xs) ys = first-step (is_key a x.0) x.1 (ticket_at (xs ++ ys) a) (ticket_at xs a) (ticket_at ys a) (look-append a xs ys)
 
 -- ---- behind a way
-order-behind : (w a b : List Entry) → order_of (w ++ a) (w ++ b) ≡ order_of a b
+pub order-behind : (w a b : List Entry) → order_of (w ++ a) (w ++ b) ≡ order_of a b
 order-behind [] a b = refl
 order-behind (x ∷ w) a b = ap (λ (o : Ordering). ordering_then o (order_of (w ++ a) (w ++ b))) (entry-itself x) ∙ order-behind w a b
 
@@ -195,7 +195,7 @@ rising-join (x ∷ xs) ys r q across = (
   rising-join xs ys r.1 q (λ s t i j. across s t (inr i) j),
 )
 
-same-rising : (xs ys : List Seat) (s t : Seat) → seat_way t ≡ seat_way s → map seat_way (xs ++ s ∷ ys) ≡ map seat_way (xs ++ t ∷ ys)
+pub same-rising : (xs ys : List Seat) (s t : Seat) → seat_way t ≡ seat_way s → map seat_way (xs ++ s ∷ ys) ≡ map seat_way (xs ++ t ∷ ys)
 same-rising [] ys s t is = ap (λ (w : List Entry). w ∷ map seat_way ys) (sym is)
 same-rising (x ∷ xs) ys s t is = ap (λ (ws : List (List Entry)). seat_way x ∷ ws) (same-rising xs ys s t is)
 

@@ -4,7 +4,7 @@ use Rattle.address.specs.declared.Entry.{Entry}
 use Rattle.address.specs.declared.Entry.TheVariants.{Ordered, Branch}
 use Rattle.address.proofs.public.Places.{head-injective, tail-injective, nil-not-cons, same-entry?}
 use Rattle.last_events.specs.internal.Forks.{is_ordered_entry}
-use Rattle.last_events.specs.internal.Seats.{way_of, rest_of, ordered_of, AllOrdered, EndsAtBranch, IsWay}
+use Rattle.last_events.specs.internal.Seats.{way_of, rest_of, ordered_of, number_of, AllOrdered, EndsAtBranch, IsWay}
 
 -- ---- what is a way
 pub ordered-way : (a : List Entry) → AllOrdered a → way_of a ≡ a
@@ -97,6 +97,27 @@ pub ordered-before : (w b : List Entry) (e : Entry) (i : ℕ) → IsWay w → w 
 ordered-before w b e i way is last =
     let parts : w ≡ b ++ Branch i ∷ [] = is ∙ ap (λ (x : Entry). b ++ x ∷ []) last in
     sym (ap ordered_of parts ∙ before-branch b i (subst IsWay parts way))
+
+-- ---- its branch number
+pub number-ordered : (w : List Entry) → AllOrdered w → number_of w ≡ 0
+number-ordered [] h = refl
+number-ordered (Ordered i ∷ w) h = number-ordered w h
+number-ordered (Branch i ∷ w) h = absurd h
+
+number-last : (b : List Entry) (i : ℕ) → IsWay (b ++ Branch i ∷ []) → number_of (b ++ Branch i ∷ []) ≡ i
+number-last [] i h = refl
+number-last (Ordered j ∷ b) i h = number-last b i (tail-injective (Ordered j) (Ordered j) (way_of (b ++ Branch i ∷ [])) (b ++ Branch i ∷ []) h)
+number-last (Branch j ∷ b) i h = absurd (ends-not b (Branch i) (tail-injective (Branch j) (Branch j) [] (b ++ Branch i ∷ []) h))
+
+pub number-whole : (w b : List Entry) (e : Entry) (i : ℕ) → IsWay w → w ≡ b ++ e ∷ [] → e ≡ Branch i → i ≡ number_of w
+number-whole w b e i way is last =
+    let parts : w ≡ b ++ Branch i ∷ [] = is ∙ ap (λ (x : Entry). b ++ x ∷ []) last in
+    sym (ap number_of parts ∙ number-last b i (subst IsWay parts way))
+
+pub branch-parts : (w : List Entry) → EndsAtBranch w → w ≡ ordered_of w ++ Branch (number_of w) ∷ []
+branch-parts [] h = absurd h
+branch-parts (Ordered i ∷ w) h = ap (λ (v : List Entry). Ordered i ∷ v) (branch-parts w h)
+branch-parts (Branch i ∷ w) h = ap (λ (v : List Entry). Branch i ∷ v) h
 
 -- ---- how long it is
 pub one-more : (a : List Entry) (n : ℕ) → AllOrdered (take n a) → is_ordered_entry (slice_get a n) ≡ true → AllOrdered (take (suc n) a)

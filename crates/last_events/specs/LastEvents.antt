@@ -40,10 +40,10 @@ pub record RemovedAt (old : PlaceTable) (a : List Entry) (new : PlaceTable) : Ty
 abbrev pub OneTree : List Entry → List Entry → Type 0
 OneTree a b = (a ≡ b) ⊎ Before a b ⊎ Before b a ⊎ Apart a b
 
--- each two places of the table stand so to one another, and each place of it to a
+-- each two places of the table stand so to one another, and each is before a or apart from it
 pub record Orderly (table : PlaceTable) (a : List Entry) : Type 0 where
   pub inside : (b c : List Entry) (t u : ℕ) → IsAt table b t → IsAt table c u → OneTree b c
-  pub outside : (b : List Entry) (t : ℕ) → IsAt table b t → OneTree b a
+  pub outside : (b : List Entry) (t : ℕ) → IsAt table b t → Before b a ⊎ Apart b a
 
 -- to the tickets `old` some were added, each of an event before the place a; and each other event before a is before
 -- the place of one of them

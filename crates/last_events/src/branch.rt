@@ -1,13 +1,13 @@
 // What stands in a branch, in the order of places, with what stands in the branches of its parallels. No place is
 // stored whole: events of one branch share the way to it.
-ghost use Rattle.std.specs.Prelude.{◌≡◌, ◌<◌, ◌-◌, ◌++◌, ◌∷◌, [], true, false, length, map, Some, slice_get, IfOk, OnOk, OnErr};
+ghost use Rattle.std.specs.Prelude.{◌≡◌, ◌<◌, ◌≤◌, ◌-◌, ◌++◌, ◌∷◌, [], true, false, length, take, drop, map, Some, slice_get, IfOk, OnOk, OnErr};
 ghost use Rattle.last_events.specs.LastEvents.{ticket_at, first_child, Orderly, PutAt, RemovedAt};
 ghost use Rattle.last_events.specs.internal.Search.{AllLess, Splits};
-ghost use Rattle.last_events.specs.internal.Seats.{AllOrdered, seat_way, seat_places, ordered_of, IsWay, flat, HasSeat, IsSound, IsBranch, IsMadeOf, FitsBehind, TakenAt};
-ghost use Rattle.last_events.specs.internal.Walks.{Related, AddedLast, AddedFrom, IsGroup, IsNearer};
+ghost use Rattle.last_events.specs.internal.Seats.{way_of, rest_of, AllOrdered, EndsAtBranch, seat_way, seat_places, ordered_of, number_of, IsWay, flat, HasSeat, IsSound, IsBranch, IsMadeOf, FitsBehind, TakenAt};
+ghost use Rattle.last_events.specs.internal.Walks.{Related, AddedLast, AddedFrom, AllBeside, IsGroup, IsGroupBegin, IsNearer, IsSorted};
 
 use crate::children::is_first_child;
-use crate::inserts::insert_at;
+use crate::inserts::{insert_at, push_last};
 use crate::search::{count_less, count_less_near};
 use crate::ways::{end_number, ends_at_branch, is_same, ordered, way_length};
 use address::{Address, Entry};
@@ -19,6 +19,8 @@ use std::marker::Model;
 #[derive(Drop)]
 pub(crate) struct BranchEvents {
     seats: Vec<Seat>,
+    /// so many stand before the parallel of the last one, or before the last one if that is an event
+    group: usize,
 }
 
 /// What stands in a branch behind a way from its beginning.
@@ -37,11 +39,13 @@ impl Model for BranchEvents {
 
     ghost Value = { List (List Entry × ℕ) };
 
-    ghost use Rattle.last_events.specs.internal.Seats.{flat, IsBranch};
+    ghost use Rattle.last_events.specs.internal.Seats.{flat};
 
     ghost view = { λ branch. flat branch.seats.items };
 
-    ghost invariant = { λ branch. IsBranch branch.seats.items };
+    ghost use Rattle.last_events.specs.internal.Walks.{IsSorted};
+
+    ghost invariant = { λ branch. IsSorted branch.seats.items branch.group };
 
     ghost use Rattle.last_events.specs.internal.Sizes.{entries_of};
 
@@ -49,7 +53,7 @@ impl Model for BranchEvents {
 
     ghost use Rattle.last_events.specs.internal.Depths.{depth_le-entries};
 
-    ghost size_decreases = { λ a h. depth_le-entries a.seats.items h };
+    ghost size_decreases = { λ a h. depth_le-entries a.seats.items h.branch };
 }
 
 impl BranchEvents {
@@ -59,6 +63,7 @@ impl BranchEvents {
     {
         BranchEvents {
             seats: Vec::new(alloc),
+            group: 0,
         }
     }
 
@@ -68,8 +73,8 @@ impl BranchEvents {
         ensures { IfOk result (λ made. made ≡ (place.now, ticket) ∷ []) }
     {
         let mut seats = Vec::with_capacity(alloc, 1)?;
-        seats.push(Seat::new(alloc, place, ticket)?)?;
-        Ok(BranchEvents { seats })
+        seats.push(Seat::new(alloc, place, way_length(place), ticket)?)?;
+        Ok(BranchEvents { seats, group: 0 })
     }
 
     /// Whether there are none.
@@ -97,7 +102,15 @@ impl BranchEvents {
         ensures found { OnOk result (AddedFrom (flat nearest.now) self.old place.now found.old.items found.new.items) }
         ensures refused { OnErr result (self.new ≡ self.old) }
     {
-        put_among(&mut self.seats, alloc, nearest, place, ticket, found)
+        put_among(
+            &mut self.seats,
+            &mut self.group,
+            alloc,
+            nearest,
+            place,
+            ticket,
+            found,
+        )
     }
 
     /// Takes out what stands at the place.
@@ -105,17 +118,20 @@ impl BranchEvents {
     pub(crate) fn remove(&mut self, place: &[Entry])
         ensures { RemovedAt self.old place.now self.new }
     {
-        remove_among(&mut self.seats, place);
+        remove_among(&mut self.seats, &mut self.group, place);
     }
 }
 
 impl Seat {
-    /// What stands where one event does.
+    /// What stands where one event does, whose way has so many entries.
     #[cycle(make)]
-    fn new(alloc: Global, place: &[Entry], ticket: u64) -> Result<Seat, AllocError>
+    fn new(alloc: Global, place: &[Entry], count: usize, ticket: u64) -> Result<Seat, AllocError>
+        requires within { count ≤ length place.now }
+        requires way { take count place.now ≡ way_of place.now }
+        requires rest { drop count place.now ≡ rest_of place.now }
         ensures { IfOk result (IsMadeOf place.now ticket) }
     {
-        let (way, rest) = place.split_at(way_length(place));
+        let (way, rest) = place.split_at(count);
         let held = Address::new(alloc, way)?;
         if !ends_at_branch(way) {
             return Ok(Seat::Event(held, ticket));
@@ -160,7 +176,7 @@ impl Seat {
     {
         match self {
             Seat::Event(_, held) => {
-                add_last_among(nearest, found)?;
+                add_nearest(nearest, found)?;
                 *held = ticket;
                 Ok(())
             }
@@ -190,69 +206,148 @@ impl Seat {
 #[cycle(put)]
 fn put_among(
     seats: &mut Vec<Seat>,
+    group: &mut usize,
     alloc: Global,
     nearest: &[Seat],
     place: &[Entry],
     ticket: u64,
     found: &mut Vec<u64>,
 ) -> Result<(), AllocError>
-    requires branch { IsBranch seats.old.items }
+    requires sorted { IsSorted seats.old.items group.old }
     requires nearest { IsGroup nearest.now }
     requires orderly { Orderly (flat seats.old.items) place.now }
-    ensures branch { IsBranch seats.new.items }
+    ensures sorted { IsSorted seats.new.items group.new }
     ensures put { OnOk result (PutAt (flat seats.old.items) place.now ticket (flat seats.new.items)) }
     ensures found { OnOk result
         (AddedFrom (flat nearest.now) (flat seats.old.items) place.now found.old.items found.new.items) }
     ensures refused { OnErr result (flat seats.new.items ≡ flat seats.old.items) }
 {
-    let (way, rest) = place.split_at(way_length(place));
-    let (index, is_there) = find_way(seats.as_slice(), way);
+    let count = way_length(place);
+    let (way, rest) = place.split_at(count);
+    let (lesser, index, is_there) = find_last(seats.as_slice(), *group, way);
     if is_there {
         let (before, behind) = seats.as_mut_slice().split_at_mut(index);
-        let nearer = nearer(before, way, nearest);
+        let nearer = nearer(before, way, lesser, nearest);
         return behind[0].put(alloc, nearer, rest, ticket, found);
     }
     let (before, _) = seats.as_slice().split_at(index);
-    add_last_among(nearer(before, way, nearest), found)?;
-    let seat = Seat::new(alloc, place, ticket)?;
+    add_nearest(nearer(before, way, lesser, nearest), found)?;
+    let seat = Seat::new(alloc, place, count, ticket)?;
     insert_at(seats, index, seat)?;
+    *group = lesser;
     Ok(())
 }
 
-/// Those of what stands before a way that stand before all branches beside it; where there are none, the nearest.
-fn nearer<'a>(before: &'a [Seat], way: &[Entry], nearest: &'a [Seat]) -> &'a [Seat]
-    requires branch { IsBranch before.now }
-    requires way { IsWay way.now }
-    requires less { AllLess (map seat_way before.now) (length before.now) way.now }
+/// Those of what stands before a way that stand before all branches beside it, which are so many; where there are none,
+/// the nearest.
+#[inline(always)]
+fn nearer<'a>(before: &'a [Seat], way: &[Entry], lesser: usize, nearest: &'a [Seat]) -> &'a [Seat]
+    requires { Splits (map seat_way before.now) (ordered_of way.now) lesser }
     ensures { IsNearer before.now (ordered_of way.now) nearest.now result.now }
 {
-    let count = count_lesser(before, way);
-    if count == 0 {
+    if lesser == 0 {
         return nearest;
     }
-    let (lesser, _) = before.split_at(count);
-    lesser
+    let (lesser_ones, _) = before.split_at(lesser);
+    lesser_ones
 }
 
-/// How many of those before a way stand before all branches beside it. Beside an event there are none.
-fn count_lesser(before: &[Seat], way: &[Entry]) -> usize
-    requires branch { IsBranch before.now }
+/// How many of these stand before all branches beside a way, behind how many it stands or would stand, and whether it
+/// does. None of these stands behind it, and `group` of them stand before the parallel of the last one.
+fn find_last(seats: &[Seat], group: usize, way: &[Entry]) -> (usize, usize, bool)
+    requires sorted { IsSorted seats.now group }
     requires way { IsWay way.now }
-    requires less { AllLess (map seat_way before.now) (length before.now) way.now }
-    ensures { Splits (map seat_way before.now) (ordered_of way.now) result }
+    requires beside { AllBeside seats.now (ordered_of way.now) }
+    requires event { AllOrdered way.now → AllLess (map seat_way seats.now) (length seats.now) way.now }
+    ensures lesser { Splits (map seat_way seats.now) (ordered_of way.now) result.0 }
+    ensures splits { Splits (map seat_way seats.now) way.now result.1 }
+    ensures yes { result.2 ≡ true → HasSeat seats.now result.1 way.now }
+    ensures no { result.2 ≡ false → HasSeat seats.now result.1 way.now → ⊥ }
 {
-    if ends_at_branch(way) {
-        count_less_near(before, ordered(way), likely_lesser(before))
-    } else {
-        before.len()
+    let count = seats.len();
+    let Some(last) = seats.last() else {
+        return (count, count, false);
+    };
+    match last {
+        Seat::Event(_, _) => (count, count, false),
+        Seat::Inner(own, _) => find_beside(seats, group, own.entries(), way),
+    }
+}
+
+/// The same where the last one is the events of a branch, behind this way. Mostly it is the one that is looked for, or
+/// another branch of its parallel.
+fn find_beside(seats: &[Seat], group: usize, last: &[Entry], way: &[Entry]) -> (usize, usize, bool)
+    requires sorted { IsSorted seats.now group }
+    requires last { HasSeat seats.now (length seats.now - 1) last.now }
+    requires ends { EndsAtBranch last.now }
+    requires way { IsWay way.now }
+    requires beside { AllBeside seats.now (ordered_of way.now) }
+    requires event { AllOrdered way.now → AllLess (map seat_way seats.now) (length seats.now) way.now }
+    ensures lesser { Splits (map seat_way seats.now) (ordered_of way.now) result.0 }
+    ensures splits { Splits (map seat_way seats.now) way.now result.1 }
+    ensures yes { result.2 ≡ true → HasSeat seats.now result.1 way.now }
+    ensures no { result.2 ≡ false → HasSeat seats.now result.1 way.now → ⊥ }
+{
+    let count = seats.len();
+    if is_same(last, way) {
+        return (group, count - 1, true);
+    }
+    if !ends_at_branch(way) {
+        return (count, count, false);
+    }
+    if !is_same(ordered(last), ordered(way)) {
+        return (count, count, false);
+    }
+    let (index, is_there) = find_branch(seats, group, way);
+    (group, index, is_there)
+}
+
+/// Behind how many of these the branch that ends the way stands or would stand, and whether it does. Behind the first
+/// `lesser` all are branches beside it. Each has its number at its end, and is looked for by that: so far before the
+/// last one as its number is less, if each between has events.
+fn find_branch(seats: &[Seat], lesser: usize, way: &[Entry]) -> (usize, bool)
+    requires branch { IsBranch seats.now }
+    requires way { IsWay way.now }
+    requires ends { EndsAtBranch way.now }
+    requires beside { AllBeside seats.now (ordered_of way.now) }
+    requires lesser { Splits (map seat_way seats.now) (ordered_of way.now) lesser }
+    requires some { lesser < length seats.now }
+    ensures splits { Splits (map seat_way seats.now) way.now result.0 }
+    ensures yes { result.1 ≡ true → HasSeat seats.now result.0 way.now }
+    ensures no { result.1 ≡ false → HasSeat seats.now result.0 way.now → ⊥ }
+{
+    let number = end_number(way);
+    let others = seats.len() - 1;
+    let last = number_at(seats, others);
+    if last < number {
+        return (seats.len(), false);
+    }
+    let likely = others.saturating_sub(last - number);
+    if likely >= lesser {
+        if number_at(seats, likely) == number {
+            return (likely, true);
+        }
+    }
+    find_way(seats, way)
+}
+
+/// The branch number at the end of the way at an index.
+#[inline(always)]
+fn number_at(seats: &[Seat], index: usize) -> usize
+    requires { IsBranch seats.now }
+    ensures { (s : Seat) → slice_get seats.now index ≡ Some s → result ≡ number_of (seat_way s) }
+{
+    match seats.get(index) {
+        Some(seat) => end_number(seat.way()),
+        None => 0,
     }
 }
 
 /// Takes out what stands at the place.
 #[cycle(remove)]
-fn remove_among(seats: &mut Vec<Seat>, place: &[Entry])
-    requires { IsBranch seats.old.items }
-    ensures branch { IsBranch seats.new.items }
+fn remove_among(seats: &mut Vec<Seat>, group: &mut usize, place: &[Entry])
+    requires { IsSorted seats.old.items group.old }
+    ensures sorted { IsSorted seats.new.items group.new }
     ensures removed { RemovedAt (flat seats.old.items) place.now (flat seats.new.items) }
 {
     let (way, rest) = place.split_at(way_length(place));
@@ -260,6 +355,7 @@ fn remove_among(seats: &mut Vec<Seat>, place: &[Entry])
     if is_there {
         if seats[index].remove(rest) {
             seats.remove(index);
+            *group = count_beside(seats.as_slice());
         }
     }
 }
@@ -312,7 +408,7 @@ impl BranchEvents {
         requires { Related self.now }
         ensures { IfOk result (λ _. AddedLast self.now found.old.items found.new.items) }
     {
-        add_last_among(self.seats.as_slice(), found)
+        add_last_among(self.seats.as_slice(), self.group, found)
     }
 
     /// The ticket of the event that stands at the first child of the place. It takes no memory.
@@ -333,38 +429,52 @@ impl Seat {
         ensures { IfOk result (λ _. AddedLast (seat_places self.now) found.old.items found.new.items) }
     {
         match self {
-            Seat::Event(_, ticket) => {
-                found.push(*ticket)?;
-                Ok(())
-            }
+            Seat::Event(_, ticket) => push_last(found, *ticket),
             Seat::Inner(_, inner) => inner.add_last(found),
         }
     }
 }
 
-/// Adds the last of these events: those of the last one's parallel, or the last one.
-#[cycle(last)]
-fn add_last_among(seats: &[Seat], found: &mut Vec<u64>) -> Result<(), AllocError>
+/// Adds the last of those that are nearest.
+fn add_nearest(seats: &[Seat], found: &mut Vec<u64>) -> Result<(), AllocError>
     requires branch { IsBranch seats.now }
+    requires related { Related (flat seats.now) }
+    ensures { IfOk result (λ _. AddedLast (flat seats.now) found.old.items found.new.items) }
+{
+    add_last_among(seats, count_beside(seats), found)
+}
+
+/// Adds the last of these events: those of the last one's parallel, before which so many stand, or the last one.
+#[cycle(last)]
+fn add_last_among(seats: &[Seat], group: usize, found: &mut Vec<u64>) -> Result<(), AllocError>
+    requires sorted { IsSorted seats.now group }
     requires related { Related (flat seats.now) }
     ensures { IfOk result (λ _. AddedLast (flat seats.now) found.old.items found.new.items) }
 {
     let Some(last) = seats.last() else {
         return Ok(());
     };
-    let (_, group) = seats.split_at(count_beside(seats, last));
-    add_each(group, found)
+    let others = seats.len() - 1;
+    if group == others {
+        return last.add_last(found);
+    }
+    let (_, together) = seats.split_at(group);
+    add_each(together, found)
 }
 
-/// How many of these stand before the last one and before the branches beside it. Beside an event there are none.
-fn count_beside(seats: &[Seat], last: &Seat) -> usize
-    requires branch { IsBranch seats.now }
-    requires last { slice_get seats.now (length seats.now - 1) ≡ Some last.now }
-    ensures { Splits (map seat_way seats.now) (ordered_of (seat_way last.now)) result }
+/// How many of these stand before the parallel of the last one, or before the last one if that is an event.
+fn count_beside(seats: &[Seat]) -> usize
+    requires { IsBranch seats.now }
+    ensures { IsGroupBegin (map seat_way seats.now) result }
 {
+    let Some(last) = seats.last() else {
+        return 0;
+    };
     match last {
         Seat::Event(_, _) => seats.len() - 1,
-        Seat::Inner(_, _) => count_less_near(seats, ordered(last.way()), likely_lesser(seats)),
+        Seat::Inner(way, _) => {
+            count_less_near(seats, ordered(way.entries()), likely_lesser(seats))
+        }
     }
 }
 

@@ -42,9 +42,11 @@ impl PlaceTable {
         self.events.at_first_child(place)
     }
 
-    /// Puts the event of this ticket at the place, where none stood, and adds the tickets of events that stand before
-    /// this place, so that each other place before it comes before the place of one of them. Without memory for it the
-    /// table is as before. It takes as many steps as there are such tickets and entries in the place, each by halves.
+    /// Puts the event of this ticket at the place, before which or apart from which all others are, and adds the
+    /// tickets of events that stand before this place, so that each other place before it comes before the place of
+    /// one of them. Without memory for it the table is as before. It takes as many steps as there are such tickets and
+    /// entries in the place: in each branch it comes last, or into the parallel at the end, whose branches are found
+    /// by their numbers.
     pub fn put(
         &mut self,
         place: &Address,

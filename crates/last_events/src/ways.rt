@@ -1,6 +1,6 @@
 // The way that a place takes in its branch.
 ghost use Rattle.std.specs.Prelude.{◌≡◌, ◌≤◌, ◌↔◌, length, take, drop, true, false, IsTrue};
-ghost use Rattle.last_events.specs.internal.Seats.{way_of, rest_of, ordered_of, AllOrdered, EndsAtBranch, IsWay};
+ghost use Rattle.last_events.specs.internal.Seats.{way_of, rest_of, ordered_of, number_of, AllOrdered, EndsAtBranch, IsWay};
 
 use crate::forks::is_ordered;
 use address::Entry;
@@ -55,10 +55,15 @@ pub(crate) fn ends_at_branch(way: &[Entry]) -> bool
 
 /// The branch number at the end of a way: of so many other branches it stands behind, if each has events.
 #[inline(always)]
-pub(crate) fn end_number(way: &[Entry]) -> usize {
-    match way.last() {
-        Some(Entry::Branch(number)) => *number as usize,
-        _ => 0,
+pub(crate) fn end_number(way: &[Entry]) -> usize
+    ensures { IsWay way.now → result ≡ number_of way.now }
+{
+    let Some((last, _)) = way.split_last() else {
+        return 0;
+    };
+    match last {
+        Entry::Branch(number) => *number as usize,
+        Entry::Ordered(_) => 0,
     }
 }
 

@@ -1,2 +1,3 @@
 pub mod public
 mod ChoiceLemmas
+mod DigitLemmas

@@ -1,13 +1,14 @@
 //! Lines of answers. Each function adds them behind what is there; without memory a part of them may be there.
 ghost use Rattle.std.specs.Prelude.{◌≡◌, ◌++◌, OnOk, codes};
+ghost use Rattle.std.specs.Fmt.{decimal};
 ghost use Rattle.line_text.specs.EventText.{field, event_text};
 ghost use Rattle.line_text.specs.AnswerText.{ending, numbered_text, entry_text, ready_line, live_line};
 ghost use Rattle.line_text.specs.AnswerText.{ready_text, consequences_text, live_text, valued_text, refusal_text};
 ghost use Rattle.line_text.specs.FieldText.{shown};
 
 use crate::event::add_event;
-use crate::field::Field;
-use crate::text::{add_byte, add_bytes, add_field, add_fields, add_line};
+use crate::field::{Field, add_field};
+use crate::text::{add_byte, add_bytes, add_marked, add_word, make_room};
 use runs::{Event, Refusal};
 use std::alloc::AllocError;
 use system::System;
@@ -19,7 +20,16 @@ const USUAL_LENGTH: usize = 96;
 pub fn add_numbered(out: &mut Vec<u8>, word: &[u8], number: u64) -> Result<(), AllocError>
     ensures { OnOk result (out.new.items ≡ out.old.items ++ numbered_text word.now number) }
 {
-    add_line(out, word, &[Field::Number(number)])
+    add_word(out, word)?;
+    end_with_number(out, number)
+}
+
+/// Adds a number at the end of a line.
+fn end_with_number(out: &mut Vec<u8>, number: u64) -> Result<(), AllocError>
+    ensures { OnOk result (out.new.items ≡ out.old.items ++ (field (decimal number) ++ ending)) }
+{
+    add_marked(out, b' ', number)?;
+    add_byte(out, b'\n')
 }
 
 /// Adds a line of a word, a ticket and an event.
@@ -32,16 +42,16 @@ pub fn add_entry(
 ) -> Result<(), AllocError>
     ensures { OnOk result (out.new.items ≡ out.old.items ++ entry_text system.now word.now ticket event.now) }
 {
-    out.reserve(USUAL_LENGTH)?;
-    add_fields(out, word, &[Field::Number(ticket)])?;
+    make_room(out, USUAL_LENGTH)?;
+    add_word(out, word)?;
+    add_marked(out, b' ', ticket)?;
     end_with_event(out, system, event)
 }
 
-/// Adds a space and an event at the end of a line.
+/// Adds an event at the end of a line.
 fn end_with_event(out: &mut Vec<u8>, system: &System, event: &Event) -> Result<(), AllocError>
     ensures { OnOk result (out.new.items ≡ out.old.items ++ (field (event_text system.now event.now) ++ ending)) }
 {
-    add_byte(out, b' ')?;
     add_event(out, system, event)?;
     add_byte(out, b'\n')
 }
@@ -71,7 +81,7 @@ pub fn add_consequences(out: &mut Vec<u8>, tickets: &[u64]) -> Result<(), AllocE
 {
     add_bytes(out, b"consequences")?;
     for ticket in tickets {
-        add_field(out, Field::Number(*ticket))?;
+        add_marked(out, b' ', *ticket)?;
     }
     add_bytes(out, b"\n")
 }
@@ -102,16 +112,22 @@ fn add_live_line(out: &mut Vec<u8>, system: &System, pair: &(u64, Event)) -> Res
 pub fn add_valued(out: &mut Vec<u8>, name: Field<'_>, bits: u64) -> Result<(), AllocError>
     ensures { OnOk result (out.new.items ≡ out.old.items ++ valued_text (shown name.entry) bits) }
 {
-    add_line(out, b"value", &[name, Field::Number(bits)])
+    add_word(out, b"value")?;
+    add_field(out, name)?;
+    end_with_number(out, bits)
 }
 
 /// Adds the line of a refusal.
 pub fn add_refusal(out: &mut Vec<u8>, why: Refusal) -> Result<(), AllocError>
     ensures { OnOk result (out.new.items ≡ out.old.items ++ (codes "refused" ++ refusal_text why ++ ending)) }
 {
-    let number = Field::Number(u64::from(why.number()));
+    add_word(out, b"refused")?;
+    let number = u64::from(why.number());
     match why {
-        Refusal::NeededBy(ticket) => add_line(out, b"refused", &[number, Field::Number(ticket)]),
-        _ => add_line(out, b"refused", &[number]),
+        Refusal::NeededBy(ticket) => {
+            add_marked(out, b' ', number)?;
+            end_with_number(out, ticket)
+        }
+        _ => end_with_number(out, number),
     }
 }

@@ -47,7 +47,14 @@ impl Keyword {
     pub fn read(text: &[u8]) -> Option<Keyword>
         ensures { MatchOption result (spec.SpellsNothing text.now) (λ keyword. spelling keyword ≡ text.now) }
     {
-        first_spelled(&ALL, text)
+        match text {
+            // What is asked most often is seen without a search.
+            [b's', b't', b'e', b'p'] => Some(Keyword::Step),
+            [b'u', b'n', b'd', b'o'] => Some(Keyword::Undo),
+            [b'r', b'e', b'a', b'd', b'y'] => Some(Keyword::Ready),
+            [b'b', b'r', b'a', b'n', b'c', b'h'] => Some(Keyword::Branch),
+            _ => first_spelled(&ALL, text),
+        }
     }
 
     fn spelling(self) -> &'static [u8]

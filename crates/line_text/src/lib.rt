@@ -3,6 +3,7 @@
 #![tactic(auto)]
 
 mod answer;
+mod digits;
 mod event;
 mod field;
 mod keyword;

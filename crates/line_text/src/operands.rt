@@ -78,6 +78,22 @@ pub fn read_choice(alloc: Global, rest: &[u8]) -> Result<Option<Choice>, AllocEr
     let Some(text) = behind_space(rest) else {
         return Ok(None);
     };
+    if text.is_empty() {
+        return Ok(None);
+    }
+    // Mostly no arm stands there, and then no byte of the place is looked at before it is read.
+    match address::read(alloc, text) {
+        Ok(Some(place)) => Ok(Some(Choice { place, arm: 0 })),
+        _ => read_parts(alloc, text),
+    }
+}
+
+/// The place and the arm, where they are not a place alone, or no memory was there to read it so.
+fn read_parts(alloc: Global, text: &[u8]) -> Result<Option<Choice>, AllocError>
+    ensures found { IfOk result (λ found.
+        MatchOption found (IsNoChoice (field text.now)) (λ choice. IsChoice choice (field text.now))) }
+    ensures memory { OnErr result (MayBeChoice (field text.now)) }
+{
     let (place, arm) = cut_at_space(text);
     let Some(arm) = read_arm(arm) else {
         return Ok(None);

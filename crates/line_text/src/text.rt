@@ -1,12 +1,10 @@
 //! Pieces of answers. Each function adds its text behind what is there; without memory a part of it may be there.
-ghost use Rattle.std.specs.Prelude.{◌≡◌, ◌<◌, ◌+◌, ◌/◌, ◌%◌, ◌∷◌, ◌++◌, [], OnOk};
-ghost use Rattle.std.specs.List.{flat_map};
+ghost use Rattle.std.specs.Prelude.{◌≡◌, ◌≤◌, ◌+◌, ◌∷◌, ◌++◌, [], OnOk};
 ghost use Rattle.std.specs.Fmt.{decimal};
+ghost use Rattle.std.specs.Vec.{vec_len, vec_capacity};
 ghost use Rattle.address.specs.Text.{entry_text, text_of};
-ghost use Rattle.line_text.specs.AnswerText.{ending};
-ghost use Rattle.line_text.specs.FieldText.{shown, spaced};
 
-use crate::field::Field;
+use crate::digits::{MOST_DIGITS, put_decimal};
 use address::{Address, Entry};
 use std::alloc::AllocError;
 
@@ -38,137 +36,77 @@ fn add_grown(out: &mut Vec<u8>, byte: u8) -> Result<(), AllocError>
     Ok(())
 }
 
+/// Makes room for so many more bytes. Nearly always there is room, and then nothing is asked of the allocator.
+#[inline(always)]
+pub(crate) fn make_room(out: &mut Vec<u8>, count: usize) -> Result<(), AllocError>
+    ensures items { out.new.items ≡ out.old.items }
+    ensures room { OnOk result (vec_len out.new + count ≤ vec_capacity out.new) }
+{
+    if count <= out.capacity() - out.len() {
+        return Ok(());
+    }
+    grow(out, count)
+}
+
+/// Makes room that is not there yet.
+#[inline(never)]
+fn grow(out: &mut Vec<u8>, count: usize) -> Result<(), AllocError>
+    ensures items { out.new.items ≡ out.old.items }
+    ensures room { OnOk result (vec_len out.new + count ≤ vec_capacity out.new) }
+{
+    out.reserve(count)
+}
+
 /// Adds the few bytes of a word.
+#[inline(always)]
 pub(crate) fn add_word(out: &mut Vec<u8>, word: &[u8]) -> Result<(), AllocError>
     ensures { OnOk result (out.new.items ≡ out.old.items ++ word.now) }
 {
+    make_room(out, word.len())?;
     for byte in word {
-        add_byte(out, *byte)?;
+        out.push_reserved(*byte);
     }
     Ok(())
 }
 
-/// Adds a number in decimal. Most numbers of places have one digit.
+/// Adds a number in decimal.
 pub fn add_decimal(out: &mut Vec<u8>, number: u64) -> Result<(), AllocError>
     ensures { OnOk result (out.new.items ≡ out.old.items ++ decimal number) }
 {
-    if number < 10 {
-        return add_digit(out, number);
-    }
-    add_digits(out, number)
+    make_room(out, MOST_DIGITS)?;
+    put_decimal(out, number);
+    Ok(())
 }
 
-/// Adds the digit of a number of one.
-#[tactic(auto, using(std::proofs::lemmas::Fmt::decimal_digit))]
-fn add_digit(out: &mut Vec<u8>, number: u64) -> Result<(), AllocError>
-    requires { number < 10 }
-    ensures { OnOk result (out.new.items ≡ out.old.items ++ decimal number) }
-{
-    add_byte(out, b'0' + number as u8)
-}
-
-/// Adds the digits of a number, two at a time.
-fn add_digits(out: &mut Vec<u8>, number: u64) -> Result<(), AllocError>
-    ensures { OnOk result (out.new.items ≡ out.old.items ++ decimal number) }
-{
-    if number < 10 {
-        return add_digit(out, number);
-    }
-    if number < 100 {
-        return add_pair(out, number);
-    }
-    add_digits(out, number / 100)?;
-    add_pair(out, number % 100)
-}
-
-/// Adds two digits.
-fn add_pair(out: &mut Vec<u8>, number: u64) -> Result<(), AllocError>
-    requires { number < 100 }
-    ensures { OnOk result (out.new.items ≡ out.old.items ++ (48 + number / 10) ∷ (48 + number % 10) ∷ []) }
-{
-    add_byte(out, b'0' + (number / 10) as u8)?;
-    add_byte(out, b'0' + (number % 10) as u8)
-}
-
-/// Adds a mark and a number.
-fn add_marked(out: &mut Vec<u8>, mark: u8, number: u32) -> Result<(), AllocError>
+/// Adds a mark and a number in decimal.
+#[inline(always)]
+pub(crate) fn add_marked(out: &mut Vec<u8>, mark: u8, number: u64) -> Result<(), AllocError>
     ensures { OnOk result (out.new.items ≡ out.old.items ++ (mark ∷ decimal number)) }
 {
-    add_byte(out, mark)?;
-    add_decimal(out, u64::from(number))
+    make_room(out, 1 + MOST_DIGITS)?;
+    out.push_reserved(mark);
+    put_decimal(out, number);
+    Ok(())
 }
 
-/// Adds an entry of a place.
-fn add_entry(out: &mut Vec<u8>, entry: Entry) -> Result<(), AllocError>
-    ensures { OnOk result (out.new.items ≡ out.old.items ++ entry_text entry) }
+/// The mark of an entry of a place, and its number.
+fn parts(entry: Entry) -> (u8, u32)
+    ensures { entry_text entry ≡ result.0 ∷ decimal result.1 }
 {
     match entry {
-        Entry::Ordered(number) => add_marked(out, b'.', number),
-        Entry::Branch(number) => add_marked(out, b'/', number),
+        Entry::Ordered(number) => (b'.', number),
+        Entry::Branch(number) => (b'/', number),
     }
 }
 
-/// Adds a place.
-fn add_place(out: &mut Vec<u8>, place: &Address) -> Result<(), AllocError>
+/// Adds the entries of a place.
+pub(crate) fn add_entries(out: &mut Vec<u8>, place: &Address) -> Result<(), AllocError>
     ensures { OnOk result (out.new.items ≡ out.old.items ++ text_of place.now) }
 {
     let entries = place.entries();
     for entry in entries {
-        add_entry(out, *entry)?;
+        let (mark, number) = parts(*entry);
+        add_marked(out, mark, u64::from(number))?;
     }
     Ok(())
-}
-
-/// Adds what stands in the field.
-fn add_shown(out: &mut Vec<u8>, field: Field<'_>) -> Result<(), AllocError>
-    ensures { OnOk result (out.new.items ≡ out.old.items ++ shown field.entry) }
-{
-    match field {
-        Field::Word(word) => add_word(out, word),
-        Field::Number(number) => add_decimal(out, number),
-        Field::Name(name) => name.write_to(out),
-        Field::Place(place) => add_place(out, place),
-    }
-}
-
-/// Adds a space and the field.
-pub(crate) fn add_field(out: &mut Vec<u8>, field: Field<'_>) -> Result<(), AllocError>
-    ensures { OnOk result (out.new.items ≡ out.old.items ++ spaced field.entry) }
-{
-    add_byte(out, b' ')?;
-    add_shown(out, field)
-}
-
-/// Adds each of the fields behind a space.
-fn add_each(out: &mut Vec<u8>, fields: &[Field<'_>]) -> Result<(), AllocError>
-    ensures { OnOk result (out.new.items ≡ out.old.items ++ flat_map spaced fields.now) }
-{
-    for field in fields {
-        add_field(out, *field)?;
-    }
-    Ok(())
-}
-
-/// Adds a word and fields.
-pub(crate) fn add_fields(
-    out: &mut Vec<u8>,
-    word: &[u8],
-    fields: &[Field<'_>],
-) -> Result<(), AllocError>
-    ensures { OnOk result (out.new.items ≡ out.old.items ++ (word.now ++ flat_map spaced fields.now)) }
-{
-    add_word(out, word)?;
-    add_each(out, fields)
-}
-
-/// Adds a line of a word and fields.
-pub(crate) fn add_line(
-    out: &mut Vec<u8>,
-    word: &[u8],
-    fields: &[Field<'_>],
-) -> Result<(), AllocError>
-    ensures { OnOk result (out.new.items ≡ out.old.items ++ (word.now ++ flat_map spaced fields.now ++ ending)) }
-{
-    add_fields(out, word, fields)?;
-    add_byte(out, b'\n')
 }

@@ -2,8 +2,10 @@ pub mod Begun
 pub mod Endings
 pub mod Exactly
 pub mod GoingDown
+pub mod Offering
 pub mod OneByOne
 pub mod Passing
 pub mod PlacedActions
+pub mod Sites
 pub mod Walked
 pub mod Walks

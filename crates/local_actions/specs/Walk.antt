@@ -3,7 +3,7 @@ use Rattle.std.specs.Prelude.{List, [], ◌∷◌, ◌++◌}
 use Rattle.address.specs.declared.Entry.{Entry}
 use Rattle.runs.specs.Moves.{Place}
 use Rattle.process_tree.specs.Remaining.{Received}
-use Rattle.local_actions.specs.declared.cursor.Arrived.{Arrived}
+use Rattle.local_actions.specs.declared.around.Arrived.{Arrived}
 use Rattle.local_actions.specs.declared.action.ActionKind.{ActionKind}
 use Rattle.local_actions.specs.declared.action.LocalAction.{LocalAction}
 

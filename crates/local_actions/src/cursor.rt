@@ -1,48 +1,36 @@
 // Where a walk through a tree is, and what it has found.
-ghost use Rattle.std.specs.Prelude.{◌≡◌, [], ◌∷◌, ◌^◌, ◌≤◌, false, length, IfOk, OnOk, OnErr};
-ghost use Rattle.system.specs.Translation.{expression_of, decision_of};
+ghost use Rattle.std.specs.Prelude.{◌≡◌, [], ◌∷◌, ◌^◌, ◌≤◌, length, IfOk, OnOk, OnErr};
 ghost use Rattle.process_tree.specs.Remaining.{with_value};
-ghost use Rattle.process_tree.specs.internal.Received.{puts_value, puts_decision};
 ghost use Rattle.local_actions.specs.Walk.{action_at, added, down, up, within_arm, outside};
-ghost use Rattle.local_actions.specs.internal.Walk.{put_each, put_each_decision};
 
 use crate::action::{ActionKind, LocalAction};
+use crate::around::Around;
 use address::{Address, Entry};
 use smallvec::SmallVec;
 use std::alloc::{AllocError, Global};
 use std::marker::Model;
 use syntax::Items;
-use system::{Decision, Expression};
 use value::Value;
 
 /// So many entries of a place take no memory of their own.
 const INLINE: usize = 8;
 
-/// What an arm received when it opened on its channel.
-#[derive(Clone, Copy)]
-pub struct Arrived {
-    pub channel: u32,
-    pub value: Value,
-}
-
 /// A place in a tree, what was received in the arms around it, and the actions found so far.
 #[derive(Drop)]
 pub struct Cursor {
     entries: SmallVec<Entry, INLINE>,
-    /// the outermost first
-    arrived: Items<Arrived>,
+    around: Around,
     found: Items<LocalAction>,
 }
 
 impl Model for Cursor {
-    ghost use Rattle.std.specs.Prelude.{[]};
-    ghost use Rattle.local_actions.specs.Walk.{Walk, received_onto};
+    ghost use Rattle.local_actions.specs.Walk.{Walk};
 
     ghost Value = { Walk };
 
     ghost view = { λ a. record {
       place = a.entries.items;
-      received = received_onto [] a.arrived;
+      received = a.around;
       actions = a.found;
     } };
 }
@@ -54,20 +42,28 @@ impl Cursor {
     {
         Cursor {
             entries: SmallVec::new(alloc),
-            arrived: Items::new(alloc),
+            around: Around::new(alloc),
             found: Items::new(alloc),
         }
     }
 
-    /// The same, with room for the entries of this place. It is an error if there is no memory.
-    pub(crate) fn along(alloc: Global, place: &[Entry]) -> Result<Cursor, AllocError>
-        ensures { IfOk result (λ made. made ≡ record { place = []; received = []; actions = [] }) }
+    /// This place, with what was received in the arms around it, and nothing found. It is an error if there is no memory.
+    pub(crate) fn at(alloc: Global, place: &[Entry], around: Around) -> Result<Cursor, AllocError>
+        ensures { IfOk result (λ made.
+            made ≡ record { place = place.now; received = around; actions = [] }) }
     {
         Ok(Cursor {
-            entries: SmallVec::with_capacity(alloc, place.len())?,
-            arrived: Items::new(alloc),
+            entries: SmallVec::from_slice(alloc, place)?,
+            around,
             found: Items::new(alloc),
         })
+    }
+
+    /// What was received in the arms around the place.
+    pub(crate) fn around(&self) -> &Around
+        ensures { result.now ≡ self.now.received }
+    {
+        &self.around
     }
 
     /// What was found.
@@ -113,53 +109,17 @@ impl Cursor {
 
     /// Goes into an arm that opened on this channel, and received this if anything. It is an error if there is no
     /// memory.
-    #[tactic(auto, using(crate::proofs::public::Walks::received_last))]
     pub fn receive(&mut self, channel: u32, value: Option<Value>) -> Result<(), AllocError>
         ensures { OnOk result (self.new ≡ within_arm (with_value channel value self.old.received) self.old) }
     {
-        if let Some(value) = value {
-            self.arrived.push(Arrived { channel, value })?;
-        }
-        Ok(())
+        self.around.receive(channel, value)
     }
 
     /// Goes out of such an arm.
     pub fn forget(&mut self)
         ensures { self.new ≡ within_arm (outside self.old.received) self.old }
     {
-        self.arrived.pop();
-    }
-
-    /// Whether something was received in an arm around the place.
-    pub(crate) fn has_received(&self) -> bool
-        ensures { result ≡ false → self.now.received ≡ [] }
-    {
-        !self.arrived.is_empty()
-    }
-
-    /// The expression with what was received in place of its names. It is an error if there is no memory.
-    #[tactic(auto, using(crate::proofs::public::Walks::put_each_is))]
-    pub(crate) fn with_received(
-        &self,
-        alloc: Global,
-        expression: &Expression,
-    ) -> Result<Expression, AllocError>
-        ensures { IfOk result (λ made.
-            expression_of made ≡ puts_value self.now.received (expression_of expression.now)) }
-    {
-        put_in(alloc, expression, self.arrived.as_slice())
-    }
-
-    /// The test with what was received in place of its names. It is an error if there is no memory.
-    #[tactic(auto, using(crate::proofs::public::Walks::put_each_decision_is))]
-    pub(crate) fn decision_with_received(
-        &self,
-        alloc: Global,
-        decision: &Decision,
-    ) -> Result<Decision, AllocError>
-        ensures { IfOk result (λ made. decision_of made ≡ puts_decision self.now.received (decision_of decision.now)) }
-    {
-        put_in_decision(alloc, decision, self.arrived.as_slice())
+        self.around.forget();
     }
 
     /// Adds an action at the place itself. It is an error if there is no memory; then none is added.
@@ -179,36 +139,6 @@ impl Cursor {
         let place = Address::below(alloc, self.entries.as_slice(), last)?;
         self.found.push(LocalAction { place, action })
     }
-}
-
-/// The expression with each of the values put for the name of its channel.
-fn put_in(
-    alloc: Global,
-    expression: &Expression,
-    arrived: &[Arrived],
-) -> Result<Expression, AllocError>
-    ensures { IfOk result (λ made. expression_of made ≡ put_each arrived.now (expression_of expression.now)) }
-{
-    let mut made = expression.copy(alloc)?;
-    for one in arrived {
-        made = made.with_received(alloc, one.channel, one.value)?;
-    }
-    Ok(made)
-}
-
-/// The test with each of the values put for the name of its channel.
-fn put_in_decision(
-    alloc: Global,
-    decision: &Decision,
-    arrived: &[Arrived],
-) -> Result<Decision, AllocError>
-    ensures { IfOk result (λ made. decision_of made ≡ put_each_decision arrived.now (decision_of decision.now)) }
-{
-    let mut made = decision.copy(alloc)?;
-    for one in arrived {
-        made = made.with_received(alloc, one.channel, one.value)?;
-    }
-    Ok(made)
 }
 
 /// The number as one of a place or arm.

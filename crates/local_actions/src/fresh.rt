@@ -33,7 +33,7 @@ pub(crate) fn list_fresh(
         Code::Once(once) => list_once(alloc, once.get(), values, cursor)?,
         Code::Sender(sender) => list_sender(alloc, sender.get(), values, cursor)?,
         Code::Repeat(repeat) => list_again(alloc, &repeat.get().guard, 0, values, cursor)?,
-        Code::Decide(decide) => list_test(alloc, &decide.get().decision, 0, values, cursor)?,
+        Code::Decide(decide) => list_test(alloc, &decide.get().decision, values, cursor)?,
         Code::Await(waiting) => list_arms(alloc, waiting.get().channels.as_slice(), cursor)?,
         Code::InTurn(row) => {
             return list_fresh_from(alloc, row.get().codes.as_slice(), 0, values, cursor);

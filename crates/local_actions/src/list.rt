@@ -98,7 +98,7 @@ fn list_phase(
 
 /// Lists what a loop offers. Whether it has ended.
 #[cycle(list)]
-pub(crate) fn list_loop(
+fn list_loop(
     alloc: Global,
     turns: &Turns,
     repeat: &Repeat,
@@ -155,7 +155,7 @@ fn list_turn(
 
 /// Lists what an `if` or `case` offers. Whether it is finished.
 #[cycle(list)]
-pub(crate) fn list_tested(
+fn list_tested(
     alloc: Global,
     tested: &Tested,
     decide: &Decide,
@@ -171,7 +171,7 @@ pub(crate) fn list_tested(
 {
     match tested {
         Tested::Untested => {
-            list_test(alloc, &decide.decision, 0, values, cursor)?;
+            list_test(alloc, &decide.decision, values, cursor)?;
             Ok(false)
         }
         Tested::Skipped => Ok(true),
@@ -181,7 +181,7 @@ pub(crate) fn list_tested(
 
 /// Lists what arms offer that wait on their channels. Whether one has been closed.
 #[cycle(list)]
-pub(crate) fn list_gate(
+fn list_gate(
     alloc: Global,
     gate: &Gate,
     waiting: &Await,

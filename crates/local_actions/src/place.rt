@@ -1,9 +1,8 @@
 // The first step of a place, and what is below one.
-ghost use Rattle.std.specs.Prelude.{◌≡◌, ℕ, ◌∷◌, MatchOption};
+ghost use Rattle.std.specs.Prelude.{◌≡◌, ℕ, [], ◌∷◌, MatchOption};
 ghost use Rattle.address.specs.declared.Entry.TheVariants.{Ordered as IsOrdered, Branch as IsBranch};
 ghost use Rattle.runs.specs.Moves.{Place};
-ghost use Rattle.runs.specs.Tests.{same_entry};
-ghost use Rattle.local_actions.specs.internal.At.{is_under};
+ghost use Rattle.runs.specs.Tests.{same_place};
 
 use address::Entry;
 
@@ -43,35 +42,12 @@ pub(crate) fn below_child(place: &[Entry], number: u64) -> Option<&[Entry]>
     None
 }
 
-/// Whether the second place is the first or below it.
-pub(crate) fn is_under(place: &[Entry], other: &[Entry]) -> bool
-    ensures { result ≡ is_under place.now other.now }
+/// Whether the place is that of this act.
+pub(crate) fn is_act(place: &[Entry], number: u64) -> bool
+    ensures { result ≡ same_place place.now (IsOrdered number ∷ []) }
 {
-    let Some((first, rest)) = place.split_first() else {
-        return true;
-    };
-    let Some((second, other_rest)) = other.split_first() else {
-        return false;
-    };
-    if is_same(*first, *second) {
-        is_under(rest, other_rest)
-    } else {
-        false
-    }
-}
-
-/// Whether the entries are the same.
-fn is_same(one: Entry, other: Entry) -> bool
-    ensures { result ≡ same_entry one other }
-{
-    match one {
-        Entry::Ordered(i) => match other {
-            Entry::Ordered(j) => i == j,
-            Entry::Branch(_) => false,
-        },
-        Entry::Branch(i) => match other {
-            Entry::Ordered(_) => false,
-            Entry::Branch(j) => i == j,
-        },
+    match below_child(place, number) {
+        Some(below) => below.is_empty(),
+        None => false,
     }
 }

@@ -146,20 +146,22 @@ first? test (e ∷ es) = pick (test e) refl (first? test es)
 
 -- a reply to a step in a branch
 abbrev Replied : AtMachine → ℕ → List ℕ → Type 0
-Replied h k breaks = (reply : BranchReply) × (h' : AtMachine) × (h'.checked ≡ h.checked) × StepsBranch h k breaks reply h'
+Replied h k breaks =
+    (reply : BranchReply) × (h' : AtMachine) × (h'.checked ≡ h.checked) × (h'.marked ≡ h.marked) × StepsBranch h k breaks reply h'
 
 -- an event that is chosen is taken or refused
 some-take : (h : AtMachine) (T : State) (e : Event) → Reaches (object h) T → Chosen T (choice_of e) e →
-    (reply : BranchReply) × (h' : AtMachine) × (h'.checked ≡ h.checked) × Takes h e reply h'
+    (reply : BranchReply) × (h' : AtMachine) × (h'.checked ≡ h.checked) × (h'.marked ≡ h.marked) × Takes h e reply h'
 some-take h T e r chosen =
     let can : CanStep (object h) (choice_of e) = (T, r, (e, chosen.allowed, chosen.choice)) in
     elim (cases_lt (length h.live) most_live) [
-      | inr full ↦ (Refused HistoryFull, h, refl, ((can, full), refl))
+      | inr full ↦ (Refused HistoryFull, h, refl, refl, ((can, full), refl))
       | inl room ↦ elim (cases_lt last_ticket h.next) [
-        | inl spent ↦ (Refused Spent, h, refl, ((can, room, spent), refl))
+        | inl spent ↦ (Refused Spent, h, refl, refl, ((can, room, spent), refl))
         | inr left ↦ (
           Stepped h.next e,
-          record { checked = h.checked; live = h.live ++ (h.next, e) ∷ []; next = suc h.next },
+          record { checked = h.checked; live = h.live ++ (h.next, e) ∷ []; next = suc h.next; marked = h.marked },
+          refl,
           refl,
           (refl, (refl, room, left, (T, r, chosen), refl)),
         )
@@ -176,6 +178,7 @@ some-back h k breaks T es r ready none = pick (line_of_first h (in_branch h k es
     told line reply is says = (
       reply,
       h,
+      refl,
       refl,
       back-branched h k breaks T es reply r ready none
           (subst (λ (o : Option ℕ). MatchOption o (reply ≡ Idle) (λ n. reply ≡ Stopped n)) (sym is) says),
@@ -194,5 +197,5 @@ some-branch h k breaks s =
       | inr none ↦ some-back h k breaks T ready.0 r ready.1 none
       | inl found ↦
           let takes = some-take h T found.1.0 r (moving-chosen h k breaks T ready.0 found.0 ready.1 found.1) in
-          (takes.0, takes.1, takes.2, taken-branched h takes.1 k breaks T ready.0 found.0 takes.0 r ready.1 found.1 takes.3)
+          (takes.0, takes.1, takes.2, takes.3, taken-branched h takes.1 k breaks T ready.0 found.0 takes.0 r ready.1 found.1 takes.4)
     ]

@@ -8,6 +8,7 @@ use Rattle.runs.specs.declared.command.Refusal.{Refusal}
 use Rattle.runs.specs.declared.command.Refusal.TheVariants.{Memory}
 use Rattle.machine.specs.AtMachine.{object}
 use Rattle.machine.specs.Branching.{StepsBranch}
+use Rattle.machine.specs.Marks.{marks_behind}
 use Rattle.machine.specs.declared.branch.BranchReply.{BranchReply}
 use Rattle.locked_execution.specs.AtDesk.{AtDesk, execution, breaks_of, with_breaks}
 use Rattle.locked_execution.specs.Performs.{Answers, execution_command, OnExecution, OnBranch, SetsBreak, ClearsBreak, session_reply, branch_reply}
@@ -90,11 +91,12 @@ clear-leaves-execution d d' session line reply (inr h) = absurd h.0
 refused : (d d' : AtDesk) (o : Option runs.Command) (why : Refusal) → MatchOption o ⊥ (λ c. OnExecution d c (Reply.Refused why) d')
     ⊎ (MatchOption o ⊥ (λ c. MayWantMemory (execution d) c) × (Reply.Refused why ≡ Reply.Refused Memory) × (d' ≡ d)) → d' ≡ d
 refused d d' None why (inl h) = absurd h
-refused d d' (Some c) why (inl h) = by_answer h.0 h.1 h.2
+refused d d' (Some c) why (inl h) = by_answer h.0 h.1 h.2 h.5
   where
-    by_answer : (answer : runs.Reply) → Reply.Refused why ≡ session_reply answer → Does (execution d) c answer (execution d') → d' ≡ d
-    by_answer (runs.Reply.Refused because) is does = all-same d d' h.3 (refused-leaves (execution d) (execution d') c because does) h.4
-    by_answer _ is does = cc
+    by_answer : (answer : runs.Reply) → Reply.Refused why ≡ session_reply answer → Does (execution d) c answer (execution d') →
+        d'.machine.marked ≡ marks_behind answer d.machine.marked → d' ≡ d
+    by_answer (runs.Reply.Refused because) is does marks = all-same d d' h.3 (refused-leaves (execution d) (execution d') c because does) h.4 marks
+    by_answer _ is does marks = cc
 refused d d' o why (inr h) = h.2
 
 -- and so does one of a step in a branch
@@ -102,7 +104,7 @@ branch-refused : (d d' : AtDesk) (session k : ℕ) (why : Refusal) → OnBranch 
 branch-refused d d' session k why h = by_answer h.0 h.1 h.2
   where
     by_answer : (answer : BranchReply) → Reply.Refused why ≡ branch_reply answer → StepsBranch d.machine k (breaks_of d session) answer d'.machine → d' ≡ d
-    by_answer (BranchReply.Refused because) is steps = all-same d d' h.3 (ap object steps.4.1) h.4
+    by_answer (BranchReply.Refused because) is steps = all-same d d' h.3 (ap object steps.4.1) h.4 h.5
     by_answer _ is steps = cc
 
 pub refusal-leaves-all : RefusalLeavesAll

@@ -9,6 +9,7 @@ use Rattle.runs.specs.declared.command.Refusal.{Refusal}
 use Rattle.runs.specs.declared.command.Refusal.TheVariants.{BreaksFull, NoSuchLine}
 use Rattle.runs.proofs.public.OneReplies.{one-reply}
 use Rattle.machine.specs.Breakpoints.{most_breaks}
+use Rattle.machine.specs.Marks.{marks_behind}
 use Rattle.locked_execution.specs.AtDesk.{AtDesk, execution, breaks_of}
 use Rattle.locked_execution.specs.Performs.{execution_command, OnExecution, OnBranch, RefusesBreak, SetsBreak, ClearsBreak, session_reply, branch_reply}
 use Rattle.locked_execution.specs.Replies.{OneReply}
@@ -26,13 +27,14 @@ on-execution : (d p q : AtDesk) (o : Option runs.Command) (reply other : Reply) 
 on-execution d p q None reply other s h g = absurd h
 on-execution d p q (Some c) reply other s h g =
     let one = one-reply (execution d) (execution p) (execution q) c h.0 g.0 s h.2 g.2 in
-    (h.1 ∙ ap session_reply one.0 ∙ sym g.1, all-same q p (h.3 ∙ sym g.3) one.1 (h.4 ∙ sym g.4))
+    let marks = h.5 ∙ ap (λ (r : runs.Reply). marks_behind r d.machine.marked) one.0 ∙ sym g.5 in
+    (h.1 ∙ ap session_reply one.0 ∙ sym g.1, all-same q p (h.3 ∙ sym g.3) one.1 (h.4 ∙ sym g.4) marks)
 
 on-branch : (d p q : AtDesk) (session k : ℕ) (reply other : Reply) → Sound (execution d) →
     OnBranch d session k reply p → OnBranch d session k other q → Same reply other p q
 on-branch d p q session k reply other s h g =
     let one = one-branch d.machine p.machine q.machine k (breaks_of d session) h.0 g.0 s h.2 g.2 in
-    (h.1 ∙ ap branch_reply one.0 ∙ sym g.1, all-same q p (h.3 ∙ sym g.3) one.1 (h.4 ∙ sym g.4))
+    (h.1 ∙ ap branch_reply one.0 ∙ sym g.1, all-same q p (h.3 ∙ sym g.3) one.1 (h.4 ∙ sym g.4) (h.5 ∙ sym g.5))
 
 -- a breakpoint is refused for one reason
 break-refusals : (d : AtDesk) (session line : ℕ) (why other : Refusal) → RefusesBreak d session line why → RefusesBreak d session line other → why ≡ other

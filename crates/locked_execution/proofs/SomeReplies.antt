@@ -13,6 +13,7 @@ use Rattle.runs.specs.declared.command.Refusal.TheVariants.{BreaksFull, NoSuchLi
 use Rattle.runs.proofs.public.Effects.{Effect, unchanged, added, taken, does-effect}
 use Rattle.runs.proofs.public.SomeReplies.{some-reply}
 use Rattle.machine.specs.Breakpoints.{most_breaks, with_line, without_line}
+use Rattle.machine.specs.Marks.{marks_behind}
 use Rattle.locked_execution.specs.AtDesk.{AtDesk, execution, breaks_of, with_breaks}
 use Rattle.locked_execution.specs.Performs.{Performs, execution_command, OnExecution, session_reply, branch_reply}
 use Rattle.locked_execution.specs.Replies.{SomeReply}
@@ -36,15 +37,16 @@ on-execution : (d : AtDesk) (o : Option runs.Command) → IsSome o → Sound (ex
 on-execution d None there s = absurd (cc)
 on-execution d (Some c) there s =
     let some = some-reply (execution d) c s in
-    let after : AtDesk = record { machine = record { checked = d.machine.checked; live = some.1.live; next = some.1.next }; breaks = d.breaks } in
+    let marks = marks_behind some.0 d.machine.marked in
+    let after : AtDesk = record { machine = record { checked = d.machine.checked; live = some.1.live; next = some.1.next; marked = marks }; breaks = d.breaks } in
     let begun : some.1.opening ≡ opening d.machine.checked = same-opening (execution d) some.1 (does-effect (execution d) c some.0 some.1 s some.2) in
     let one : some.1 ≡ execution after = (λ i. record { opening = begun i; live = some.1.live; next = some.1.next }) in
-    (session_reply some.0, after, (some.0, refl, subst (λ (o : Object). Does (execution d) c some.0 o) one some.2, refl, refl))
+    (session_reply some.0, after, (some.0, refl, subst (λ (o : Object). Does (execution d) c some.0 o) one some.2, refl, refl, refl))
 
 on-branch : (d : AtDesk) (session k : ℕ) → Sound (execution d) → Replied d session (Command.Branch k)
 on-branch d session k s =
     let some = some-branch d.machine k (breaks_of d session) s in
-    (branch_reply some.0, record { machine = some.1; breaks = d.breaks }, (some.0, refl, some.3, some.2, refl))
+    (branch_reply some.0, record { machine = some.1; breaks = d.breaks }, (some.0, refl, some.4, some.2, refl, some.3))
 
 -- the desk with a breakpoint of the session on the line
 abbrev set-there : AtDesk → ℕ → ℕ → AtDesk

@@ -91,7 +91,7 @@ module _ {D C R : Type 0} where
 
 -- workers with new passes of an execution of the system took their turns
 pub crew_ran : (system : System) (workers turns stepped live lost : ℕ) (table : TableId) (opening : AtDesk) (made : AtMachine) (before after : List (Pass AtDesk Command Reply))
-    → made ≡ record { checked = system; live = []; next = 1 } → opening ≡ new_desk made → NewPasses table opening workers before
+    → made ≡ record { checked = system; live = []; next = 1; marked = [] } → opening ≡ new_desk made → NewPasses table opening workers before
     → WorkersRan table opening Command.Branch (branch_count opening.machine.checked) turns is_step before after stepped lost
     → CountsLive opening after live → Worked system workers turns stepped live
 crew_ran system workers turns stepped live lost table opening made before after machine desk new ran lives =

@@ -2,7 +2,7 @@
 use Rattle.std.specs.Prelude.{◌≡◌, ◌↔◌, ℕ, ◌+◌, ◌<◌, List, [], ◌∷◌, ◌++◌, length, map, Some}
 use Rattle.syntax.specs.Lists.{In}
 use Rattle.system.specs.Expression.{get}
-use Rattle.sharing_check.specs.Rule.{SharesWell}
+use Rattle.sharing_rule.specs.Rule.{SharesWell}
 use Rattle.runs.specs.BackAndForth.{back_and_forth, back_and_forth_replies}
 use Rattle.runs.specs.Dependence.{Causes}
 use Rattle.runs.specs.InOrder.{InOrder}

@@ -8,6 +8,7 @@ use Rattle.runs.specs.declared.command.Refusal.{Refusal}
 use Rattle.runs.specs.declared.command.Refusal.TheVariants.{Memory, BreaksFull, NoSuchLine}
 use Rattle.machine.specs.Breakpoints.{most_breaks, with_line, without_line}
 use Rattle.machine.specs.Branching.{StepsBranch}
+use Rattle.machine.specs.Marks.{marks_behind}
 use Rattle.machine.specs.declared.branch.BranchReply.{BranchReply}
 use Rattle.locked_execution.specs.AtDesk.{AtDesk, execution, breaks_of, with_breaks}
 use Rattle.locked_execution.specs.declared.command.Command.{Command}
@@ -50,13 +51,14 @@ abbrev pub OnExecution : AtDesk → runs.Command → Reply → AtDesk → Type 0
 OnExecution d c reply d' =
     (answer : runs.Reply) × (reply ≡ session_reply answer) × calculus.Does (execution d) c answer (execution d')
     × (d'.machine.checked ≡ d.machine.checked) × (d'.breaks ≡ d.breaks)
+    × (d'.machine.marked ≡ marks_behind answer d.machine.marked)
 
--- a step in the branch, past the breakpoints of the session: no breakpoint changes
+-- a step in the branch, past the breakpoints of the session: no breakpoint changes, and no mark
 abbrev pub OnBranch : AtDesk → ℕ → ℕ → Reply → AtDesk → Type 0
 OnBranch d session k reply d' =
     (answer : BranchReply) × (reply ≡ branch_reply answer)
     × StepsBranch d.machine k (breaks_of d session) answer d'.machine
-    × (d'.machine.checked ≡ d.machine.checked) × (d'.breaks ≡ d.breaks)
+    × (d'.machine.checked ≡ d.machine.checked) × (d'.breaks ≡ d.breaks) × (d'.machine.marked ≡ d.machine.marked)
 
 -- why a session gets no breakpoint on a line: no command begins there; or it has none there yet, and as many as may be
 abbrev pub RefusesBreak : AtDesk → ℕ → ℕ → Refusal → Type 0

@@ -15,7 +15,7 @@ use Rattle.locked_execution.specs.declared.command.Reply.{Reply}
 
 -- an execution of the system before its first call, without breakpoints
 abbrev pub unstepped : System → AtDesk
-unstepped system = new_desk (record { checked = system; live = []; next = 1 })
+unstepped system = new_desk (record { checked = system; live = []; next = 1; marked = [] })
 
 -- so many workers took so many turns each, of which so many were steps: each had a new pass of one shared execution of
 -- the system, and these are the passes afterwards

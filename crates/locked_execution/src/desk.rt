@@ -1,5 +1,5 @@
 ghost use Rattle.std.specs.Prelude.{◌≡◌, ◌<◌, [], replicate};
-ghost use Rattle.sharing_check.specs.Rule.{SharesWell};
+ghost use Rattle.sharing_rule.specs.Rule.{SharesWell};
 ghost use Rattle.machine.specs.Headline.{Headline};
 ghost use Rattle.locked_execution.specs.AtDesk.{execution, OfSessions, new_desk, breaks_of, sessions};
 

@@ -79,6 +79,7 @@ fn step_past(machine: &mut Machine, sessions: &[Breaks; 16], session: u32, branc
     ensures answers { (answer : BranchReply) × (result ≡ performs.branch_reply answer)
         × AnswersBranch machine.old branch (slice_index_or sessions.now session []) answer machine.new }
     ensures system { machine.new.checked ≡ machine.old.checked }
+    ensures marked { machine.new.marked ≡ machine.old.marked }
 {
     branch_reply(machine.branch_step(branch, &sessions[session as usize]))
 }
@@ -124,11 +125,11 @@ fn blame_reply(told: Result<Ticket, Refusal>) -> Reply
 }
 
 /// What a session is told of the events that may be taken.
-fn ready_reply(told: Result<Items<Event>, Refusal>) -> Reply
+fn ready_reply(told: Result<Vec<Event>, Refusal>) -> Reply
     ensures { result ≡ performs.session_reply (results.ready_reply told) }
 {
     match told {
-        Ok(events) => Reply::Ready(events),
+        Ok(events) => Reply::Ready(Items::from_vec(events)),
         Err(why) => Reply::Refused(why),
     }
 }
@@ -144,11 +145,11 @@ fn consequences_reply(told: Result<Vec<Ticket>, Refusal>) -> Reply
 }
 
 /// What a session is told of the live events.
-fn live_reply(told: Result<Items<(Ticket, Event)>, Refusal>) -> Reply
+fn live_reply(told: Result<Vec<(Ticket, Event)>, Refusal>) -> Reply
     ensures { result ≡ performs.session_reply (results.live_reply told) }
 {
     match told {
-        Ok(entries) => Reply::Live(entries),
+        Ok(entries) => Reply::Live(Items::from_vec(entries)),
         Err(why) => Reply::Refused(why),
     }
 }

@@ -1,6 +1,7 @@
 -- What a step answers, from the state and the ready list.
 use Rattle.std.proofs.Common.{◌≡◌, inl, inr, ℕ, suc, ◌<◌, ◌≤◌, List, length, take, drop, Option, Some, None, Result, Ok, Err, refl, sym, ◌∙◌, ap, subst, slice_get}
-use Rattle.std.specs.Prelude.{IfOk, OnErr, IsSome, MatchOption, MatchResult}
+use Rattle.std.specs.Prelude.{IfOk, OnErr, IsSome, MatchOption, MatchResult, Vec}
+use Rattle.std.specs.Global.{Global}
 use Rattle.syntax.specs.Lists.{In}
 use Rattle.runs.specs.Steps.{State}
 use Rattle.runs.specs.Choices.{choice_of}
@@ -87,3 +88,9 @@ ok-told P why (Err x) told holds is = subst (λ t. IfOk t P) (sym is) tt
 pub on-error : {X E : Type 0} {P : Type 0} (r : Result X E) → P → OnErr r P
 on-error (Ok x) p = tt
 on-error (Err e) p = p
+
+-- what holds of a list that was told holds of its vector
+pub in-vec : {A E : Type 0} (P : List A → Type 0) (told : Result (List A) E) (made : Result (Vec A Global) E) → IfOk told P →
+    IfOk made (λ v. told ≡ Ok v.items) → IfOk made (λ v. P v.items)
+in-vec P told (Ok v) holds is = subst (λ t. IfOk t P) is holds
+in-vec P told (Err e) holds is = tt

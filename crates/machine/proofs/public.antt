@@ -2,4 +2,5 @@ pub mod Branches
 pub mod Entries
 pub mod Gathering
 pub mod HeadlineLaws
+pub mod MarkLaws
 pub mod Standing

@@ -1,8 +1,7 @@
 -- The result of each call of a machine, as the reply of its execution that it stands for.
-use Rattle.std.specs.Prelude.{ℕ, List, Option, Some, None, Result, Ok, Err, Vec}
+use Rattle.std.specs.Prelude.{ℕ, Option, Some, None, Result, Ok, Err, Vec}
 use Rattle.std.specs.Global.{Global}
 use Rattle.value.specs.Word.{Word}
-use Rattle.runs.specs.Live.{Live}
 use Rattle.runs.specs.declared.event.Event.{Event}
 use Rattle.runs.specs.Commands.{Reply}
 use Rattle.runs.specs.declared.command.Refusal.{Refusal}
@@ -34,13 +33,13 @@ consequences_reply (Ok tickets) = Reply.Consequences tickets.items
 consequences_reply (Err why) = Reply.Refused why
 
 -- of the question for what may be taken: the events
-abbrev pub ready_reply : Result (List Event) Refusal → Reply
-ready_reply (Ok es) = Reply.Ready es
+abbrev pub ready_reply : Result (Vec Event Global) Refusal → Reply
+ready_reply (Ok es) = Reply.Ready es.items
 ready_reply (Err why) = Reply.Refused why
 
 -- of the question for what is live: the events with their tickets
-abbrev pub live_reply : Result Live Refusal → Reply
-live_reply (Ok l) = Reply.Live l
+abbrev pub live_reply : Result (Vec (ℕ × Event) Global) Refusal → Reply
+live_reply (Ok l) = Reply.Live l.items
 live_reply (Err why) = Reply.Refused why
 
 -- of the question for a value: none, where there is no such variable

@@ -53,6 +53,7 @@ impl History {
         ensures answers { AnswersBranch (at_machine system.now self.old) branch breaks.now result
             (at_machine system.now self.new) }
         ensures holds { Holds system.now self.new }
+        ensures marked { self.new.live.marked ≡ self.old.live.marked }
     {
         let Ok(events) = self.ready_near(alloc, system, uses, branch) else {
             return BranchReply::Refused(Refusal::Memory);
@@ -113,6 +114,7 @@ impl History {
         ensures done { (e : Event) → slice_get events index ≡ Some e →
             AnswersTaking (at_machine system.now self.old) e result (at_machine system.now self.new) }
         ensures holds { Holds system.now self.new }
+        ensures marked { self.new.live.marked ≡ self.old.live.marked }
     {
         if let Some(why) = self.limit() {
             return BranchReply::Refused(why);

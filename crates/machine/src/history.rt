@@ -25,7 +25,7 @@ impl History {
     /// Before the first event.
     pub(crate) fn new(alloc: Global, system: &Checked) -> Result<History, AllocError>
         ensures shown { IfOk result (λ made.
-            at_machine system.now made ≡ record { checked = system.now; live = []; next = 1 }) }
+            at_machine system.now made ≡ record { checked = system.now; live = []; next = 1; marked = [] }) }
         ensures holds { IfOk result (λ made. Holds system.now made) }
     {
         let tree = Tree::new(alloc, system.system())?;

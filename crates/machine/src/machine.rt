@@ -1,4 +1,4 @@
-ghost use Rattle.std.specs.Prelude.{◌≡◌, ◌≢◌, ℕ, List, [], length, IfOk, IfErr, IfSome, MatchOption, slice_get, Some, None};
+ghost use Rattle.std.specs.Prelude.{◌≡◌, ◌≢◌, [], length, IfOk, IfErr, IfSome, MatchOption, slice_get, Some, None};
 ghost use Rattle.runs.specs.InOrder.{InOrder};
 ghost use Rattle.runs.specs.Steps.{State};
 ghost use Rattle.runs.specs.Live.{events, IsLive, ConsequencesList};
@@ -11,9 +11,11 @@ ghost use Rattle.process_tree.specs.View.{tree_view};
 ghost use Rattle.local_actions.specs.Actions.{OffersExactly, Precedes};
 ghost use Rattle.local_actions.specs.View.{state_of};
 ghost use Rattle.event_places.specs.EventPlaces.{line_after, is_open_after};
+ghost use Rattle.dependence.specs.Shown.{Greatest};
 ghost use Rattle.machine.specs.Branching.{AnswersBranch};
 ghost use Rattle.machine.specs.AtMachine.{object};
 ghost use Rattle.machine.specs.Headline.{Headline};
+ghost use Rattle.machine.specs.Marks.{marks_behind};
 ghost use Rattle.machine.specs.Results.{step_reply, undo_reply, roll_reply, blame_reply, consequences_reply, ready_reply, live_reply, value_reply};
 ghost use Rattle.machine.specs.internal.Histories.{KnowsUses};
 
@@ -75,7 +77,7 @@ impl Machine {
     ///
     /// `Memory` without memory.
     pub fn new(alloc: Global, checked: Checked) -> Result<Machine, Fault>
-        ensures { IfOk result (λ made. made ≡ record { checked = checked; live = []; next = 1 }) }
+        ensures { IfOk result (λ made. made ≡ record { checked = checked; live = []; next = 1; marked = [] }) }
     {
         let history = History::new(alloc, &checked)?;
         let uses = uses_in(alloc, &checked)?;
@@ -94,9 +96,10 @@ impl Machine {
         &self.system
     }
 
-    /// The live events with their tickets and followers, lent as they stand. No clause speaks of their marks.
+    /// The live events with their tickets, followers and marks, lent as they stand.
     pub fn live_events(&self) -> &Live
-        ensures { result.now.live ≡ self.now.live }
+        ensures live { result.now.live ≡ self.now.live }
+        ensures marked { result.now.marked ≡ self.now.marked }
     {
         &self.history.live
     }
@@ -142,6 +145,7 @@ impl Machine {
     pub fn step(&mut self, choice: &Choice) -> Result<(Ticket, Event), Refusal>
         ensures answers { Answers (object self.old) (Command.Step choice.now) (step_reply result) (object self.new) }
         ensures system { self.new.checked ≡ self.old.checked }
+        ensures marked { self.new.marked ≡ marks_behind (step_reply result) self.old.marked }
     {
         self.history
             .step(self.alloc, &self.system, &self.uses, choice)
@@ -151,6 +155,7 @@ impl Machine {
     pub fn branch_step(&mut self, branch: u32, breaks: &Breaks) -> BranchReply
         ensures answers { AnswersBranch self.old branch breaks.now result self.new }
         ensures system { self.new.checked ≡ self.old.checked }
+        ensures marked { self.new.marked ≡ self.old.marked }
     {
         self.history.branch_step(self.alloc, &self.system, &self.uses, branch, breaks.lines())
     }
@@ -165,6 +170,7 @@ impl Machine {
         ensures answers { Answers (object self.old) (Command.Undo ticket) (undo_reply ticket result) (object self.new) }
         ensures never_memory { IfErr result (λ why. why ≢ Refusal.Memory) }
         ensures system { self.new.checked ≡ self.old.checked }
+        ensures marked { self.new.marked ≡ marks_behind (undo_reply ticket result) self.old.marked }
     {
         self.history.undo(ticket)
     }
@@ -179,6 +185,7 @@ impl Machine {
         ensures answers { Answers (object self.old) (Command.Roll ticket) (roll_reply result) (object self.new) }
         ensures never_memory { IfErr result (λ why. why ≢ Refusal.Memory) }
         ensures system { self.new.checked ≡ self.old.checked }
+        ensures marked { self.new.marked ≡ marks_behind (roll_reply result) self.old.marked }
     {
         self.history.roll(ticket)
     }
@@ -193,6 +200,7 @@ impl Machine {
         ensures answers { Answers (object self.old) (Command.RollValue variable) (roll_reply result) (object self.new) }
         ensures never_memory { IfErr result (λ why. why ≢ Refusal.Memory) }
         ensures system { self.new.checked ≡ self.old.checked }
+        ensures marked { self.new.marked ≡ marks_behind (roll_reply result) self.old.marked }
     {
         self.history.roll_value(variable)
     }
@@ -225,16 +233,19 @@ impl Machine {
     /// takes no memory. The marks stay until the next marking, and a further event has none.
     pub fn mark_consequences(&mut self, ticket: Ticket) -> u64
         requires { IsLive self.old.live ticket }
-        ensures counted { (tickets : List ℕ) × ConsequencesList self.old.live ticket tickets
-            × (result ≡ length tickets) }
-        ensures same { self.new ≡ self.old }
+        ensures counted { result ≡ length self.new.marked }
+        ensures marked { ConsequencesList self.old.live ticket self.new.marked }
+        ensures live { self.new.live ≡ self.old.live }
+        ensures next { self.new.next ≡ self.old.next }
+        ensures system { self.new.checked ≡ self.old.checked }
     {
         self.history.live.mark_consequences(ticket)
     }
 
-    /// The greatest ticket of a live event that is marked. It takes no memory. No clause says which events are marked.
+    /// The greatest ticket of a live event that is marked. It takes no memory.
     pub fn last_marked(&self) -> Option<Ticket>
-        ensures { IfSome result (λ ticket. IsLive self.now.live ticket) }
+        ensures last { MatchOption result (self.now.marked ≡ []) (λ ticket. Greatest self.now.marked ticket) }
+        ensures live { IfSome result (λ ticket. IsLive self.now.live ticket) }
     {
         self.history.live.is_sound();
         self.history.live.last_marked()
@@ -245,7 +256,7 @@ impl Machine {
     /// # Errors
     ///
     /// `Memory` without memory.
-    pub fn live(&self) -> Result<Items<(Ticket, Event)>, Refusal>
+    pub fn live(&self) -> Result<Vec<(Ticket, Event)>, Refusal>
         ensures { Answers (object self.now) Command.Live (live_reply result) (object self.now) }
     {
         or_no_memory(self.history.tell_live(self.alloc))
@@ -263,9 +274,9 @@ impl Machine {
     /// # Errors
     ///
     /// `Memory` without memory.
-    pub fn ready(&self) -> Result<Items<Event>, Refusal>
+    pub fn ready(&self) -> Result<Vec<Event>, Refusal>
         ensures answers { Answers (object self.now) Command.Ready (ready_reply result) (object self.now) }
-        ensures events { IfOk result (λ events. (T : State) × Reaches (object self.now) T × ReadyList T events) }
+        ensures events { IfOk result (λ events. (T : State) × Reaches (object self.now) T × ReadyList T events.items) }
     {
         or_no_memory(self.history.ready(self.alloc, &self.uses))
     }

@@ -7,6 +7,7 @@ ghost use Rattle.machine.specs.Results.{live_reply, value_reply};
 ghost use Rattle.machine.specs.internal.Histories.{execution, Holds};
 
 use crate::history::History;
+use crate::reply::in_vec;
 use dependence::Live;
 use runs::Event;
 use std::alloc::{AllocError, Global};
@@ -15,12 +16,12 @@ use value::Value;
 
 impl History {
     /// The live events.
-    pub(crate) fn tell_live(&self, alloc: Global) -> Result<Items<(u64, Event)>, AllocError>
+    pub(crate) fn tell_live(&self, alloc: Global) -> Result<Vec<(u64, Event)>, AllocError>
         ensures { (system : Checked) →
             IfOk result (λ live.
             Does (execution system self.now) Command.Live (live_reply (Ok live)) (execution system self.now)) }
     {
-        copy_live(alloc, &self.live)
+        in_vec(copy_live(alloc, &self.live))
     }
 
     /// The value of the variable now, `None` where there is no such variable.

@@ -1,9 +1,10 @@
 // Taking an event back with all that depend on it, and the questions about them.
-ghost use Rattle.std.specs.Prelude.{◌≡◌, ℕ, IsSome, IfOk, OnErr};
+ghost use Rattle.std.specs.Prelude.{◌≡◌, ℕ, [], IsSome, IfOk, OnErr};
 ghost use Rattle.sharing_check.specs.declared.checked.Checked.{Checked};
 ghost use Rattle.runs.specs.Live.{IsLive, DependsOn, WithoutTickets};
 ghost use Rattle.runs.specs.Does.{Does};
 ghost use Rattle.runs.specs.Commands.{Command, Reply};
+ghost use Rattle.machine.specs.Marks.{marks_behind};
 ghost use Rattle.machine.specs.Results.{roll_reply, blame_reply, consequences_reply};
 ghost use Rattle.machine.specs.internal.Histories.{execution, Holds};
 ghost use Rattle.dependence.specs.Taking.{MarksAllDependents};
@@ -26,6 +27,7 @@ impl History {
         ensures answers { (system : Checked) →
             Does (execution system self.old) (Command.Roll ticket) (roll_reply result) (execution system self.new) }
         ensures holds { (system : Checked) → Holds system self.old → Holds system self.new }
+        ensures marked { self.new.live.marked ≡ marks_behind (roll_reply result) self.old.live.marked }
     {
         match self.live.index_of(ticket) {
             Some(_) => Ok(self.roll_live(ticket)),
@@ -40,6 +42,7 @@ impl History {
         ensures answers { (system : Checked) →
             Does (execution system self.old) (Command.Roll ticket) (Reply.Rolled result) (execution system self.new) }
         ensures holds { (system : Checked) → Holds system self.old → Holds system self.new }
+        ensures marked { self.new.live.marked ≡ [] }
     {
         let before = self.live.len();
         self.live.mark_consequences(ticket);
@@ -56,6 +59,7 @@ impl History {
             WithoutTickets (DependsOn self.old.live.live t) self.old.live.live self.new.live.live }
         ensures next { self.new.next ≡ self.old.next }
         ensures holds { (system : Checked) → Holds system self.old → Holds system self.new }
+        ensures marked { self.new.live.marked ≡ [] }
     {
         self.revert_marked();
         self.live.take_marked();
@@ -88,6 +92,7 @@ impl History {
             Does (execution system self.old) (Command.RollValue variable) (roll_reply result)
             (execution system self.new) }
         ensures holds { (system : Checked) → Holds system self.old → Holds system self.new }
+        ensures marked { self.new.live.marked ≡ marks_behind (roll_reply result) self.old.live.marked }
     {
         match self.live.last_writer(variable) {
             Some(ticket) => self.roll(ticket),

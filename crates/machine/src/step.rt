@@ -19,9 +19,10 @@ ghost use Rattle.machine.specs.internal.Histories.{execution, tree_of, Holds, Kn
 ghost use Rattle.machine.specs.internal.Entering.{Entered, NotEntered};
 
 use crate::history::History;
+use crate::reply::in_vec;
 use allowed_events::{event_with, ready_events};
 use channel_uses::ChannelUses;
-use event_inverse::{Inverse, Record, apply, invert};
+use event_inverse::{Inverse, apply_by, invert_by};
 use local_actions::{LocalAction, actions_of};
 use rows::Rows;
 use runs::{Choice, Event, LAST_TICKET, MOST_LIVE_EVENTS, Refusal};
@@ -43,6 +44,7 @@ impl History {
         ensures answers { Answers (execution system.now self.old) (Command.Step choice.now) (step_reply result)
             (execution system.now self.new) }
         ensures holds { Holds system.now self.new }
+        ensures marked { self.new.live.marked ≡ self.old.live.marked }
     {
         match event_with(alloc, uses, &self.tree, &self.store, choice) {
             Ok(found) => self.take_found(alloc, system, found),
@@ -62,6 +64,7 @@ impl History {
         requires allowed { (e : Event) → found ≡ Some e → Allowed (state_of_tree (tree_of self.old)) e }
         ensures taken { TakesFound (execution system.now self.old) found result (execution system.now self.new) }
         ensures holds { Holds system.now self.new }
+        ensures marked { self.new.live.marked ≡ self.old.live.marked }
     {
         let Some(event) = found else {
             return Err(Refusal::NotReady);
@@ -69,10 +72,7 @@ impl History {
         if let Some(why) = self.limit() {
             return Err(why);
         }
-        match self.add(alloc, system, event) {
-            Ok(entry) => Ok(entry),
-            Err(_) => Err(Refusal::Memory),
-        }
+        self.add(alloc, system, event)
     }
 
     /// Why no event is taken, where one is found, but the limits leave no room for it.
@@ -89,84 +89,111 @@ impl History {
         None
     }
 
-    /// Makes the event, and enters it under the next ticket. The copy that stays is made first.
+    /// Makes the event, and enters it under the next ticket. The copy that is told is made first.
+    #[inline(always)]
     pub(crate) fn add(
         &mut self,
         alloc: Global,
         system: &Checked,
         event: Event,
-    ) -> Result<(u64, Event), AllocError>
+    ) -> Result<(u64, Event), Refusal>
         requires holds { Holds system.now self.old }
         requires allowed { Allowed (state_of_tree (tree_of self.old)) event }
         requires few { length self.old.live.live < most_live }
         requires unspent { self.old.next ≤ last_ticket }
         ensures done { IfOk result (λ entry. entry ≡ (self.old.next, event)) }
         ensures added { OnOk result (execution system.now self.new ≡ with_event (execution system.now self.old) event) }
+        ensures memory { IfErr result (λ why. why ≡ Refusal.Memory) }
         ensures unchanged { OnErr result (execution system.now self.new ≡ execution system.now self.old) }
         ensures holds { Holds system.now self.new }
+        ensures marked { self.new.live.marked ≡ self.old.live.marked }
+    {
+        let Ok(kept) = Boxed::new(alloc, event) else {
+            return Err(Refusal::Memory);
+        };
+        let Ok(told) = kept.get().copy(alloc) else {
+            return Err(Refusal::Memory);
+        };
+        match self.make(alloc, system, kept) {
+            Ok(ticket) => Ok((ticket, told)),
+            Err(_) => Err(Refusal::Memory),
+        }
+    }
+
+    /// Makes the event, and enters it under the next ticket, which is given.
+    #[inline(never)]
+    fn make(
+        &mut self,
+        alloc: Global,
+        system: &Checked,
+        kept: Boxed<Event>,
+    ) -> Result<u64, AllocError>
+        requires holds { Holds system.now self.old }
+        requires allowed { Allowed (state_of_tree (tree_of self.old)) kept }
+        requires few { length self.old.live.live < most_live }
+        requires unspent { self.old.next ≤ last_ticket }
+        ensures ticket { IfOk result (λ ticket. ticket ≡ self.old.next) }
+        ensures added { OnOk result (execution system.now self.new ≡ with_event (execution system.now self.old) kept) }
+        ensures unchanged { OnErr result (execution system.now self.new ≡ execution system.now self.old) }
+        ensures holds { Holds system.now self.new }
+        ensures marked { self.new.live.marked ≡ self.old.live.marked }
     {
         let ticket = self.next;
-        let copy = event.copy(alloc)?;
-        let kept = Boxed::new(alloc, copy)?;
         system.shares_well();
-        let made = apply(alloc, &mut self.tree, &mut self.store, event)?;
-        let Record { event, inverse } = made;
+        let inverse = apply_by(alloc, &mut self.tree, &mut self.store, kept.get())?;
         match self.enter(inverse, kept) {
-            Ok(()) => Ok((ticket, event)),
-            Err(inverse) => {
+            Ok(()) => Ok(ticket),
+            Err((inverse, kept)) => {
+                let event = kept.get();
                 self.unmake(event, inverse);
                 Err(AllocError)
             }
         }
     }
 
-    /// Enters the event that was made last under the next ticket, with what its undo needs. Without memory that is
+    /// Enters the event that was made last under the next ticket, with what its undo needs. Without memory both are
     /// given back, and tree and values are as the event made them.
-    fn enter(&mut self, inverse: Inverse, kept: Boxed<Event>) -> Result<(), Inverse>
+    fn enter(&mut self, inverse: Inverse, kept: Boxed<Event>) -> Result<(), (Inverse, Boxed<Event>)>
         requires above { (t : ℕ) (e : Event) → LiveAt self.old.live.live t e → t < self.old.next }
         requires behind { ComesBehind self.old.live.live kept }
         requires unspent { self.old.next ≤ last_ticket }
         ensures entered { OnOk result (Entered self.old kept inverse self.new) }
         ensures refused { OnErr result (NotEntered self.old self.new) }
-        ensures back { IfErr result (λ back. back ≡ inverse) }
+        ensures back { IfErr result (λ back. (back.0 ≡ inverse) × (back.1 ≡ kept)) }
     {
         if let Err(back) = self.inverses.push(inverse) {
-            return Err(back);
+            return Err((back, kept));
         }
         match self.live.add(self.next, kept) {
             Ok(()) => {
                 self.next += 1;
                 Ok(())
             }
-            Err(_) => Err(take_newest(&mut self.inverses)),
+            Err(kept) => Err((take_newest(&mut self.inverses), kept)),
         }
     }
 
     /// Takes the event that was made last back on the tree and in the store. It is rare, and stands by itself so that what
     /// it holds has no place in each step.
     #[inline(never)]
-    fn unmake(&mut self, event: Event, inverse: Inverse)
-        requires { (T : TreeAndStore) × (applied T event ≡ Some (tree_of self.old, inverse_view inverse)) }
-        ensures tree { (T : TreeAndStore) → applied T event ≡ Some (tree_of self.old, inverse_view inverse) →
+    fn unmake(&mut self, event: &Event, mut inverse: Inverse)
+        requires { (T : TreeAndStore) × (applied T event.now ≡ Some (tree_of self.old, inverse_view inverse)) }
+        ensures tree { (T : TreeAndStore) → applied T event.now ≡ Some (tree_of self.old, inverse_view inverse) →
             tree_of self.new ≡ T }
         ensures live { self.new.live ≡ self.old.live }
         ensures inverses { self.new.inverses ≡ self.old.inverses }
         ensures next { self.new.next ≡ self.old.next }
     {
-        invert(&mut self.tree, &mut self.store, Record { event, inverse });
+        invert_by(&mut self.tree, &mut self.store, event, &mut inverse);
     }
 
     /// The events that are allowed now, in order.
-    pub(crate) fn ready(
-        &self,
-        alloc: Global,
-        uses: &ChannelUses,
-    ) -> Result<Items<Event>, AllocError>
+    pub(crate) fn ready(&self, alloc: Global, uses: &ChannelUses) -> Result<Vec<Event>, AllocError>
         ensures { (system : Checked) → Holds system self.now → KnowsUses system uses.now → IfOk result (λ events.
             Reaches (execution system self.now) (state_of_tree (tree_of self.now))
-            × ReadyList (state_of_tree (tree_of self.now)) events) }
+            × ReadyList (state_of_tree (tree_of self.now)) events.items) }
     {
-        ready_events(alloc, uses, &self.tree, &self.store)
+        in_vec(ready_events(alloc, uses, &self.tree, &self.store))
     }
 
     /// The actions that are offered now, in order of place.

@@ -31,9 +31,9 @@ use Rattle.picture_text.specs.DataText.{action_texts, ahead_text, channel_text, 
 use Rattle.picture_text.specs.PageText.{page_text}
 use Rattle.picture_laws.specs.EqualPages.{AreCounted, HaveOnePage, IsInOrder}
 use Rattle.picture_laws.specs.EqualPictures.{IsOnePicture}
-use Rattle.picture_laws.proofs.OnePicture.{one-picture}
+use Rattle.picture_laws.proofs.OnePicture.{one-picture, with-marks}
 
--- ---- one machine
+-- ---- one machine, but for its marks
 
 counted-live : (n : ℕ) (l k : Live) → AreCounted n l → AreCounted n k → events l ≡ events k → l ≡ k
 counted-live n [] [] here there same = refl
@@ -47,14 +47,15 @@ counted-live n (x ∷ l) (y ∷ k) here there same =
     ∙ ap (λ (e : Event). made y.0 e l) event
     ∙ ap (λ (r : Live). made y.0 y.1 r) (counted-live (suc n) l k here.1 there.1 rest)
 
-one-machine : (m n : AtMachine) → m.checked ≡ n.checked → AreEqualRuns m.checked m.live n.live → IsInOrder m → IsInOrder n → m ≡ n
+one-machine : (m n : AtMachine) → m.checked ≡ n.checked → AreEqualRuns m.checked m.live n.live → IsInOrder m → IsInOrder n →
+    with-marks m n.marked ≡ n
 one-machine m n one equal here there =
     let same : events m.live ≡ events n.live =
     orders-agree m.checked (events m.live) (events n.live) (events m.live) (events n.live) equal.state equal.runs equal.forth equal.back here.canonical
     there.canonical in
     let live : m.live ≡ n.live = counted-live 1 m.live n.live here.counted there.counted same in
     let next : m.next ≡ n.next = here.next ∙ ap (λ (l : Live). suc (length l)) live ∙ sym there.next in
-    let made : Checked → Live → ℕ → AtMachine = λ c l k. record { checked = c; live = l; next = k } in
+    let made : Checked → Live → ℕ → AtMachine = λ c l k. record { checked = c; live = l; next = k; marked = n.marked } in
     ap (λ (c : Checked). made c m.live m.next) one
     ∙ ap (λ (l : Live). made n.checked l m.next) live
     ∙ ap (λ (k : ℕ). made n.checked n.live k) next
@@ -171,9 +172,9 @@ one-text system l p q source file stimulus trace one =
 pub one-page : OneList → OneRing → (m n : AtMachine) (procedures : List Procedure) (p q : Picture) → m.checked ≡ n.checked → AreEqualRuns m.checked m.live n.live →
     IsInOrder m → IsInOrder n → Shows m procedures p → Shows n procedures q → HaveOnePage m n p q
 one-page lists rings m n procedures p q one equal order other here there =
-    let is : m ≡ n = one-machine m n one equal order other in
+    let is : with-marks m n.marked ≡ n = one-machine m n one equal order other in
     let picture : IsOnePicture p q =
-    one-picture lists rings m procedures p q equal.low equal.next equal.rising here (subst (λ (x : AtMachine). Shows x procedures q) (sym is) there) in
+    one-picture lists rings m n.marked procedures p q equal.low equal.next equal.rising here (subst (λ (x : AtMachine). Shows x procedures q) (sym is) there) in
     let text : (source file stimulus trace : List ℕ) →
     data_text m.checked m.live p source file stimulus trace ≡ data_text n.checked n.live q source file stimulus trace =
     λ source file stimulus trace.

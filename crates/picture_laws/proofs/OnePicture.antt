@@ -40,23 +40,28 @@ itself m S low next rising reaches = record {
   other_rising = rising;
 }
 
-pub one-picture : OneList → OneRing → (m : AtMachine) (procedures : List Procedure) (p q : Picture) (low next : ℕ) → Rising low m.live next →
-    Shows m procedures p → Shows m procedures q → IsOnePicture p q
-one-picture lists ring m procedures p q low next rising here there =
+-- the machine with these marks, of which no picture tells
+abbrev pub with-marks : AtMachine → List ℕ → AtMachine
+with-marks m marked = record { checked = m.checked; live = m.live; next = m.next; marked = marked }
+
+pub one-picture : OneList → OneRing → (m : AtMachine) (marked : List ℕ) (procedures : List Procedure) (p q : Picture) (low next : ℕ) →
+    Rising low m.live next → Shows m procedures p → Shows (with-marks m marked) procedures q → IsOnePicture p q
+one-picture lists ring m marked procedures p q low next rising here there =
     let list = here.end.ready in
     let equal = itself m list.0 low next rising list.1 in
-    let ground = one-ground m m procedures p q refl here there in
+    let n = with-marks m marked in
+    let ground = one-ground m n procedures p q refl here there in
     record {
       ground = ground;
       depths = one-depths m.live p.steps.depths.items q.steps.depths.items here.steps.depths there.steps.depths;
       ahead = one-ahead low next m.live p.steps.ahead q.steps.ahead rising here.steps.ahead there.steps.ahead;
       actions =
-          one-stands m m p.lanes.items q.lanes.items (events m.live) p.steps.actions.items q.steps.actions.items ground.lanes (λ a. refl)
+          one-stands m n p.lanes.items q.lanes.items (events m.live) p.steps.actions.items q.steps.actions.items ground.lanes (λ a. refl)
           here.steps.actions there.steps.actions;
       since =
           one-sinces m.live p.steps.depths.items q.steps.depths.items p.steps.since.items q.steps.since.items
           (since-agrees m.checked m.live m.live p.steps.depths.items q.steps.depths.items equal here.steps.depths there.steps.depths)
           here.steps.since there.steps.since;
       races = one-races m.live p.steps.races.items q.steps.races.items here.steps.races there.steps.races;
-      end = one-end lists ring m m procedures p q refl equal here there;
+      end = one-end lists ring m n procedures p q refl equal here there;
     }

@@ -17,7 +17,17 @@ use syntax::Items;
 /// then of their arms, then of their other addresses. It asks nothing of the tree, and copies all that is left of it.
 /// It is an error if there is no memory; a place with a number of 2^32 and more is answered so too, which no run
 /// reaches.
-pub fn ready_events(alloc: Global, tree: &Tree, store: &Store) -> Result<Items<Event>, AllocError>
+pub fn ready_events(alloc: Global, tree: &Tree, store: &Store) -> Result<Vec<Event>, AllocError>
+    ensures { IfOk result (λ events. ReadyList (state_of tree.now store.now) events.items) }
+{
+    match ready_list(alloc, tree, store) {
+        Ok(events) => Ok(events.into_vec()),
+        Err(refused) => Err(refused),
+    }
+}
+
+/// The same, as a list.
+fn ready_list(alloc: Global, tree: &Tree, store: &Store) -> Result<Items<Event>, AllocError>
     ensures { IfOk result (λ events. ReadyList (state_of tree.now store.now) events) }
 {
     let state = plain_state(alloc, tree, store)?;
@@ -39,7 +49,7 @@ pub fn event_at(
         (ChoiceAllowed (state_of tree.now store.now) choice.now →
         ⊥) (λ event. Chosen (state_of tree.now store.now) choice.now event)) }
 {
-    let events = ready_events(alloc, tree, store)?;
+    let events = ready_list(alloc, tree, store)?;
     Ok(first_with(events, choice))
 }
 

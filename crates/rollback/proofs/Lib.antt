@@ -1,1 +1,2 @@
 mod RollbackLemmas
+mod Rolling

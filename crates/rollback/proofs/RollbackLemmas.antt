@@ -10,13 +10,8 @@ use Rattle.runs.specs.Commands.{Command}
 use Rattle.runs.specs.declared.command.Refusal.{Refusal}
 use Rattle.runs.specs.declared.command.Refusal.TheVariants.{Memory, NoSuchEvent, NeverWritten}
 use Rattle.runs.proofs.public.ObjectLaws.{rolls-exactly, rolled-value, consequences-exactly}
-use Rattle.machine.specs.AtMachine.{AtMachine, object}
 use Rattle.machine.specs.Results.{roll_reply, blame_reply, consequences_reply}
 use Rattle.rollback.specs.Rollbacks.{TakesBack, ValueFromBefore, AreDependents}
-
--- one system and one execution are one machine
-same-machine : (m n : AtMachine) → n.checked ≡ m.checked → object n ≡ object m → n ≡ m
-same-machine m n system same = λ i. record { checked = system i; live = (same i).live; next = (same i).next }
 
 -- a rollback of an event
 pub taken : (o o' : Object) (t : ℕ) (r : Result ℕ Refusal) → Sound o → Answers o (Command.Roll t) (roll_reply r) o' → IfOk r (λ n. TakesBack o t n o')
@@ -25,19 +20,6 @@ taken o o' t (Ok n) s (inl d) =
     (all.0, all.1, all.3, all.4, all.5, ap (λ (p : Object). p.next) d.1.3)
 taken o o' t (Ok n) s (inr (_, is, _)) = cc
 taken o o' t (Err why) s h = tt
-
-pub refused : (o o' : Object) (t : ℕ) (r : Result ℕ Refusal) → Answers o (Command.Roll t) (roll_reply r) o' →
-    IfErr r (λ why. (why ≡ NoSuchEvent) × NoneAt o.live t)
-refused o o' t (Ok n) h = tt
-refused o o' t (Err NoSuchEvent) (inl d) = (refl, d.0)
-refused o o' t (Err why) (inl d) = absurd d.0
-refused o o' t (Err why) (inr h) = absurd h.0
-
-pub unchanged : (m m' : AtMachine) (t : ℕ) (r : Result ℕ Refusal) → m'.checked ≡ m.checked →
-    Answers (object m) (Command.Roll t) (roll_reply r) (object m') → IfErr r (λ _. m' ≡ m)
-unchanged m m' t (Ok n) system h = tt
-unchanged m m' t (Err why) system (inl d) = same-machine m m' system d.1
-unchanged m m' t (Err why) system (inr h) = absurd h.0
 
 -- the question for a last writer
 pub blamed : (o : Object) (x : ℕ) (r : Result ℕ Refusal) → Answers o (Command.Blame x) (blame_reply r) o → IfOk r (λ t. LastWriter o.live x t)
@@ -67,19 +49,6 @@ pub value-from-before : (o o' : Object) (x : ℕ) (r : Result ℕ Refusal) → S
 value-from-before o o' x (Ok n) s (inl d) = rolled-value o s o' x n d
 value-from-before o o' x (Ok n) s (inr h) = absurd h.0
 value-from-before o o' x (Err why) s h = tt
-
-pub value-refused : (o o' : Object) (x : ℕ) (r : Result ℕ Refusal) → Answers o (Command.RollValue x) (roll_reply r) o' →
-    IfErr r (λ why. (why ≡ NeverWritten) × NoWriter o.live x)
-value-refused o o' x (Ok n) h = tt
-value-refused o o' x (Err NeverWritten) (inl d) = (refl, d.0)
-value-refused o o' x (Err why) (inl d) = absurd d.0
-value-refused o o' x (Err why) (inr h) = absurd h.0
-
-pub value-unchanged : (m m' : AtMachine) (x : ℕ) (r : Result ℕ Refusal) → m'.checked ≡ m.checked →
-    Answers (object m) (Command.RollValue x) (roll_reply r) (object m') → IfErr r (λ _. m' ≡ m)
-value-unchanged m m' x (Ok n) system h = tt
-value-unchanged m m' x (Err why) system (inl d) = same-machine m m' system d.1
-value-unchanged m m' x (Err why) system (inr h) = absurd h.0
 
 -- the question for what depends on an event
 pub dependents : (o o' : Object) (t : ℕ) (r : Result (Vec ℕ Global) Refusal) → Sound o → Answers o (Command.Consequences t) (consequences_reply r) o' →

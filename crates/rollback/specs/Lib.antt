@@ -1,1 +1,2 @@
 pub mod Rollbacks
+pub mod internal

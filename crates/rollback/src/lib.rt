@@ -1,16 +1,19 @@
 //! Going back to the cause of a wrong value: which event wrote it, what depends on an event, and taking just that back.
 #![tactic(auto)]
 
-ghost use Rattle.std.specs.Prelude.{◌≡◌, ◌⊎◌, ℕ, IfOk, IfErr};
-ghost use Rattle.runs.specs.Live.{IsLive, NoneAt, LastWriter, NoWriter};
+ghost use Rattle.std.specs.Prelude.{◌≡◌, ◌⊎◌, ℕ, [], IfOk, IfErr};
+ghost use Rattle.runs.specs.Commands.{Command, Reply};
+ghost use Rattle.runs.specs.Does.{Does};
+ghost use Rattle.runs.specs.Live.{IsLive, NoneAt, NoDependent, LastWriter, NoWriter};
 ghost use Rattle.machine.specs.AtMachine.{object};
 ghost use Rattle.rollback.specs.Rollbacks.{TakesBack, ValueFromBefore, AreDependents};
+ghost use Rattle.rollback.specs.internal.Undoing.{Undone};
 
 use machine::{Machine, Ticket, Var};
 use runs::Refusal;
 
 /// Takes the event of this ticket back, and all live events that depend on it, and no others; how many they were. It
-/// takes no memory.
+/// takes no memory. No event is marked behind it.
 ///
 /// # Errors
 ///
@@ -20,9 +23,38 @@ pub fn roll(machine: &mut Machine, ticket: Ticket) -> Result<u64, Refusal>
     ensures refused { IfErr result (λ why. (why ≡ Refusal.NoSuchEvent) × NoneAt machine.old.live ticket) }
     ensures same { IfErr result (λ _. machine.new ≡ machine.old) }
     ensures system { machine.new.checked ≡ machine.old.checked }
+    ensures marked { IfOk result (λ _. machine.new.marked ≡ []) }
 {
     machine.is_sound();
-    machine.roll(ticket)
+    match machine.live_events().index_of(ticket) {
+        Some(_) => Ok(roll_live(machine, ticket)),
+        None => Err(Refusal::NoSuchEvent),
+    }
+}
+
+/// Takes the live event of this ticket back, and all live events that depend on it; how many they were. They are marked,
+/// and then undone one after another, the greatest ticket first, on which no other depends then.
+fn roll_live(machine: &mut Machine, ticket: Ticket) -> u64
+    requires { IsLive machine.old.live ticket }
+    ensures rolled { Does (object machine.old) (Command.Roll ticket) (Reply.Rolled result) (object machine.new) }
+    ensures system { machine.new.checked ≡ machine.old.checked }
+    ensures marked { machine.new.marked ≡ [] }
+{
+    let count = machine.mark_consequences(ticket);
+    while let Some(last) = machine.last_marked() {
+        machine.is_sound();
+        undo_alone(machine, last);
+    }
+    count
+}
+
+/// Undoes the live event of this ticket, on which no other live event depends.
+fn undo_alone(machine: &mut Machine, ticket: Ticket)
+    requires live { IsLive machine.old.live ticket }
+    requires alone { NoDependent machine.old.live ticket }
+    ensures { Undone machine.old ticket machine.new }
+{
+    let _undone = machine.undo(ticket);
 }
 
 /// The ticket of the last live event that wrote the variable. It takes no memory.
@@ -38,7 +70,8 @@ pub fn blame(machine: &Machine, variable: Var) -> Result<Ticket, Refusal>
 }
 
 /// Takes the last live event that wrote the variable back, and all live events that depend on it, and no others; how
-/// many they were. The variable then has the value from just before that event. It takes no memory.
+/// many they were. The variable then has the value from just before that event. It takes no memory. No event is marked
+/// behind it.
 ///
 /// # Errors
 ///
@@ -50,9 +83,13 @@ pub fn roll_value(machine: &mut Machine, variable: Var) -> Result<u64, Refusal>
     ensures refused { IfErr result (λ why. (why ≡ Refusal.NeverWritten) × NoWriter machine.old.live variable) }
     ensures same { IfErr result (λ _. machine.new ≡ machine.old) }
     ensures system { machine.new.checked ≡ machine.old.checked }
+    ensures marked { IfOk result (λ _. machine.new.marked ≡ []) }
 {
     machine.is_sound();
-    machine.roll_value(variable)
+    match blame(machine, variable) {
+        Ok(ticket) => Ok(roll_live(machine, ticket)),
+        Err(why) => Err(why),
+    }
 }
 
 /// The tickets of the event of this ticket and of all live events that depend on it, ascending: what a rollback of it

@@ -1,12 +1,12 @@
 ghost use Rattle.std.specs.Prelude.{◌≡◌, ◌<◌, ◌++◌, ◌∷◌, [], length, slice_get, slice_set, true, OnOk, OnErr, IfErr, Some};
 ghost use Rattle.std.specs.List.{remove};
 
-use crate::row::{FULL, Row, push_into_last, push_row, row_of, take_out};
+use crate::row::{FULL, Row, push_into_last, push_row, spot_of, take_out};
 use std::alloc::Global;
 use std::marker::Model;
 
 /// A list that contracts see as the list of its items. They stand in rows of at most 128, so an item that is taken out
-/// moves fewer than these; beside it each row behind is told that it begins one earlier.
+/// moves fewer than these. It is looked for from the nearer end, row by row.
 #[derive(Drop)]
 pub struct Rows<T> {
     alloc: Global,
@@ -22,11 +22,11 @@ impl<T> Model for Rows<T> {
 
     ghost coded = { coded_list T.code };
 
-    ghost use Rattle.rows.specs.Flat.{flat, BeginFrom};
+    ghost use Rattle.rows.specs.Flat.{flat};
 
     ghost view = { λ list. flat list.rows.items };
 
-    ghost invariant = { λ list. BeginFrom 0 list.rows.items × (list.count ≡ length (flat list.rows.items)) };
+    ghost invariant = { λ list. list.count ≡ length (flat list.rows.items) };
 }
 
 impl<T> Rows<T> {
@@ -53,8 +53,9 @@ impl<T> Rows<T> {
         requires { index < length self.now }
         ensures { slice_get self.now index ≡ Some result.now }
     {
-        let row = &self.rows[row_of(self.rows.as_slice(), index)];
-        &row.items[index - row.start]
+        let spot = spot_of(self.rows.as_slice(), self.count, index);
+        let row = &self.rows[spot.number];
+        &row.items[spot.place]
     }
 
     /// Puts the item behind all. Without memory it is handed back, and nothing changes.
@@ -69,7 +70,7 @@ impl<T> Rows<T> {
         if has_room(self.rows.as_slice()) {
             push_into_last(&mut self.rows, item)?;
         } else {
-            push_row(self.alloc, &mut self.rows, self.count, item)?;
+            push_row(self.alloc, &mut self.rows, item)?;
         }
         self.count = count;
         Ok(())
@@ -81,10 +82,9 @@ impl<T> Rows<T> {
         ensures changed { self.new ≡ slice_set self.old index item }
         ensures item { slice_get self.old index ≡ Some result }
     {
-        let number = row_of(self.rows.as_slice(), index);
-        let row = &mut self.rows[number];
-        let offset = index - row.start;
-        std::mem::replace(&mut row.items[offset], item)
+        let spot = spot_of(self.rows.as_slice(), self.count, index);
+        let row = &mut self.rows[spot.number];
+        std::mem::replace(&mut row.items[spot.place], item)
     }
 }
 
@@ -95,11 +95,9 @@ impl<T: Drop> Rows<T> {
         ensures taken { self.new ≡ remove self.old index }
         ensures item { slice_get self.old index ≡ Some result }
     {
-        let number = row_of(self.rows.as_slice(), index);
-        let row = &self.rows[number];
-        let offset = index - row.start;
+        let spot = spot_of(self.rows.as_slice(), self.count, index);
         self.count -= 1;
-        take_out(&mut self.rows, number, offset)
+        take_out(&mut self.rows, spot.number, spot.place)
     }
 }
 

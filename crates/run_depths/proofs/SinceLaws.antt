@@ -167,11 +167,11 @@ held-within l depths n table are holds b i at =
     let size = are.size in
     omega arith
 
-pub orderly-at : (low next : ℕ) (l : Live) (n j : ℕ) (table : PlaceTable) (a : Place) → Rising low l next → Placed l → HoldsTo l n table → IsPlaceAt l j a →
+pub orderly-at : (low next : ℕ) (l : Live) (n : ℕ) (table : PlaceTable) (a : Place) → Rising low l next → Placed l → HoldsTo l n table → IsPlaceAt l n a →
     Orderly table a
-orderly-at low next l n j table a rising placed holds at = record {
+orderly-at low next l n table a rising placed holds at = record {
   inside = λ b c t u one two. one-tree low next l t u b c rising placed (held l n table holds b t one) (held l n table holds c u two);
-  outside = λ b t one. one-tree low next l t j b a rising placed (held l n table holds b t one) at;
+  outside = λ b t one. let h = (holds b t).0 one in clear-by-index low next l t n b a rising placed h.1 h.0 at;
 }
 
 pub held-before : (low next : ℕ) (l : Live) (n : ℕ) (table : PlaceTable) (a : Place) → Rising low l next → Placed l → HoldsTo l n table → IsPlaceAt l n a →

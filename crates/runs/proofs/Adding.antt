@@ -1,6 +1,6 @@
 -- How amounts of branches add up: no less than each, more for more, and in either order.
 use Rattle.std.proofs.Common.{◌≡◌, ℕ, zero, suc, ◌≤◌, refl, subst, arith, le_trans}
-use Rattle.sharing_check.specs.Measure.{sum_together}
+use Rattle.sharing_rule.specs.Measure.{sum_together}
 use Rattle.runs.proofs.public.SharingWidths.{variable_together}
 
 -- what the laws need of `together`

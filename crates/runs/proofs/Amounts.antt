@@ -5,7 +5,7 @@ use Rattle.runs.specs.Moves.{Place, Move, Local}
 use Rattle.value.specs.Word.{Word}
 use Rattle.system.specs.Expression.{Expression, constant, variable, received, binary, complement, cast, put_value, variables, Decision, by_guards, by_labels, put_decision, put_all, variables_of_all, decision_variables}
 use Rattle.system.specs.Residual.{Residual, done, halted, inside, beside, assign, send, receive, sync, held, loop, while, test, choose, closing, drain, Arms, no_arms, arm, within, along, arm_at, opened, put_residual, put_arms}
-use Rattle.sharing_check.specs.Measure.{Measure, amount, amount_of_arms, most}
+use Rattle.sharing_rule.specs.Measure.{Measure, amount, amount_of_arms, most}
 use Rattle.runs.proofs.Adding.{AddsUp}
 use Rattle.runs.proofs.Most.{most_at}
 

@@ -4,7 +4,7 @@ use Rattle.address.specs.Places.{Apart}
 use Rattle.address.proofs.public.Places.{apart-symmetric}
 use Rattle.system.specs.Expression.{Store}
 use Rattle.system.specs.Residual.{Residual}
-use Rattle.sharing_check.specs.Measure.{sending, syncing}
+use Rattle.sharing_rule.specs.Measure.{sending, syncing}
 use Rattle.runs.proofs.public.SharingWidths.{KeepsSharing}
 use Rattle.runs.specs.Moves.{Place, Move, sends, receives, syncs, opens, releases, closes}
 use Rattle.runs.specs.Events.{Located, at, Makes, assigning, testing, turning, meeting, opening, opening_without_data, shutting, syncing as syncs_together, places, acting}

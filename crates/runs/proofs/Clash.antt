@@ -7,7 +7,7 @@ use Rattle.address.specs.Places.{Apart}
 use Rattle.system.specs.Expression.{variables, decision_variables}
 use Rattle.system.specs.Residual.{Residual, done, halted, inside, beside, assign, send, receive, sync, held, loop, while, test, choose, closing, drain}
 use Rattle.runs.specs.Events.{Located}
-use Rattle.sharing_check.specs.Measure.{Measure, amount, most}
+use Rattle.sharing_rule.specs.Measure.{Measure, amount, most}
 use Rattle.runs.proofs.public.WellFormed.{WellFormed}
 use Rattle.runs.proofs.Adding.{AddsUp}
 use Rattle.runs.proofs.Most.{most_at}

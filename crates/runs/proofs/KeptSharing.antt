@@ -3,7 +3,7 @@ use Rattle.std.proofs.Common.{ℕ, ◌≤◌, List, [], ◌∷◌, Bool, subst, 
 use Rattle.system.specs.Residual.{Residual}
 use Rattle.runs.specs.Events.{Located}
 use Rattle.runs.specs.Steps.{State, Moves, Step, Run}
-use Rattle.sharing_check.specs.Measure.{Measure, amount, sending, receiving, syncing}
+use Rattle.sharing_rule.specs.Measure.{Measure, amount, sending, receiving, syncing}
 use Rattle.runs.proofs.public.SharingWidths.{on_variable, KeepsSharing}
 use Rattle.runs.specs.declared.event.Event.{Event}
 use Rattle.runs.proofs.Adding.{AddsUp, sums, variables_add_up}

@@ -2,7 +2,7 @@
 use Rattle.std.proofs.Common.{◌≡◌, ℕ, zero, suc, ◌≤◌, List, [], ◌∷◌, Some, slice_get, inl, inr, refl, eq-eqb, le_trans, le_refl}
 use Rattle.std.proofs.Math.Nat.{le-max_left, le-max_right}
 use Rattle.syntax.specs.Lists.{In}
-use Rattle.sharing_check.specs.Measure.{most, only}
+use Rattle.sharing_rule.specs.Measure.{most, only}
 
 -- the count of an element is at most the greatest
 pub most_in : (f : ℕ → ℕ) (x : ℕ) (xs : List ℕ) → In x xs → f x ≤ most f xs

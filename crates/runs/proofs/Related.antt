@@ -7,7 +7,7 @@ use Rattle.runs.specs.Events.{Located, Makes, places}
 use Rattle.runs.specs.Steps.{State, Moves, Step, Run}
 use Rattle.system.specs.Expression.{Store}
 use Rattle.runs.specs.Dependence.{SomeBefore}
-use Rattle.sharing_check.specs.Measure.{Measure, amount, sending, syncing}
+use Rattle.sharing_rule.specs.Measure.{Measure, amount, sending, syncing}
 use Rattle.runs.proofs.public.SharingWidths.{on_variable, KeepsSharing}
 use Rattle.runs.specs.Related.{WritesOwn, Related}
 use Rattle.runs.specs.declared.event.Event.{Event}

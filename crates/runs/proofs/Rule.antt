@@ -8,9 +8,9 @@ use Rattle.system.specs.Translation.{in_parallel, residual_of, feed_from, syncs_
 use Rattle.system.specs.declared.system.System.{System}
 use Rattle.system.specs.declared.system.Branch.{Branch}
 use Rattle.system.specs.declared.system.Branch.TheVariants.{Feed, Drain, Syncs}
-use Rattle.sharing_check.specs.Measure.{Measure, amount, sum_together, sending, receiving, syncing}
+use Rattle.sharing_rule.specs.Measure.{Measure, amount, sum_together, sending, receiving, syncing}
 use Rattle.runs.proofs.public.SharingWidths.{on_variable, variable_together, KeepsSharing}
-use Rattle.sharing_check.specs.Rule.{is_sync, is_shared, sender_on, receiver_on, user_on, width, SharesWell}
+use Rattle.sharing_rule.specs.Rule.{is_sync, is_shared, sender_on, receiver_on, user_on, width, SharesWell}
 use Rattle.runs.proofs.Adding.{AddsUp, sums, variables_add_up}
 use Rattle.runs.proofs.Amounts.{amount_within, amount_along}
 use Rattle.runs.proofs.public.VariableRule.{variable_rule}

@@ -5,7 +5,7 @@ use Rattle.runs.specs.Moves.{Place, Move, Local}
 use Rattle.address.specs.Places.{Apart}
 use Rattle.system.specs.Residual.{Residual, done, halted, inside, beside, assign, send, receive, sync, held, loop, while, test, choose, closing, drain}
 use Rattle.runs.specs.Events.{Located}
-use Rattle.sharing_check.specs.Measure.{amount, syncing}
+use Rattle.sharing_rule.specs.Measure.{amount, syncing}
 use Rattle.runs.proofs.public.WellFormed.{WellFormed}
 use Rattle.runs.proofs.Adding.{sums}
 use Rattle.runs.proofs.Later.{Later, later_inside, later_beside, after_child}

@@ -6,7 +6,7 @@ use Rattle.address.specs.Places.{Apart}
 use Rattle.system.specs.Expression.{Store, variables, decision_variables, ascending, inserted}
 use Rattle.runs.specs.Moves.{sends, receives, syncs, opens, releases, closes, assigns, tests}
 use Rattle.runs.specs.Events.{Located, at, Makes, assigning, testing, turning, meeting, opening, opening_without_data, shutting, syncing as syncs_together, places}
-use Rattle.sharing_check.specs.Measure.{Measure, most, only, sending, syncing}
+use Rattle.sharing_rule.specs.Measure.{Measure, most, only, sending, syncing}
 use Rattle.runs.proofs.public.SharingWidths.{on_variable}
 use Rattle.runs.specs.declared.event.Event.{Event}
 use Rattle.runs.proofs.Most.{only_least, most_least}

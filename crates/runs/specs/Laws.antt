@@ -6,7 +6,7 @@ use Rattle.runs.specs.Moves.{Place, Move, Local}
 use Rattle.syntax.specs.Lists.{In}
 use Rattle.system.specs.Translation.{opening_residual}
 use Rattle.system.specs.declared.system.System.{System}
-use Rattle.sharing_check.specs.Rule.{is_shared, SharesWell}
+use Rattle.sharing_rule.specs.Rule.{is_shared, SharesWell}
 use Rattle.runs.specs.Choices.{choice_of}
 use Rattle.runs.specs.Dependence.{SomeBefore, Directly, Earlier, Causes, Without, Rearranged, Respecting}
 use Rattle.runs.specs.Events.{acting, places}

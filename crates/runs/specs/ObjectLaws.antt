@@ -3,7 +3,7 @@ use Rattle.std.specs.Prelude.{◌≡◌, ◌≢◌, ◌⊎◌, ◌↔◌, ℕ, s
 use Rattle.syntax.specs.Lists.{In}
 use Rattle.system.specs.Expression.{get}
 use Rattle.system.specs.declared.system.System.{System}
-use Rattle.sharing_check.specs.Rule.{SharesWell}
+use Rattle.sharing_rule.specs.Rule.{SharesWell}
 use Rattle.runs.specs.Steps.{State, Step, Allowed, Run, opening}
 use Rattle.runs.specs.Dependence.{Causes, Without, Respecting}
 use Rattle.runs.specs.Choices.{choice_of}

@@ -1,7 +1,7 @@
 -- A system in which no uses clash and no channel passes its width keeps the rule.
 use Rattle.std.proofs.Common.{inl, inr, ⊎_elim, ℕ, ◌≤◌, ◌<◌, refl}
 use Rattle.system.specs.declared.system.System.{System}
-use Rattle.sharing_check.specs.Rule.{SharesWell}
+use Rattle.sharing_rule.specs.Rule.{SharesWell}
 use Rattle.sharing_check.specs.Refusal.{NoClash, NonePasses, Accepts, PassesWidth}
 use Rattle.sharing_check.proofs.LeastOffsets.{at_most}
 use Rattle.sharing_check.proofs.NoClash.{clash_free}

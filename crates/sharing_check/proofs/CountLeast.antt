@@ -9,7 +9,7 @@ use Rattle.std.specs.Map.{keys_of, lookup}
 use Rattle.syntax.specs.Lists.{In}
 use Rattle.system.specs.declared.system.System.{System}
 use Rattle.sharing_check.specs.declared.widths.Width.{Width}
-use Rattle.sharing_check.specs.Rule.{is_sync, width}
+use Rattle.sharing_rule.specs.Rule.{is_sync, width}
 use Rattle.sharing_check.specs.Refusal.{PassesWidth, PassesAt, Least}
 use Rattle.sharing_check.specs.internal.Counting.{Side, senders, receivers, users, Table, cut, no_use, of_side, stored, listed, measure, used_in, is_passed, declared_of, lesser, least_onto}
 use Rattle.sharing_check.proofs.CountSystem.{outside, system_counted}

@@ -6,7 +6,7 @@ use Rattle.system.specs.Residual.{Residual, Arms, no_arms, arm, done, halted, te
 use Rattle.system.specs.Translation.{OnChannel, in_sequence, in_parallel, arms_of, choose_of}
 use Rattle.sharing_check.specs.declared.widths.Together.TheVariants.{InOneBranch}
 use Rattle.sharing_check.specs.declared.widths.Width.{Width}
-use Rattle.sharing_check.specs.Measure.{amount, amount_of_arms, most}
+use Rattle.sharing_rule.specs.Measure.{amount, amount_of_arms, most}
 use Rattle.sharing_check.specs.internal.Counting.{Side, senders, receivers, users, Table, cut, nothing, join, send, receive, sync, of_side, uses, measure, used_by, adding, in_turn, last_in_turn, arms_in_turn, side_by_side}
 use Rattle.sharing_check.proofs.CountTables.{same_table}
 

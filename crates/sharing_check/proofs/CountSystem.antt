@@ -5,8 +5,8 @@ use Rattle.system.specs.Translation.{residual_of}
 use Rattle.system.specs.declared.system.System.{System}
 use Rattle.system.specs.declared.system.Branch.{Branch}
 use Rattle.system.specs.declared.system.Branch.TheVariants.{Feed, Drain, Syncs}
-use Rattle.sharing_check.specs.Measure.{amount}
-use Rattle.sharing_check.specs.Rule.{sender_on, receiver_on, user_on, width}
+use Rattle.sharing_rule.specs.Measure.{amount}
+use Rattle.sharing_rule.specs.Rule.{sender_on, receiver_on, user_on, width}
 use Rattle.sharing_check.specs.internal.Counting.{Side, senders, receivers, users, Table, cut, join, of_side, uses, measure, used_by, use_of, with_environment, used_in}
 
 -- what a branch of the environment counts for channel c

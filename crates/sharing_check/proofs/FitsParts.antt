@@ -5,7 +5,7 @@ use Rattle.address.specs.declared.Entry.TheVariants.{Ordered, Branch}
 use Rattle.address.specs.Places.{Apart}
 use Rattle.syntax.specs.Lists.{In}
 use Rattle.system.specs.Residual.{Residual, done, inside, beside, within, along, Arms}
-use Rattle.sharing_check.specs.Sharing.{Writes, WritesInArms, Mentions, MentionsInArms, OneBranchWrites, OneBranchWritesInArms}
+use Rattle.sharing_rule.specs.Sharing.{Writes, WritesInArms, Mentions, MentionsInArms, OneBranchWrites, OneBranchWritesInArms}
 use Rattle.sharing_check.specs.Uses.{VariableUse, farther, behind}
 
 -- one of the uses is of the variable x

@@ -15,7 +15,7 @@ use Rattle.system.specs.declared.command.Action.TheOpen.{Action-F}
 use Rattle.system.specs.declared.command.Action.TheFolds.{map-Action, fold-Action, fold-Arm, fold-Guarded, fold-Labelled, fold-roll-Action, fold-roll-Arm, fold-roll-Command, fold-roll-Guarded, fold-roll-Labelled, ind-Command}
 use Rattle.system.specs.declared.command.Action.TheViews.{roll-Action, roll-Arm, roll-Command, roll-Guarded, roll-Labelled}
 use Rattle.sharing_check.specs.Uses.{VariableUse, numbered, reads, uses_layer, arm_uses, command_uses, guarded_uses, labelled_uses, uses_of}
-use Rattle.sharing_check.specs.Rule.{is_shared}
+use Rattle.sharing_rule.specs.Rule.{is_shared}
 use Rattle.sharing_check.specs.Laws.{ClashFreeKeepsTheRule}
 use Rattle.sharing_check.proofs.FitsParts.{Used, Fits, FitsArms, fits_right, used_left, used_right, used_behind, written_right, free_right}
 use Rattle.sharing_check.proofs.FitsLists.{Part, fits_sequence, fits_parallel, fits_arms, fits_arms_else}

@@ -5,7 +5,7 @@ use Rattle.system.specs.declared.system.Variable.{Variable}
 use Rattle.sharing_check.specs.declared.touched.Touched.{Touched}
 use Rattle.sharing_check.specs.internal.Crossing.{Table, lesser, together, clashing, clash, touched_at, with_touched, least_after, least_with}
 use Rattle.sharing_check.specs.internal.Gathering.{Gathered, joined}
-use Rattle.sharing_check.specs.Rule.{is_shared_variable}
+use Rattle.sharing_rule.specs.Rule.{is_shared_variable}
 use Rattle.sharing_check.proofs.LeastOffsets.{Reaches, lesser_left, lesser_right, lesser_either}
 use Rattle.sharing_check.proofs.TouchTables.{Distinct, side, entry_in, touched_entry, touched_noted}
 

@@ -3,8 +3,8 @@ use Rattle.std.specs.Prelude.{◌≡◌, ℕ, false}
 use Rattle.syntax.specs.Lists.{In}
 use Rattle.system.specs.Translation.{residual_of}
 use Rattle.system.specs.declared.system.System.{System}
-use Rattle.sharing_check.specs.Sharing.{OneBranchWrites}
-use Rattle.sharing_check.specs.Rule.{is_shared}
+use Rattle.sharing_rule.specs.Sharing.{OneBranchWrites}
+use Rattle.sharing_rule.specs.Rule.{is_shared}
 use Rattle.sharing_check.specs.Uses.{VariableUse, uses_of}
 use Rattle.sharing_check.specs.Refusal.{Clash}
 

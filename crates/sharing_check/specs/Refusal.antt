@@ -1,13 +1,13 @@
 -- Which system is accepted, and which refusal each other one gets, at which offset.
 use Rattle.std.specs.Prelude.{ℕ, ◌≡◌, ◌⊎◌, ◌≤◌, ◌<◌, true, false, Option, None, Some, slice_get}
 use Rattle.system.specs.declared.system.System.{System}
-use Rattle.sharing_check.specs.Rule.{SharesWell, is_sync, is_shared, width, sender_on, receiver_on, user_on}
+use Rattle.sharing_rule.specs.Rule.{SharesWell, is_sync, is_shared, width, sender_on, receiver_on, user_on}
 use Rattle.refusals.specs.declared.sharing_check.Fault.{Fault}
 use Rattle.refusals.specs.declared.sharing_check.Fault.TheVariants.{Memory, SharedVariable, SharedChannel}
 use Rattle.syntax.specs.Lists.{In}
 use Rattle.address.specs.Places.{Apart}
 use Rattle.system.specs.declared.system.Channel.{Channel}
-use Rattle.sharing_check.specs.Measure.{sending, receiving, syncing}
+use Rattle.sharing_rule.specs.Measure.{sending, receiving, syncing}
 use Rattle.sharing_check.specs.Uses.{VariableUse, uses_of}
 
 -- two uses clash: of one variable that branches may not share, in two branches of a parallel, and one of them writes

@@ -23,7 +23,7 @@ impl Model for Checked {
 
     ghost coded = { whole.the_row.coded };
 
-    ghost use Rattle.sharing_check.specs.Rule.{SharesWell};
+    ghost use Rattle.sharing_rule.specs.Rule.{SharesWell};
 
     ghost view = { λ checked. checked.system.value };
 
@@ -40,7 +40,7 @@ impl Clone for Checked {
 }
 
 impl Checked {
-    ghost use Rattle.sharing_check.specs.Rule.{SharesWell};
+    ghost use Rattle.sharing_rule.specs.Rule.{SharesWell};
 
     /// The system.
     pub fn system(&self) -> &System

@@ -1,6 +1,6 @@
 ghost use Rattle.std.specs.Prelude.{◌≡◌, [], length, IfOk, OnOk, slice_get};
 ghost use Rattle.sharing_check.specs.internal.Crossing as model;
-ghost use Rattle.sharing_check.specs.Rule.{is_shared_variable};
+ghost use Rattle.sharing_rule.specs.Rule.{is_shared_variable};
 
 use crate::touched::{Touched, lesser};
 use indexmap::IndexMap;

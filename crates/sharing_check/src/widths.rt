@@ -9,7 +9,7 @@ ghost use Rattle.system.specs.Translation.{residual_of};
 ghost use Rattle.system.specs.internal.ArmParts.{guarded_of, labelled_of, arm_of};
 ghost use Rattle.sharing_check.specs.declared.widths.Together.TheVariants.{InOneBranch};
 ghost use Rattle.sharing_check.specs.internal.Counting as model;
-ghost use Rattle.sharing_check.specs.Rule.{is_sync};
+ghost use Rattle.sharing_rule.specs.Rule.{is_sync};
 ghost use Rattle.sharing_check.specs.Refusal.{PassesAt, Least};
 
 use indexmap::IndexMap;

@@ -28,13 +28,13 @@ machine-of source stimulus text system (Err fault) r accepted e h =
 -- a machine before its first step
 pub new-machine : {E : Type 0} (source stimulus : List ℕ) (system : System) (made : Result AtMachine E) (r : Result AtMachine Fault)
     → AcceptedAs source stimulus system → MatchResult made (λ m. r ≡ Ok m) (λ _. r ≡ Err Fault.Memory)
-    → IfOk made (λ m. m ≡ record { checked = system; live = []; next = 1 })
-    → MatchResult r (λ m. (s : System) × AcceptedAs source stimulus s × (m ≡ record { checked = s; live = []; next = 1 })) (IsRefused source stimulus)
+    → IfOk made (λ m. m ≡ record { checked = system; live = []; next = 1; marked = [] })
+    → MatchResult r (λ m. (s : System) × AcceptedAs source stimulus s × (m ≡ record { checked = s; live = []; next = 1; marked = [] })) (IsRefused source stimulus)
 new-machine source stimulus system (Ok m) r accepted e h =
-    subst (λ (x : Result AtMachine Fault). MatchResult x (λ m. (s : System) × AcceptedAs source stimulus s × (m ≡ record { checked = s; live = []; next = 1 })) (IsRefused source stimulus))
+    subst (λ (x : Result AtMachine Fault). MatchResult x (λ m. (s : System) × AcceptedAs source stimulus s × (m ≡ record { checked = s; live = []; next = 1; marked = [] })) (IsRefused source stimulus))
     (sym e) (system, accepted, h)
 new-machine source stimulus system (Err fault) r accepted e h =
-    subst (λ (x : Result AtMachine Fault). MatchResult x (λ m. (s : System) × AcceptedAs source stimulus s × (m ≡ record { checked = s; live = []; next = 1 })) (IsRefused source stimulus))
+    subst (λ (x : Result AtMachine Fault). MatchResult x (λ m. (s : System) × AcceptedAs source stimulus s × (m ≡ record { checked = s; live = []; next = 1; marked = [] })) (IsRefused source stimulus))
     (sym e) tt
 
 -- a refusal of source and stimulus is no fault of reading

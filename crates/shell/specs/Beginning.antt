@@ -15,7 +15,7 @@ IsOfTrace source stimulus m =
 -- a session on this source and stimulus, behind this trace if there is one, begins with the machine
 abbrev pub BeginsAt : List ℕ → List ℕ → Option (List ℕ) → AtMachine → Type 0
 BeginsAt source stimulus None m =
-    (system : System) × AcceptedAs source stimulus system × (m ≡ record { checked = system; live = []; next = 1 })
+    (system : System) × AcceptedAs source stimulus system × (m ≡ record { checked = system; live = []; next = 1; marked = [] })
 BeginsAt source stimulus (Some trace) m =
     (system : System) × AcceptedAs source stimulus system × IsLoaded system trace m
 

@@ -63,7 +63,7 @@ fn first_machine(alloc: Global, texts: &Texts<'_>) -> Result<Machine, Fault>
 fn new_machine(alloc: Global, texts: &Texts<'_>) -> Result<Machine, Fault>
     ensures { MatchResult result
         (λ machine. (system : System) × AcceptedAs texts.now.source.now texts.now.stimulus.now system
-        × (machine ≡ record { checked = system; live = []; next = 1 }))
+        × (machine ≡ record { checked = system; live = []; next = 1; marked = [] }))
         (IsRefused texts.now.source.now texts.now.stimulus.now) }
 {
     match accept(alloc, texts.source, texts.stimulus) {

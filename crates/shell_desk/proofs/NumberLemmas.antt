@@ -8,6 +8,7 @@ use Rattle.runs.specs.Does as calculus
 use Rattle.runs.specs.declared.event.Event.{Event}
 use Rattle.runs.specs.Commands as runs
 use Rattle.runs.specs.declared.command.Refusal.TheVariants.{Memory}
+use Rattle.machine.specs.Marks.{marks_behind}
 use Rattle.machine.specs.declared.branch.BranchReply.{BranchReply}
 use Rattle.locked_execution.specs.AtDesk.{AtDesk, execution}
 use Rattle.locked_execution.specs.Performs.{Answers, MayWantMemory, OnExecution, Performs, branch_reply, execution_command, session_reply}
@@ -39,10 +40,13 @@ leaves-all o o' _ es h = absurd h
 on-list : (d d' : AtDesk) (o : Option runs.Command) (es : List Event) → MatchOption o ⊥ (λ c. OnExecution d c (Reply.Ready es) d')
     → MatchOption o ⊥ (λ c. calculus.MayWantMemory (execution d) c) × (d' ≡ d)
 on-list d d' None es h = absurd h
-on-list d d' (Some c) es (answer, is, does, system, breaks) =
+on-list d d' (Some c) es (answer, is, does, system, breaks, marks) =
     let left = leaves-all (execution d) (execution d') c es
-    (subst (λ (a : runs.Reply). calculus.Does (execution d) c a (execution d')) (list-told answer es is) does) in
-    (left.0, all-same d d' system left.1 breaks)
+    (subst (λ (a : runs.Reply). calculus.Does (execution d) c a (execution d')) (list-told answer es is) does) in (
+      left.0,
+      all-same d d' system left.1 breaks
+          (marks ∙ ap (λ (a : runs.Reply). marks_behind a d.machine.marked) (list-told answer es is)),
+    )
 
 performs-list : (d d' : AtDesk) (session : ℕ) (c : Command) (es : List Event) → Performs d session c (Reply.Ready es) d'
     → MayWantMemory d c × (d' ≡ d)

@@ -78,7 +78,7 @@ asked-idle b k good rests =
     let none : in_branch b.desk.machine k ready.0 ≡ [] =
     filter-none (acts_in b.desk.machine k) ready.0
     (λ x i on. rests T reaches x ((ready.1.exactly x).0 i) (branch-is k (branch_at b.desk.machine.checked (acting x)) on)) in
-    (inl (BranchReply.Idle, refl, (T, ready.0, reaches, ready.1, (none, refl)), refl, refl), refl, refl, refl, refl, refl)
+    (inl (BranchReply.Idle, refl, (T, ready.0, reaches, ready.1, (none, refl)), refl, refl, refl), refl, refl, refl, refl, refl)
 
 -- where the machine is the same, a branch still has none
 rests-same : (b m : AtBench) (k : ℕ) → m.desk.machine ≡ b.desk.machine → Rests b k → Rests m k
@@ -146,7 +146,7 @@ module _ (law : StaysIdle) (ends : Ends) where
   -- the same of what is asked
   pub rests-on : (b m : AtBench) (k : ℕ) (r : Reply) (asleep s : List ℕ) → Good b → Asked b (Command.Branch k) r m
       → SleepsBehind ends m.desk.machine k r asleep s → Resting ends b asleep → Resting ends m s
-  rests-on b m k r asleep s good (inl (answer, is, steps, system, breaks), _, _, _, _, _) behind resting =
+  rests-on b m k r asleep s good (inl (answer, is, steps, system, breaks, marks), _, _, _, _, _) behind resting =
       rests-behind b m k answer asleep s good steps system
       (subst (λ (q : Reply). SleepsBehind ends m.desk.machine k q asleep s) is behind) resting
   rests-on b m k r asleep s good (inr (wanted, is, same), _, _, _, _, _) behind resting =
@@ -156,7 +156,7 @@ module _ (law : StaysIdle) (ends : Ends) where
   -- who is idle leaves the machine
   idle-same : (b m : AtBench) (k : ℕ) (r : Reply) → is_busy r ≡ false → Asked b (Command.Branch k) r m → m.desk.machine ≡ b.desk.machine
   idle-same b m k r idle (inr (wanted, is, same), _, _, _, _, _) = ap (λ (d : AtDesk). d.machine) same
-  idle-same b m k r idle (inl (answer, is, steps, system, breaks), _, _, _, _, _) =
+  idle-same b m k r idle (inl (answer, is, steps, system, breaks, marks), _, _, _, _, _) =
       by-answer answer steps (sym (ap is_busy is) ∙ idle)
     where
       by-answer : (answer : BranchReply) → StepsBranch b.desk.machine k (breaks_of b.desk b.session) answer m.desk.machine

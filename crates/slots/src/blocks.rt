@@ -70,7 +70,8 @@ fn items_at<T>(slots: &Slots<T>, place: usize) -> usize
     }
 }
 
-/// How many items are there before this place; there are `count` in all. It takes as long as `place_at`.
+/// How many items are there before this place; there are `count` in all. It takes as long as `place_at`. Its block is gone
+/// through on the shorter side.
 pub fn index_at<T>(slots: &Slots<T>, counts: &[u8], count: usize, place: usize) -> usize
     requires counted { Counted slots.now.entries counts.now }
     requires count { count ≡ length (filled slots.now.entries) }
@@ -82,6 +83,10 @@ pub fn index_at<T>(slots: &Slots<T>, counts: &[u8], count: usize, place: usize) 
     }
     let number = place / BLOCK;
     let start = BLOCK * number;
+    let end = start + BLOCK;
+    if place - start > BLOCK / 2 && end <= slots.len() {
+        return before_block(slots, counts, count, number + 1) - between(slots, place, end);
+    }
     before_block(slots, counts, count, number) + between(slots, start, place)
 }
 

@@ -3,7 +3,7 @@ use Rattle.std.proofs.Common.{◌≡◌, ◌⊎◌, inl, inr, ℕ, suc, ◌+◌,
 use Rattle.std.specs.List.{All, flat_map}
 use Rattle.syntax.specs.Lists.{Every}
 use Rattle.system.specs.declared.system.System.{System}
-use Rattle.sharing_check.specs.Rule.{SharesWell}
+use Rattle.sharing_rule.specs.Rule.{SharesWell}
 use Rattle.runs.specs.Choices.{choice_of}
 use Rattle.runs.specs.Dependence.{Respecting}
 use Rattle.runs.specs.Live.{events}

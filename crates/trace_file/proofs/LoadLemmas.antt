@@ -26,11 +26,11 @@ use Rattle.trace_file.specs.internal.Fields.{HasNone, IsCut}
 use Rattle.trace_file.proofs.EventLemmas.{every-more, events-length, ticketed-more, length-more, lines-more}
 
 -- a machine has its parts
-same-machine : (m n : AtMachine) → m.checked ≡ n.checked → m.live ≡ n.live → m.next ≡ n.next → m ≡ n
-same-machine m n a b c = λ i. record { checked = a i; live = b i; next = c i }
+same-machine : (m n : AtMachine) → m.checked ≡ n.checked → m.live ≡ n.live → m.next ≡ n.next → m.marked ≡ n.marked → m ≡ n
+same-machine m n a b c d = λ i. record { checked = a i; live = b i; next = c i; marked = d i }
 
 -- before the first line
-pub loading-start : (system : System) (steps : List ℕ) (m : AtMachine) → m ≡ record { checked = system; live = []; next = 1 }
+pub loading-start : (system : System) (steps : List ℕ) (m : AtMachine) → m ≡ record { checked = system; live = []; next = 1; marked = [] }
     → Loading system steps m steps
 loading-start system steps m e = subst (λ (n : AtMachine). Loading system steps n steps) (sym e) (record {
   checked = refl;
@@ -42,6 +42,7 @@ loading-start system steps m e = subst (λ (n : AtMachine). Loading system steps
   };
   tickets = refl;
   next = refl;
+  unmarked = refl;
 })
 
 -- one line more of the text
@@ -63,8 +64,8 @@ events-more l k n e is = ap events is ∙ events-join l ((n, e) ∷ [])
 
 -- a line more
 pub loading-more : (system : System) (text : List ℕ) (m m' : AtMachine) (rest after : List ℕ) → Loading system text m rest
-    → LineTaken m rest after m' → m'.checked ≡ m.checked → Loading system text m' after
-loading-more system text m m' rest after loading (c, step, (t, e, taken)) same =
+    → LineTaken m rest after m' → m'.checked ≡ m.checked → m'.marked ≡ m.marked → Loading system text m' after
+loading-more system text m m' rest after loading (c, step, (t, e, taken)) same marks =
     let live : m'.live ≡ m.live ++ (m.next, e) ∷ [] = ap (λ (o : Object). o.live) taken.4 in
     let more : events m'.live ≡ events m.live ++ e ∷ [] = events-more m.live m'.live m.next e live in
     let room : length (events m.live) < most_live = omega (arith, taken.1, events-length m.live) in
@@ -80,6 +81,7 @@ loading-more system text m m' rest after loading (c, step, (t, e, taken)) same =
           ∙ (ap (λ (n : ℕ). ticketed 1 (events m.live) ++ (n, e) ∷ []) (loading.next ∙ ticket)
           ∙ (sym (ticketed-more 1 (events m.live) e) ∙ ap (ticketed 1) (sym more))));
       next = next ∙ ap suc (loading.next ∙ (sym (length-more (events m.live) e) ∙ ap (λ (h : List Event). length h) (sym more)));
+      unmarked = marks ∙ loading.unmarked;
     }
 
 -- the number of the next line
@@ -101,8 +103,8 @@ pub loaded : (system : System) (v : Version) (text steps : List ℕ) (m : AtMach
 loaded system v text steps m has loading order = (
   events m.live,
   (v, steps, has, loading.begins, order),
-  same-machine m (record { checked = system; live = ticketed 1 (events m.live); next = suc (length (events m.live)) })
-      loading.checked loading.tickets loading.next,
+  same-machine m (record { checked = system; live = ticketed 1 (events m.live); next = suc (length (events m.live)); marked = [] })
+      loading.checked loading.tickets loading.next loading.unmarked,
 )
 
 -- its events do not
@@ -210,13 +212,13 @@ steps-refused system v text steps Fault.ReadFailed has stops = absurd stops
 steps-refused system v text steps Fault.WriteFailed has stops = absurd stops
 
 -- the system of a new machine
-pub new-system : (system : System) (m : AtMachine) → m ≡ record { checked = system; live = []; next = 1 } → m.checked ≡ system
+pub new-system : (system : System) (m : AtMachine) → m ≡ record { checked = system; live = []; next = 1; marked = [] } → m.checked ≡ system
 new-system system m new = ap (λ (n : AtMachine). n.checked) new
 
 -- a new machine is one by its own system
-pub is-new : (system : System) (m : AtMachine) → m ≡ record { checked = system; live = []; next = 1 } → m ≡ record { checked = m.checked; live = []; next = 1 }
-is-new system m new = new ∙ ap (λ (s : System). record { checked = s; live = []; next = 1 }) (sym (new-system system m new))
+pub is-new : (system : System) (m : AtMachine) → m ≡ record { checked = system; live = []; next = 1; marked = [] } → m ≡ record { checked = m.checked; live = []; next = 1; marked = [] }
+is-new system m new = new ∙ ap (λ (s : System). record { checked = s; live = []; next = 1; marked = [] }) (sym (new-system system m new))
 
 -- the number of the first line behind the header
-pub number-start : (system : System) (m : AtMachine) → m ≡ record { checked = system; live = []; next = 1 } → 2 ≡ 2 + length (events m.live)
+pub number-start : (system : System) (m : AtMachine) → m ≡ record { checked = system; live = []; next = 1; marked = [] } → 2 ≡ 2 + length (events m.live)
 number-start system m new = sym (ap (λ (n : AtMachine). 2 + length (events n.live)) new)

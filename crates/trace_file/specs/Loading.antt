@@ -22,11 +22,11 @@ abbrev pub ticketed : ℕ → List Event → Live
 ticketed t [] = []
 ticketed t (e ∷ h) = (t, e) ∷ ticketed (suc t) h
 
--- the machine has the events that the text stands for, in their order, under the tickets from 1 on
+-- the machine has the events that the text stands for, in their order, under the tickets from 1 on; none is marked
 abbrev pub IsLoaded : System → List ℕ → AtMachine → Type 0
 IsLoaded system text m =
     (h : List Event) × StandsFor system text h
-    × (m ≡ record { checked = system; live = ticketed 1 h; next = suc (length h) })
+    × (m ≡ record { checked = system; live = ticketed 1 h; next = suc (length h); marked = [] })
 
 -- a byte that does not end a line
 abbrev pub IsNoEnd : ℕ → Type 0

@@ -64,7 +64,7 @@ fn ready_events(machine: &Machine) -> Result<Items<Event>, AllocError>
     ensures { IfOk result (λ events. (T : State) × Reaches (object machine.now) T × ReadyList T events) }
 {
     match machine.ready() {
-        Ok(events) => Ok(events),
+        Ok(events) => Ok(Items::from_vec(events)),
         // No other refusal is told.
         Err(_) => Err(AllocError),
     }

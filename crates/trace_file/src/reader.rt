@@ -75,7 +75,7 @@ fn take_all(
     version: Version,
     steps: &[u8],
 ) -> Result<(), Fault>
-    requires { machine.old ≡ record { checked = machine.old.checked; live = []; next = 1 } }
+    requires { machine.old ≡ record { checked = machine.old.checked; live = []; next = 1; marked = [] } }
     ensures { (text : List ℕ) → HasSteps version text steps.now →
         MatchResult result (λ _. IsLoaded machine.old.checked text machine.new)
         (λ fault. IsRefused machine.old.checked text fault) }
@@ -111,7 +111,7 @@ fn without_end(text: &[u8]) -> Fault
 
 /// Takes the steps of the lines in their order. Lines count from 2.
 fn take_steps(alloc: Global, machine: &mut Machine, steps: &[u8]) -> Result<(), Fault>
-    requires { machine.old ≡ record { checked = machine.old.checked; live = []; next = 1 } }
+    requires { machine.old ≡ record { checked = machine.old.checked; live = []; next = 1; marked = [] } }
     ensures { MatchResult result (λ _. Loading machine.old.checked steps.now machine.new [])
         (λ fault. StepsStop machine.old.checked steps.now fault) }
 {
@@ -136,6 +136,7 @@ fn take_line<'a>(
     ensures line { MatchResult result (λ after. LineTaken machine.old rest.entry.now after.now machine.new)
         (λ fault. LineStops machine.old rest.entry.now number fault) }
     ensures system { machine.new.checked ≡ machine.old.checked }
+    ensures marked { machine.new.marked ≡ machine.old.marked }
 {
     let Some((place, arm, after)) = fields(rest) else {
         return Err(Fault::BadLine(number));
@@ -153,6 +154,7 @@ fn take_step(machine: &mut Machine, choice: &Choice, number: u64) -> Result<(), 
     ensures step { MatchResult result (λ _. Taken machine.old choice.now machine.new)
         (λ fault. StepStops machine.old choice.now number fault) }
     ensures system { machine.new.checked ≡ machine.old.checked }
+    ensures marked { machine.new.marked ≡ machine.old.marked }
 {
     let stepped = machine.step(choice);
     outcome(&stepped, number)

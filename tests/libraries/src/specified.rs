@@ -15,7 +15,6 @@ use source_view::view;
 use std::alloc::{AllocError, Global};
 use std::io::BufReader;
 use std::test::Fail;
-use syntax::Items;
 use trace_file::{load, save};
 use value::Value;
 
@@ -44,7 +43,7 @@ fn a_machine_is_asked(rt: HostRuntime) -> Result<(), Fail> {
     let mut machine = written(rt.alloc())?;
     let checked: &Checked = machine.checked();
     assert_eq!(rt; checked.branches(), 1);
-    let ready: Result<Items<Event>, Refusal> = machine.ready();
+    let ready: Result<Vec<Event>, Refusal> = machine.ready();
     assert_eq!(rt; ready?.len(), 0);
     let value: Option<Value> = machine.value(x);
     assert!(rt; value == Value::new(2, 8));

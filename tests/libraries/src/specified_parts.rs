@@ -17,7 +17,7 @@ use std::alloc::{AllocError, Global};
 use std::cmp::Ordering;
 use std::test::Fail;
 use store::Store;
-use syntax::{Boxed, Description, Items};
+use syntax::{Boxed, Description};
 use typed::Typed;
 use types::check_types;
 use value::{Comparison, Value, add, bit_and, bit_or, bit_xor, compare, not, resize, sub};
@@ -121,7 +121,7 @@ fn an_event_is_found_made_and_taken_back(rt: HostRuntime) -> Result<(), Fail> {
     let checked = BUFFER.checked(rt.alloc())?;
     let mut tree: Tree = Tree::new(rt.alloc(), checked.system())?;
     let mut store: Store = Store::new(rt.alloc(), checked.system())?;
-    let ready: Result<Items<Event>, AllocError> = ready_events(rt.alloc(), &tree, &store);
+    let ready: Result<Vec<Event>, AllocError> = ready_events(rt.alloc(), &tree, &store);
     assert_eq!(rt; ready?.len(), 1);
     let choice = Choice {
         place: read(rt.alloc(), b"/0.0")?.ok_or("a place")?,

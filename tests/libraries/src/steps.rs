@@ -17,7 +17,6 @@ use std::alloc::{AllocError, Global};
 use std::process::Abort;
 use std::test::Fail;
 use store::Store;
-use syntax::Items;
 use value::Value;
 
 /// A tree with its store, and what takes its events back.
@@ -81,18 +80,18 @@ fn undo(run: &mut Run, place: usize) -> Event {
 fn are_ready(alloc: Global, run: &Run, told: &[Told]) -> Result<bool, Fail> {
     let ready = ready_events(alloc, &run.uses, &run.tree, &run.store)?;
     let plain = rendezvous::ready_events(alloc, &run.tree, &run.store)?;
-    Ok(are_events(alloc, &ready, told)? && are_events(alloc, &plain, told)?)
+    Ok(are_events(alloc, ready.as_slice(), told)? && are_events(alloc, plain.as_slice(), told)?)
 }
 
 /// Whether these events are ready at the place and below it, in this order, and no others.
 fn are_ready_below(alloc: Global, run: &Run, at: &[u8], told: &[Told]) -> Result<bool, Fail> {
     let place = place(alloc, at)?;
     let found = ready_below(alloc, &run.uses, &run.tree, &run.store, place.entries())?;
-    are_events(alloc, &found, told)
+    are_events(alloc, found.as_slice(), told)
 }
 
-fn are_events(alloc: Global, found: &Items<Event>, told: &[Told]) -> Result<bool, Fail> {
-    for (event, same) in found.as_slice().iter().zip(events(alloc, told)?.as_slice()) {
+fn are_events(alloc: Global, found: &[Event], told: &[Told]) -> Result<bool, Fail> {
+    for (event, same) in found.iter().zip(events(alloc, told)?.as_slice()) {
         if !event.equals(same) {
             return Ok(false);
         }
@@ -345,7 +344,7 @@ fn any_tree_has_its_events(rt: HostRuntime) -> Result<(), Fail> {
     tree.advance(alloc, second.entries(), Ask::Assign)?;
     tree.retreat(first.entries(), None);
     let ready = rendezvous::ready_events(alloc, &tree, &store)?;
-    assert!(rt; are_events(alloc, &ready, &[assign(b"/0.0", 0, 1)])?);
+    assert!(rt; are_events(alloc, ready.as_slice(), &[assign(b"/0.0", 0, 1)])?);
     let choice = Choice {
         place: second,
         arm: 0,

@@ -4,7 +4,7 @@ use Rattle.std.specs.Prelude.{◌==◌, ◌||◌, ◌&&◌, ℕ, List, [], ◌�
 use Rattle.address.specs.declared.Entry.{Entry}
 use Rattle.address.specs.declared.Entry.TheVariants.{Ordered, Branch}
 use Rattle.system.specs.declared.system.System.{System}
-use Rattle.sharing_check.specs.Rule.{is_shared}
+use Rattle.sharing_rule.specs.Rule.{is_shared}
 use Rattle.sharing_check.specs.Uses.{VariableUse}
 use Rattle.clash_places.specs.declared.pairs.OtherUse.{OtherUse}
 

@@ -19,7 +19,7 @@ use Rattle.locked_execution.specs.declared.command.Reply.{Reply}
 use Rattle.locked_execution.proofs.public.AskedLists.{answered-joins}
 use Rattle.locked_execution.proofs.public.BackLaws.{none-take-less}
 use Rattle.locked_execution.proofs.public.BridgeLaws.{are-on-execution}
-use Rattle.locked_execution.proofs.public.Unchanged.{all-same}
+use Rattle.locked_execution.proofs.public.Unchanged.{desk-stays}
 use Rattle.dap_moves.specs.Laws.{LedNowhere, LedOn, LedByOne, KeepsHeadline, LosesNothingElse}
 use Rattle.dap_moves.specs.Known.{HasValue}
 
@@ -61,7 +61,7 @@ listed d d' (runs.Reply.Ready es) h = h.1
 listed d d' _ h = absurd h
 
 ready-stays : (d d' : AtDesk) (reply : Reply) → OnExecution d runs.Command.Ready reply d' → d' ≡ d
-ready-stays d d' reply h = all-same d d' h.3 (listed d d' h.0 h.2) h.4
+ready-stays d d' reply h = desk-stays d d' runs.Command.Ready reply tt h (listed d d' h.0 h.2)
 
 -- the list of ready events leaves the desk
 pub ready_leaves : (d d' : AtDesk) (session : ℕ) (reply : Reply) → Answers d session Command.Ready reply d' → d' ≡ d
@@ -74,7 +74,7 @@ valued d d' x (runs.Reply.Refused why) h = h.1
 valued d d' x _ h = absurd h
 
 value-stays : (d d' : AtDesk) (x : ℕ) (reply : Reply) → OnExecution d (runs.Command.Value x) reply d' → d' ≡ d
-value-stays d d' x reply h = all-same d d' h.3 (valued d d' x h.0 h.2) h.4
+value-stays d d' x reply h = desk-stays d d' (runs.Command.Value x) reply tt h (valued d d' x h.0 h.2)
 
 -- the value of a variable leaves the desk
 pub value_leaves : (d d' : AtDesk) (session x : ℕ) (reply : Reply) → Answers d session (Command.Value x) reply d' → d' ≡ d

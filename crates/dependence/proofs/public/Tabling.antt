@@ -360,7 +360,7 @@ orderly-behind next l tables f b r h behind ib = record {
       ];
   outside = λ a t at.
       let e = (h.tables.places a t).0 at in
-      elim (behind.placed t e.0 a b e.1 e.2 ib) [ inl k ↦ inr (inl k) | inr k ↦ inr (inr (inr k)) ];
+      behind.placed t e.0 a b e.1 e.2 ib;
 }
 
 -- the other way round
@@ -372,6 +372,9 @@ tree-back a b h = elim h [
   | inr (inr (inr apart)) ↦ inr (inr (inr (apart-symmetric a b apart)))
 ]
 
+in-tree : (a b : Place) → Before a b ⊎ Apart a b → OneTree a b
+in-tree a b h = elim h [ inl low ↦ inr (inl low) | inr apart ↦ inr (inr (inr apart)) ]
+
 -- and where the first of the new event's is put, with the second
 pub orderly-put : (old new : PlaceTable) (n : ℕ) (f : Event) (p : Place) → ((b : Place) → In b (places f) → Orderly old b) → ((z : Place) → f.second ≡ Some z → Apart f.first z) →
     PutAt old f.first n new → f.second ≡ Some p → Orderly new p
@@ -381,16 +384,16 @@ orderly-put old new n f p orderly own put second =
       inside = λ b c t u at cu. elim (put-only old new f.first n put b t at) [
         | inl low ↦ elim (put-only old new f.first n put c u cu) [
           | inl high ↦ first.inside b c t u low high
-          | inr is ↦ subst (λ (x : Place). OneTree b x) (sym is.0) (first.outside b t low)
+          | inr is ↦ subst (λ (x : Place). OneTree b x) (sym is.0) (in-tree b f.first (first.outside b t low))
         ]
         | inr is ↦ elim (put-only old new f.first n put c u cu) [
-          | inl high ↦ subst (λ (x : Place). OneTree x c) (sym is.0) (tree-back c f.first (first.outside c u high))
+          | inl high ↦ subst (λ (x : Place). OneTree x c) (sym is.0) (tree-back c f.first (in-tree c f.first (first.outside c u high)))
           | inr two ↦ inl (is.0 ∙ sym two.0)
         ]
       ];
       outside = λ b t at. elim (put-only old new f.first n put b t at) [
         | inl low ↦ (orderly p (second-in f p second)).outside b t low
-        | inr is ↦ inr (inr (inr (subst (λ (x : Place). Apart x p) (sym is.0) (own p second))))
+        | inr is ↦ inr (subst (λ (x : Place). Apart x p) (sym is.0) (own p second))
       ];
     }
 

@@ -31,6 +31,12 @@ ordered_of [] = []
 ordered_of (Ordered i ∷ a) = Ordered i ∷ ordered_of a
 ordered_of (Branch i ∷ a) = []
 
+-- the first branch number of a place, 0 where there is none
+abbrev pub number_of : List Entry → ℕ
+number_of [] = 0
+number_of (Ordered i ∷ a) = number_of a
+number_of (Branch i ∷ a) = i
+
 -- each entry is ordered
 abbrev pub AllOrdered : List Entry → Type 0
 AllOrdered [] = Unit {0}

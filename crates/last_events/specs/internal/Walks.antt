@@ -1,6 +1,6 @@
 -- What the steps of a walk down the branches find.
 -- No reader has to believe it: the proof of `put` ties it to `LastBefore`.
-use Rattle.std.specs.Prelude.{◌≡◌, ◌⊎◌, ℕ, ◌<◌, Bool, true, false, List, map, take}
+use Rattle.std.specs.Prelude.{◌≡◌, ◌⊎◌, ℕ, ◌-◌, ◌<◌, Bool, true, false, List, length, map, take, Some, slice_get}
 use Rattle.std.specs.declared.cmp.Ordering.TheVariants.{Less}
 use Rattle.address.specs.Places.{Before}
 use Rattle.address.specs.Order.{order_of}
@@ -9,7 +9,7 @@ use Rattle.syntax.specs.Lists.{In}
 use Rattle.last_events.specs.LastEvents.{IsAt, OneTree}
 use Rattle.last_events.specs.declared.branch.Seat.{Seat}
 use Rattle.last_events.specs.internal.Search.{Splits}
-use Rattle.last_events.specs.internal.Seats.{Places, way_of, ordered_of, seat_way, flat, IsBranch}
+use Rattle.last_events.specs.internal.Seats.{Places, way_of, ordered_of, EndsAtBranch, seat_way, flat, IsBranch}
 
 -- each two places stand in one tree
 abbrev pub Related : Places → Type 0
@@ -55,6 +55,22 @@ AddedFrom near es a old new = AddedBefore es a true old new ⊎ (AddedBefore es 
 pub record IsGroup (seats : List Seat) : Type 0 where
   pub branch : IsBranch seats
   pub related : Related (flat seats)
+
+-- each of these stands before the parallel to which the ordered entries p lead, or is a branch of it
+abbrev pub AllBeside : List Seat → List Entry → Type 0
+AllBeside seats p =
+    (s : Seat) → In s seats → (order_of (seat_way s) p ≡ Less) ⊎
+    ((ordered_of (seat_way s) ≡ p) × EndsAtBranch (seat_way s))
+
+-- so many of these ways are less than the ordered entries of the last one: it may lead into a parallel, and the others
+-- into branches of it
+abbrev pub IsGroupBegin : List (List Entry) → ℕ → Type 0
+IsGroupBegin ways n = (w : List Entry) → slice_get ways (length ways - 1) ≡ Some w → Splits ways (ordered_of w) n
+
+-- what stands in a branch, and where what it ends with begins
+pub record IsSorted (seats : List Seat) (n : ℕ) : Type 0 where
+  pub branch : IsBranch seats
+  pub begins : IsGroupBegin (map seat_way seats) n
 
 -- the first so many of these stand before the bound; where none does, there are the nearest
 pub record IsNearer (before : List Seat) (bound : List Entry) (nearest nearer : List Seat) : Type 0 where

@@ -1,124 +1,142 @@
 -- A walk down along a place, by the forms of what it comes through.
-use Rattle.std.proofs.Common.{◌≡◌, ℕ, zero, suc, ◌+◌, ◌*◌, ◌<◌, ◌≤◌, List, [], ◌∷◌, map, length, Bool, false, Option, Some, None, slice_index_or, refl, sym, ap, ◌∙◌, subst, arith}
-use Rattle.std.specs.Global.{Box}
+use Rattle.std.proofs.Common.{◌≡◌, ℕ, zero, suc, ◌+◌, ◌*◌, ◌<◌, ◌≤◌, List, [], ◌∷◌, ◌++◌, map, length, Bool, true, false, ◌&&◌, cond, Option, Some, None, slice_index_or, refl, sym, ap, ap₂, ◌∙◌, subst, arith}
+use Rattle.std.specs.Borrow.{Bor}
 use Rattle.address.specs.declared.Entry.{Entry}
 use Rattle.address.specs.declared.Entry.TheVariants.{Ordered, Branch}
 use Rattle.value.specs.Word.{Word}
-use Rattle.syntax.specs.Lists.{In}
-use Rattle.std.specs.Prelude.{◌↔◌}
-use Rattle.system.specs.Expression.{Store, Expression, Decision}
+use Rattle.system.specs.Expression.{Store, Expression}
 use Rattle.runs.specs.Moves.{Place}
-use Rattle.runs.specs.Steps.{State}
 use Rattle.process_tree.specs.Children.{proc_at}
 use Rattle.process_tree.specs.Code.{Code as MCode, Codes}
-use Rattle.process_tree.specs.Remaining.{Received, with_value, remaining}
-use Rattle.process_tree.specs.Proc.{Proc, Procs, no_procs, proc}
-use Rattle.process_tree.specs.Tidy.{Tidy}
-use Rattle.process_tree.specs.View.{proc_view, procs_of, turn_of, opened_of}
-use Rattle.process_tree.specs.internal.Parts.{tested_view}
+use Rattle.process_tree.specs.Remaining.{Received, with_value}
+use Rattle.process_tree.specs.Proc.{Proc, Procs, no_procs, proc, sequence, parallel}
+use Rattle.process_tree.specs.Tidy.{last_moved}
+use Rattle.process_tree.specs.View.{proc_view, procs_of, repeat_view, turn_of, opened_of}
 use Rattle.process_tree.specs.internal.Received.{puts_guard}
+use Rattle.process_tree.specs.declared.code.Repeat.{Repeat}
 use Rattle.process_tree.specs.declared.proc.Proc as made
-use Rattle.process_tree.specs.declared.proc.Tested as made_tested
-use Rattle.process_tree.specs.declared.proc.Tested.{Tested}
 use Rattle.runs.proofs.public.Options.{none-some}
-use Rattle.local_actions.specs.Actions.{Offered, Under}
-use Rattle.local_actions.specs.internal.At.{at, under, SameBelow}
-use Rattle.local_actions.specs.Walk.{Walk, action_at, added, down, within_arm}
-use Rattle.local_actions.specs.internal.Listed.{behind, again_at, Listing, at_work, one_after, listed, listed_sequence, listed_parallel}
-use Rattle.local_actions.specs.internal.Walk.{lists, lists_at}
+use Rattle.local_actions.specs.internal.At.{Leads, at_site, is_under, only_kind, under}
+use Rattle.local_actions.specs.Walk.{action_at, below}
+use Rattle.local_actions.specs.internal.Listed.{behind, again_at, Listing, nothing, at_work, one_after, listed, listed_sequence}
 use Rattle.local_actions.specs.declared.action.LocalAction.{LocalAction}
 use Rattle.local_actions.specs.declared.action.ActionKind.TheVariants.{Closes}
-use Rattle.local_actions.proofs.public.Exactly.{state}
+use Rattle.local_actions.specs.declared.site.Only.TheVariants.{Again, Close}
+use Rattle.local_actions.specs.declared.site.Site.{Site}
+use Rattle.local_actions.specs.declared.site.Site.TheVariants.{Nothing}
 use Rattle.local_actions.proofs.public.OneByOne.{over-nothing}
-use Rattle.local_actions.proofs.public.Passing.{taken-actions}
-use Rattle.local_actions.proofs.public.PlacedActions.{same-to, same-none, same-down, under-other, under-again, under-child, under-open, under-come, past-all, none-after, under-no-child, under-branch, under-no-branch, under-not-branch, under-itself, in-at, in-under}
-use Rattle.local_actions.proofs.public.Walked.{below-root, offers-exactly}
+use Rattle.local_actions.proofs.public.PlacedActions.{entry-itself, under-other, under-again, under-child, under-open, under-come, past-all, none-after, under-no-child, under-branch, under-no-branch, under-not-branch}
+use Rattle.local_actions.proofs.public.Sites.{again_alone}
 
--- what is found below an entry, and nothing
-to-whole : (a b : Place) (x : Entry) (L M : List LocalAction) (w v : Walk) → a ≡ x ∷ b → under (x ∷ b) L ≡ under (x ∷ b) M → SameBelow w.place (x ∷ b) v (added L w) → SameBelow w.place a v (added M w)
-to-whole a b x L M w v e same h = subst (λ (c : Place). SameBelow w.place c v (added M w)) (sym e) (same-to (x ∷ b) L M w v h same)
+-- below an entry
+behind-cond : (x : Entry) (b : Bool) (r : LocalAction) (rs : List LocalAction) → behind x (cond b (r ∷ rs) rs) ≡ cond b (action_at (x ∷ r.place) r.action ∷ behind x rs) (behind x rs)
+behind-cond x true r rs = refl
+behind-cond x false r rs = refl
 
-nothing-there : (a b : Place) (x : Entry) (M : List LocalAction) (w : Walk) → a ≡ x ∷ b → under (x ∷ b) M ≡ [] → SameBelow w.place a w (added M w)
-nothing-there a b x M w e none = subst (λ (c : Place). SameBelow w.place c w (added M w)) (sym e) (same-none (x ∷ b) M w none)
+under-front : (x : Entry) (b : Place) (rs : List LocalAction) → under (x ∷ b) (behind x rs) ≡ behind x (under b rs)
+under-front x b [] = refl
+under-front x b (r ∷ rs) =
+    ap₂ (λ c l. cond (c && is_under b r.place) (action_at (x ∷ r.place) r.action ∷ l) l) (entry-itself x) (under-front x b rs) ∙ sym (behind-cond x (is_under b r.place) r (under b rs))
 
--- one entry down
-pub inside : (x : Entry) (s : Store) (p : Proc) (w u v : Walk) (a : Place) → u ≡ down x w → SameBelow u.place a v (lists s p u) → SameBelow w.place (x ∷ a) v (lists_at x s p w)
-inside x s p w u v a e h =
-    same-down x a (listed s w.received p).actions w (down x w) v refl (subst (λ (z : Walk). SameBelow z.place a v (lists s p z)) e h)
+behind-below : (x : Entry) (b : Place) (rs : List LocalAction) → behind x (below b rs) ≡ below (x ∷ b) rs
+behind-below x b [] = refl
+behind-below x b (r ∷ rs) = ap (λ l. action_at (x ∷ (b ++ r.place)) r.action ∷ l) (behind-below x b rs)
+
+-- on from a part
+pub into : (a b : Place) (x : Entry) (old env new : Received) (y : Site) (p q : Proc) → a ≡ x ∷ b → Leads p b env new y
+    → ((s : Store) → under (x ∷ b) (behind x (listed s env p).actions) ≡ under (x ∷ b) (listed s old q).actions) → Leads q a old new y
+into a b x old env new y p q e h same s =
+    subst (λ (c : Place). under c (listed s old q).actions ≡ below c (at_site s new y)) (sym e)
+    (sym (same s) ∙ under-front x b (listed s env p).actions ∙ ap (behind x) (h s) ∙ behind-below x b (at_site s new y))
 
 -- ---- a turn of a loop
-pub turn-inside : (s : Store) (w v : Walk) (a b : Place) (j n : ℕ) (g : Option Expression) (c : MCode) (q : Proc) (over : Bool) → over ≡ false → j ≡ 2 * n + 1 → a ≡ Ordered j ∷ b
-    → SameBelow w.place (Ordered j ∷ b) v (lists_at (Ordered j) s q w) → SameBelow w.place a v (lists s (turn_of over g c n q) w)
-turn-inside s w v a b j n g c q over f k e h =
-    subst (λ o. SameBelow w.place a v (lists s (turn_of o g c n q) w)) (sym f)
-    (to-whole a b (Ordered j) (behind (Ordered j) x.actions) (one_after (2 * n + 1) x rest).actions w v e
-    (subst (λ i. under (Ordered i ∷ b) (behind (Ordered i) x.actions) ≡ under (Ordered i ∷ b) (one_after (2 * n + 1) x rest).actions) (sym k)
-    (under-child (2 * n + 1) x rest b (over-nothing s w.received q) (under-again s (n + 1) (2 * n + 1) (puts_guard w.received g) b (λ same. omega (arith, same))))) h)
-  where
-    x : Listing
-    x = listed s w.received q
+turn-at : (s : Store) (env : Received) (g : Option Expression) (c : MCode) (n : ℕ) (q : Proc) (over : Bool) → over ≡ false
+    → listed s env (turn_of over g c n q) ≡ one_after (2 * n + 1) (listed s env q) (at_work (again_at s (n + 1) (puts_guard env g)))
+turn-at s env g c n q over f = ap (λ o. listed s env (turn_of o g c n q)) f
 
-    rest : Listing
-    rest = at_work (again_at s (n + 1) (puts_guard w.received g))
+pub turn-into : (a b : Place) (j n : ℕ) (old new : Received) (y : Site) (g : Option Expression) (c : MCode) (q : Proc) (over : Bool) → over ≡ false → j ≡ 2 * n + 1 → a ≡ Ordered j ∷ b
+    → Leads q b old new y → Leads (turn_of over g c n q) a old new y
+turn-into a b j n old new y g c q over f k e h =
+    into a b (Ordered j) old old new y q (turn_of over g c n q) e h
+    (λ s. subst (λ i. under (Ordered i ∷ b) (behind (Ordered i) (listed s old q).actions) ≡ under (Ordered i ∷ b) (listed s old (turn_of over g c n q)).actions) (sym k)
+    (under-child (2 * n + 1) (listed s old q) (at_work (again_at s (n + 1) (puts_guard old g))) b (over-nothing s old q) (under-again s (n + 1) (2 * n + 1) (puts_guard old g) b (λ same. omega (arith, same)))
+    ∙ ap (λ (l : Listing). under (Ordered (2 * n + 1) ∷ b) l.actions) (sym (turn-at s old g c n q over f))))
 
-pub turn-outside : (s : Store) (w : Walk) (a : Place) (j n : ℕ) (g : Option Expression) (c : MCode) (q : Proc) (over b : Bool) → 0 < length a → over ≡ false → j ≡ 2 * n + 1 → ((d : Place) → a ≡ Ordered j ∷ d → ⊥)
-    → b ≡ (listed s w.received q).over → b ≡ false → SameBelow w.place a w (lists s (turn_of over g c n q) w)
-turn-outside s w a j n g c q over b l f k h o t =
-    subst (λ o. SameBelow w.place a w (lists s (turn_of o g c n q) w)) (sym f)
-    (same-none a _ w (under-open (2 * n + 1) (listed s w.received q) (at_work (again_at s (n + 1) (puts_guard w.received g))) a b l
-    (λ d e. h d (e ∙ ap (λ i. Ordered i ∷ d) (sym k))) o t))
+pub turn-open : (a : Place) (j n : ℕ) (env : Received) (g : Option Expression) (c : MCode) (q : Proc) (over o : Bool) → 0 < length a → over ≡ false → j ≡ 2 * n + 1 → ((d : Place) → a ≡ Ordered j ∷ d → ⊥)
+    → ((s : Store) (r : Received) → o ≡ (listed s r q).over) → o ≡ false → Leads (turn_of over g c n q) a env env Nothing
+turn-open a j n env g c q over o l f k h told t s =
+    ap (λ (x : Listing). under a x.actions) (turn-at s env g c n q over f)
+    ∙ under-open (2 * n + 1) (listed s env q) (at_work (again_at s (n + 1) (puts_guard env g))) a o l (λ d e. h d (e ∙ ap (λ i. Ordered i ∷ d) (sym k))) (told s env) t
+
+-- behind what is finished
+after-over : (i : ℕ) (x rest : Listing) (o : Bool) → o ≡ x.over → o ≡ true → one_after i x rest ≡ rest
+after-over i x rest o told t = ap (λ b. cond b rest (at_work (behind (Ordered i) x.actions))) (sym told ∙ t)
+
+pub turn-again : (a : Place) (m n : ℕ) (env : Received) (r : Bor Repeat) (y : Site) (q : Proc) (over o : Bool) → over ≡ false → m ≡ 2 * (n + 1) → ((s : Store) (v : Received) → o ≡ (listed s v q).over) → o ≡ true
+    → ((s : Store) (v : Received) → under a (action_at (Ordered m ∷ []) (only_kind s v (Again r)) ∷ []) ≡ below a (at_site s v y)) → Leads (turn_of over (repeat_view r.now).0 (repeat_view r.now).1 n q) a env env y
+turn-again a m n env r y q over o f k told t h s =
+    let g = (repeat_view r.now).0 in
+    ap (λ (x : Listing). under a x.actions) (turn-at s env g (repeat_view r.now).1 n q over f ∙ after-over (2 * n + 1) (listed s env q) (at_work (again_at s (n + 1) (puts_guard env g))) o (told s env) t)
+    ∙ ap (under a) (again_alone s (n + 1) (puts_guard env g)) ∙ ap (λ i. under a (action_at (Ordered i ∷ []) (only_kind s env (Again r)) ∷ [])) (sym k) ∙ h s env
 
 -- ---- an arm that was taken
-pub took-inside : (s : Store) (d : Decision) (cs : Codes) (j : ℕ) (t : Tested) (q : Box made.Proc) (p : made.Proc) (w v : Walk) (a b : Place) → t ≡ made_tested.Took j q → p ≡ q.value
-    → a ≡ Ordered 1 ∷ b → SameBelow w.place (Ordered 1 ∷ b) v (lists_at (Ordered 1) s (proc_view p) w) → SameBelow w.place a v (lists s (tested_view t d cs) w)
-took-inside s d cs j t q p w v a b is here e h =
-    subst (λ (u : Walk). SameBelow w.place a v u) (taken-actions s d cs j t q p w (lists_at (Ordered 1) s (proc_view p) w) is here refl)
-    (subst (λ (c : Place). SameBelow w.place c v (lists_at (Ordered 1) s (proc_view p) w)) (sym e) h)
+only-child : (s : Store) (env : Received) (q : Proc) (d : Place) → under d (behind (Ordered 1) (listed s env q).actions) ≡ under d (one_after 1 (listed s env q) nothing).actions
+only-child s env q d = pick (listed s env q).over refl
+  where
+    pick : (b : Bool) → (listed s env q).over ≡ b → under d (behind (Ordered 1) (listed s env q).actions) ≡ under d (cond b nothing (at_work (behind (Ordered 1) (listed s env q).actions))).actions
+    pick true e = ap (λ (l : List LocalAction). under d (behind (Ordered 1) l)) (over-nothing s env q e)
+    pick false e = refl
 
-pub took-outside : (s : Store) (d : Decision) (cs : Codes) (j : ℕ) (t : Tested) (q : Box made.Proc) (w : Walk) (a : Place) → t ≡ made_tested.Took j q → 0 < length a
-    → ((b : Place) → a ≡ Ordered 1 ∷ b → ⊥) → SameBelow w.place a w (lists s (tested_view t d cs) w)
-took-outside s d cs j t q w a is l h =
-    subst (λ (u : Walk). SameBelow w.place a w u) (taken-actions s d cs j t q q.value w (lists_at (Ordered 1) s (proc_view q.value) w) is refl refl)
-    (same-none a (behind (Ordered 1) (listed s w.received (proc_view q.value)).actions) w (under-other a (Ordered 1) _ l h))
+pub took-into : (a b : Place) (old new : Received) (y : Site) (p q : Proc) (took_q : (s : Store) → listed s old p ≡ one_after 1 (listed s old q) nothing) → a ≡ Ordered 1 ∷ b → Leads q b old new y → Leads p a old new y
+took-into a b old new y p q is e h =
+    into a b (Ordered 1) old old new y q p e h (λ s. only-child s old q (Ordered 1 ∷ b) ∙ ap (λ (l : Listing). under (Ordered 1 ∷ b) l.actions) (sym (is s)))
+
+pub took-open : (a : Place) (env : Received) (p q : Proc) → ((s : Store) → listed s env p ≡ one_after 1 (listed s env q) nothing) → 0 < length a → ((b : Place) → a ≡ Ordered 1 ∷ b → ⊥) → Leads p a env env Nothing
+took-open a env p q is l h s =
+    ap (λ (x : Listing). under a x.actions) (is s) ∙ sym (only-child s env q a) ∙ under-other a (Ordered 1) (listed s env q).actions l h
 
 -- ---- an arm that opened
-pub arm-inside : (s : Store) (w u v : Walk) (ds : List ℕ) (cs : Codes) (c : ℕ) (x : Option Word) (q : Proc) (over : Bool) (a b : Place) → over ≡ false
-    → u ≡ within_arm (with_value c x w.received) w → a ≡ Ordered 1 ∷ b → SameBelow u.place (Ordered 1 ∷ b) v (lists_at (Ordered 1) s q u) → SameBelow w.place a v (lists s (opened_of over ds cs c x q) w)
-arm-inside s w u v ds cs c x q over a b f k e h =
-    subst (λ o. SameBelow w.place a v (lists s (opened_of o ds cs c x q) w)) (sym f)
-    (to-whole a b (Ordered 1) (behind (Ordered 1) y.actions) (one_after 1 y rest).actions w v e (under-child 1 y rest b (over-nothing s (with_value c x w.received) q) refl)
-    (subst (λ (z : Walk). SameBelow z.place (Ordered 1 ∷ b) v (lists_at (Ordered 1) s q z)) k h))
-  where
-    y : Listing
-    y = listed s (with_value c x w.received) q
+arm-at : (s : Store) (env : Received) (ds : List ℕ) (cs : Codes) (c : ℕ) (v : Option Word) (q : Proc) (over : Bool) → over ≡ false
+    → listed s env (opened_of over ds cs c v q) ≡ one_after 1 (listed s (with_value c v env) q) (at_work (action_at (Ordered 2 ∷ []) (Closes c) ∷ []))
+arm-at s env ds cs c v q over f = ap (λ o. listed s env (opened_of o ds cs c v q)) f
 
-    rest : Listing
-    rest = at_work (action_at (Ordered 2 ∷ []) (Closes c) ∷ [])
+pub arm-into : (a b : Place) (old env new : Received) (y : Site) (ds : List ℕ) (cs : Codes) (c : ℕ) (v : Option Word) (q : Proc) (over : Bool) → over ≡ false → env ≡ with_value c v old → a ≡ Ordered 1 ∷ b
+    → Leads q b env new y → Leads (opened_of over ds cs c v q) a old new y
+arm-into a b old env new y ds cs c v q over f is e h =
+    into a b (Ordered 1) old (with_value c v old) new y q (opened_of over ds cs c v q) e (subst (λ r. Leads q b r new y) is h)
+    (λ s. under-child 1 (listed s (with_value c v old) q) (at_work (action_at (Ordered 2 ∷ []) (Closes c) ∷ [])) b (over-nothing s (with_value c v old) q) refl
+    ∙ ap (λ (l : Listing). under (Ordered 1 ∷ b) l.actions) (sym (arm-at s old ds cs c v q over f)))
 
-pub arm-outside : (s : Store) (w : Walk) (ds : List ℕ) (cs : Codes) (c : ℕ) (x : Option Word) (q : Proc) (over o : Bool) (a : Place) → 0 < length a → over ≡ false → ((b : Place) → a ≡ Ordered 1 ∷ b → ⊥)
-    → o ≡ (listed s (with_value c x w.received) q).over → o ≡ false → SameBelow w.place a w (lists s (opened_of over ds cs c x q) w)
-arm-outside s w ds cs c x q over o a l f h k t =
-    subst (λ b. SameBelow w.place a w (lists s (opened_of b ds cs c x q) w)) (sym f)
-    (same-none a _ w (under-open 1 (listed s (with_value c x w.received) q) (at_work (action_at (Ordered 2 ∷ []) (Closes c) ∷ [])) a o l h k t))
+pub arm-open : (a : Place) (env : Received) (ds : List ℕ) (cs : Codes) (c : ℕ) (v : Option Word) (q : Proc) (over o : Bool) → 0 < length a → over ≡ false → ((b : Place) → a ≡ Ordered 1 ∷ b → ⊥)
+    → ((s : Store) (r : Received) → o ≡ (listed s r q).over) → o ≡ false → Leads (opened_of over ds cs c v q) a env env Nothing
+arm-open a env ds cs c v q over o l f h told t s =
+    ap (λ (x : Listing). under a x.actions) (arm-at s env ds cs c v q over f)
+    ∙ under-open 1 (listed s (with_value c v env) q) (at_work (action_at (Ordered 2 ∷ []) (Closes c) ∷ [])) a o l h (told s (with_value c v env)) t
+
+pub arm-close : (a : Place) (env : Received) (ds : List ℕ) (cs : Codes) (c : ℕ) (v : Option Word) (y : Site) (q : Proc) (over o : Bool) → over ≡ false → ((s : Store) (r : Received) → o ≡ (listed s r q).over) → o ≡ true
+    → ((s : Store) (r : Received) → under a (action_at (Ordered 2 ∷ []) (only_kind s r (Close c)) ∷ []) ≡ below a (at_site s r y)) → Leads (opened_of over ds cs c v q) a env env y
+arm-close a env ds cs c v y q over o f told t h s =
+    ap (λ (x : Listing). under a x.actions) (arm-at s env ds cs c v q over f
+    ∙ after-over 1 (listed s (with_value c v env) q) (at_work (action_at (Ordered 2 ∷ []) (Closes c) ∷ [])) o (told s (with_value c v env)) t) ∙ h s env
 
 -- ---- a sequence
-pub sequence-inside : (s : Store) (ps : Procs) (m i : ℕ) (p : Proc) (w v : Walk) (a b : Place) → listed_sequence s w.received i 0 ps ≡ listed_sequence s w.received m 0 ps → proc_at ps i ≡ Some p
-    → a ≡ Ordered i ∷ b → SameBelow w.place (Ordered i ∷ b) v (lists_at (Ordered i) s p w) → SameBelow w.place a v (added (listed_sequence s w.received m 0 ps).actions w)
-sequence-inside s ps m i p w v a b came is e h =
-    to-whole a b (Ordered i) (behind (Ordered i) (listed s w.received p).actions) (listed_sequence s w.received m 0 ps).actions w v e
-    (under-come s w.received ps i p b is ∙ ap (λ (l : Listing). under (Ordered i ∷ b) l.actions) came) h
+abbrev pub CameTo : ℕ → Procs → Type 0
+CameTo i ps = (s : Store) (env : Received) → listed_sequence s env i 0 ps ≡ listed_sequence s env (last_moved ps) 0 ps
 
-pub sequence-nowhere : (s : Store) (ps : Procs) (m i : ℕ) (w : Walk) (a b : Place) → listed_sequence s w.received i 0 ps ≡ listed_sequence s w.received m 0 ps → proc_at ps i ≡ None
-    → a ≡ Ordered i ∷ b → SameBelow w.place a w (added (listed_sequence s w.received m 0 ps).actions w)
-sequence-nowhere s ps m i w a b came none e =
-    nothing-there a b (Ordered i) (listed_sequence s w.received m 0 ps).actions w e (ap (λ (l : Listing). under (Ordered i ∷ b) l.actions) (sym came ∙ past-all s w.received ps i 0 none))
+pub sequence-into : (ps : Procs) (i : ℕ) (p : Proc) (a b : Place) (old new : Received) (y : Site) → CameTo i ps → proc_at ps i ≡ Some p → a ≡ Ordered i ∷ b → Leads p b old new y → Leads (sequence ps) a old new y
+sequence-into ps i p a b old new y came is e h =
+    into a b (Ordered i) old old new y p (sequence ps) e h (λ s. under-come s old ps i p b is ∙ ap (λ (l : Listing). under (Ordered i ∷ b) l.actions) (came s old))
 
-pub sequence-elsewhere : (s : Store) (ps : Procs) (m i : ℕ) (w : Walk) (a b : Place) → under (Ordered i ∷ b) (listed_sequence s w.received m 0 ps).actions ≡ [] → a ≡ Ordered i ∷ b
-    → SameBelow w.place a w (added (listed_sequence s w.received m 0 ps).actions w)
-sequence-elsewhere s ps m i w a b none e = nothing-there a b (Ordered i) (listed_sequence s w.received m 0 ps).actions w e none
+pub sequence-nowhere : (ps : Procs) (i : ℕ) (a b : Place) (env : Received) → CameTo i ps → proc_at ps i ≡ None → a ≡ Ordered i ∷ b → Leads (sequence ps) a env env Nothing
+sequence-nowhere ps i a b env came none e s =
+    ap (λ (c : Place). under c (listed s env (sequence ps)).actions) e ∙ ap (λ (l : Listing). under (Ordered i ∷ b) l.actions) (sym (came s env) ∙ past-all s env ps i 0 none)
 
-pub sequence-beside : (s : Store) (ps : Procs) (m : ℕ) (w : Walk) (a : Place) → 0 < length a → ((i : ℕ) (b : Place) → a ≡ Ordered i ∷ b → ⊥) → SameBelow w.place a w (added (listed_sequence s w.received m 0 ps).actions w)
-sequence-beside s ps m w a l h = same-none a (listed_sequence s w.received m 0 ps).actions w (under-no-child s w.received ps m 0 a l h)
+pub sequence-elsewhere : (ps : Procs) (i : ℕ) (a b : Place) (env : Received) → ((s : Store) (v : Received) (d : Place) → under (Ordered i ∷ d) (listed_sequence s v (last_moved ps) 0 ps).actions ≡ []) → a ≡ Ordered i ∷ b
+    → Leads (sequence ps) a env env Nothing
+sequence-elsewhere ps i a b env none e s = ap (λ (c : Place). under c (listed s env (sequence ps)).actions) e ∙ none s env b
+
+pub sequence-beside : (ps : Procs) (a : Place) (env : Received) → 0 < length a → ((i : ℕ) (b : Place) → a ≡ Ordered i ∷ b → ⊥) → Leads (sequence ps) a env env Nothing
+sequence-beside ps a env l h s = under-no-child s env ps (last_moved ps) 0 a l h
 
 -- where there is no such child a sequence offers nothing there
 past-end-of : (s : Store) (env : Received) (ps : Procs) (k n i : ℕ) (b : Place) → proc_at ps i ≡ None → under (Ordered (n + i) ∷ b) (listed_sequence s env k n ps).actions ≡ []
@@ -139,18 +157,15 @@ past-end s env ps i b h =
     subst (λ m. under (Ordered m ∷ b) (listed_sequence s env 0 0 ps).actions ≡ []) same (past-end-of s env ps 0 0 i b h)
 
 -- ---- a parallel
-pub parallel-inside : (s : Store) (ps : Procs) (k : ℕ) (p : Proc) (w u v : Walk) (a b : Place) → proc_at ps k ≡ Some p → a ≡ Branch k ∷ b → u ≡ down (Branch k) w
-    → SameBelow u.place b v (lists s p u) → SameBelow w.place a v (added (listed_parallel s w.received 0 ps).actions w)
-parallel-inside s ps k p w u v a b is e f h =
-    to-whole a b (Branch k) (behind (Branch k) (listed s w.received p).actions) (listed_parallel s w.received 0 ps).actions w v e
-    (under-branch s w.received ps k 0 k p b is (omega arith)) (inside (Branch k) s p w u v b f h)
+pub parallel-into : (ps : Procs) (k : ℕ) (p : Proc) (a b : Place) (old new : Received) (y : Site) → proc_at ps k ≡ Some p → a ≡ Branch k ∷ b → Leads p b old new y → Leads (parallel ps) a old new y
+parallel-into ps k p a b old new y is e h =
+    into a b (Branch k) old old new y p (parallel ps) e h (λ s. under-branch s old ps k 0 k p b is (omega arith))
 
-pub parallel-nowhere : (s : Store) (ps : Procs) (k : ℕ) (w : Walk) (a b : Place) → proc_at ps k ≡ None → a ≡ Branch k ∷ b → SameBelow w.place a w (added (listed_parallel s w.received 0 ps).actions w)
-parallel-nowhere s ps k w a b none e =
-    nothing-there a b (Branch k) (listed_parallel s w.received 0 ps).actions w e (under-no-branch s w.received ps k 0 k b none (omega arith))
+pub parallel-nowhere : (ps : Procs) (k : ℕ) (a b : Place) (env : Received) → proc_at ps k ≡ None → a ≡ Branch k ∷ b → Leads (parallel ps) a env env Nothing
+parallel-nowhere ps k a b env none e s = ap (λ (c : Place). under c (listed s env (parallel ps)).actions) e ∙ under-no-branch s env ps k 0 k b none (omega arith)
 
-pub parallel-beside : (s : Store) (ps : Procs) (w : Walk) (a : Place) → 0 < length a → ((i : ℕ) (b : Place) → a ≡ Branch i ∷ b → ⊥) → SameBelow w.place a w (added (listed_parallel s w.received 0 ps).actions w)
-parallel-beside s ps w a l h = same-none a (listed_parallel s w.received 0 ps).actions w (under-not-branch s w.received ps 0 a l h)
+pub parallel-beside : (ps : Procs) (a : Place) (env : Received) → 0 < length a → ((i : ℕ) (b : Place) → a ≡ Branch i ∷ b → ⊥) → Leads (parallel ps) a env env Nothing
+parallel-beside ps a env l h s = under-not-branch s env ps 0 a l h
 
 -- processes in memory, by their numbers
 pub procs-at : (xs : List made.Proc) (i : ℕ) (x : made.Proc) → i < length xs → x ≡ slice_index_or xs i x → proc_at (procs_of (map proc_view xs)) i ≡ Some (proc_view x)
@@ -162,34 +177,3 @@ pub procs-end : (xs : List made.Proc) (i : ℕ) → length xs ≤ i → proc_at 
 procs-end [] i l = refl
 procs-end (y ∷ xs) zero l = absurd (omega (arith, l))
 procs-end (y ∷ xs) (suc i) l = procs-end xs i (omega (arith, l))
-
--- ---- the whole walk
--- a walk from the root to a place finds what is offered there and below it
-pub offered-below : (s t : Store) (p q : Proc) (w v : Walk) (a : Place) (found rs : List LocalAction) → Tidy p → w ≡ record { place = []; received = []; actions = [] } → SameBelow w.place a v (lists t q w) → t ≡ s → q ≡ p
-    → found ≡ v.actions → rs ≡ under a found → (x : LocalAction) → In x rs ↔ (Offered (state (remaining [] p) s) x × Under a x.place)
-offered-below s t p q w v a found rs tidy start same st qp fv is x =
-    let all = offers-exactly s p (listed s [] p).actions tidy refl in
-    let here : SameBelow [] a v (lists s p (record { place = []; received = []; actions = [] })) =
-    subst (λ (r : Proc). SameBelow [] a v (lists s r (record { place = []; received = []; actions = [] }))) qp
-    (subst (λ (u : Store). SameBelow [] a v (lists u q (record { place = []; received = []; actions = [] }))) st
-    (subst (λ (z : Walk). SameBelow z.place a v (lists t q z)) start same)) in
-    let list : rs ≡ under a (listed s [] p).actions = is ∙ ap (under a) fv ∙ here ∙ ap (under a) (below-root (listed s [] p).actions) in (
-      λ i. let both = (in-under a x (listed s [] p).actions).0 (subst (λ (l : List LocalAction). In x l) list i) in ((all.exactly x).0 both.0, both.1),
-      λ h. subst (λ (l : List LocalAction). In x l) (sym list) ((in-under a x (listed s [] p).actions).1 ((all.exactly x).1 h.0, h.1)),
-    )
-
--- of those the ones at the place itself
-pub offered-at : (S : State) (a b : Place) (near rs : List LocalAction) → ((x : LocalAction) → In x (under b near) ↔ (Offered S x × Under b x.place)) → b ≡ a → rs ≡ at a near → (x : LocalAction)
-    → In x rs ↔ (Offered S x × (x.place ≡ a))
-offered-at S a b near rs exactly same is x =
-    let there = in-at a x near in (
-      λ i.
-          let both = there.0 (subst (λ (l : List LocalAction). In x l) is i) in
-          (((exactly x).0 ((in-under b x near).1 (both.0, within both.1))).0, both.1),
-      λ h.
-          subst (λ (l : List LocalAction). In x l) (sym is)
-          (there.1 (((in-under b x near).0 ((exactly x).1 (h.0, within h.1))).0, h.1)),
-    )
-  where
-    within : x.place ≡ a → Under b x.place
-    within at_it = subst (λ (c : Place). Under b c) (same ∙ sym at_it) (under-itself b)

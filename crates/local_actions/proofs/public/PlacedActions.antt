@@ -1,9 +1,7 @@
 -- The actions at one place and below it: what a walk down along it finds is what all that is listed has there.
 use Rattle.std.proofs.Common.{◌≡◌, ℕ, zero, suc, ◌+◌, ◌*◌, ◌<◌, List, [], ◌∷◌, ◌++◌, length, Bool, true, false, ◌&&◌, cond, Option, Some, None, refl, sym, ap, ap₂, ◌∙◌, subst, eqb-true, eq-eqb, ne_eqb, arith, ◌↔◌, inl, inr}
 use Rattle.std.proofs.lemmas.Bool.{and_parts, and_from}
-use Rattle.std.specs.List.{filter}
-use Rattle.std.specs.Prelude.{◌==◌}
-use Rattle.std.proofs.lemmas.List.{append_assoc, append-nil}
+use Rattle.std.proofs.lemmas.List.{append-nil}
 use Rattle.address.specs.declared.Entry.{Entry}
 use Rattle.address.specs.declared.Entry.TheVariants.{Ordered, Branch}
 use Rattle.syntax.specs.Lists.{In}
@@ -15,12 +13,11 @@ use Rattle.process_tree.specs.Remaining.{Received}
 use Rattle.process_tree.specs.Proc.{Proc, Procs, no_procs, proc}
 use Rattle.local_actions.specs.Actions.{Under}
 use Rattle.runs.specs.Tests.{same_entry, same_place}
-use Rattle.local_actions.specs.internal.At.{at, is_under, under, SameBelow}
-use Rattle.local_actions.specs.Walk.{Walk, action_at, below, added, down}
+use Rattle.local_actions.specs.internal.At.{is_under, under}
+use Rattle.local_actions.specs.Walk.{action_at}
 use Rattle.local_actions.specs.internal.Listed.{behind, again_at, Listing, nothing, at_work, one_after, listed, listed_sequence, listed_parallel}
 use Rattle.local_actions.specs.declared.action.LocalAction.{LocalAction}
 use Rattle.local_actions.proofs.public.OneByOne.{over-nothing, listed-step}
-use Rattle.local_actions.proofs.public.Walks.{added-none, below-behind}
 
 -- ---- places that are the same
 entry-true : (x y : Entry) → same_entry x y ≡ true → x ≡ y
@@ -29,7 +26,7 @@ entry-true (Ordered i) (Branch j) h = cc
 entry-true (Branch i) (Ordered j) h = cc
 entry-true (Branch i) (Branch j) h = ap Branch (eqb-true i j h)
 
-entry-itself : (x : Entry) → same_entry x x ≡ true
+pub entry-itself : (x : Entry) → same_entry x x ≡ true
 entry-itself (Ordered i) = eq-eqb i i refl
 entry-itself (Branch i) = eq-eqb i i refl
 
@@ -87,36 +84,6 @@ both-cond false r xs ys = refl
 pub under-both : (a : Place) (xs ys : List LocalAction) → under a (xs ++ ys) ≡ under a xs ++ under a ys
 under-both a [] ys = refl
 under-both a (r ∷ xs) ys = ap (λ l. cond (is_under a r.place) (r ∷ l) l) (under-both a xs ys) ∙ sym (both-cond (is_under a r.place) r (under a xs) (under a ys))
-
-below-cond : (p : Place) (b : Bool) (r : LocalAction) (rs : List LocalAction) → below p (cond b (r ∷ rs) rs) ≡ cond b (action_at (p ++ r.place) r.action ∷ below p rs) (below p rs)
-below-cond p true r rs = refl
-below-cond p false r rs = refl
-
-under-below : (p a : Place) (rs : List LocalAction) → under (p ++ a) (below p rs) ≡ below p (under a rs)
-under-below p a [] = refl
-under-below p a (r ∷ rs) =
-    ap₂ (λ b l. cond b (action_at (p ++ r.place) r.action ∷ l) l) (same-below p a r.place) (under-below p a rs) ∙ sym (below-cond p (is_under a r.place) r (under a rs))
-
--- a list that has the same at the place
-pub same-added : (a : Place) (L M : List LocalAction) (w : Walk) → under a L ≡ under a M → SameBelow w.place a (added L w) (added M w)
-same-added a L M w e =
-    under-both (w.place ++ a) w.actions (below w.place L)
-    ∙ ap (λ l. under (w.place ++ a) w.actions ++ l) (under-below w.place a L ∙ ap (below w.place) e ∙ sym (under-below w.place a M))
-    ∙ sym (under-both (w.place ++ a) w.actions (below w.place M))
-
-pub same-to : (a : Place) (L M : List LocalAction) (w v : Walk) → SameBelow w.place a v (added L w) → under a L ≡ under a M → SameBelow w.place a v (added M w)
-same-to a L M w v h e = h ∙ same-added a L M w e
-
--- one that has nothing there
-pub same-none : (a : Place) (M : List LocalAction) (w : Walk) → under a M ≡ [] → SameBelow w.place a w (added M w)
-same-none a M w e = subst (λ (v : Walk). SameBelow w.place a v (added M w)) (added-none w) (same-added a [] M w (sym e))
-
--- one entry further down
-pub same-down : (x : Entry) (a : Place) (rs : List LocalAction) (w u v : Walk) → u ≡ down x w → SameBelow u.place a v (added rs u) → SameBelow w.place (x ∷ a) v (added (behind x rs) w)
-same-down x a rs w u v e h =
-    let here : SameBelow (w.place ++ x ∷ []) a v (added rs (down x w)) = subst (λ (z : Walk). SameBelow z.place a v (added rs z)) e h in
-    let deep : (w.place ++ x ∷ []) ++ a ≡ w.place ++ x ∷ a = append_assoc w.place (x ∷ []) a in
-    ap (λ (b : Place). under b v.actions) (sym deep) ∙ here ∙ ap₂ (λ (b : Place) l. under b (w.actions ++ l)) deep (below-behind w.place x rs)
 
 -- nothing behind another entry is at the place
 pub under-other : (a : Place) (x : Entry) (rs : List LocalAction) → 0 < length a → ((b : Place) → a ≡ x ∷ b → ⊥) → under a (behind x rs) ≡ []
@@ -247,37 +214,6 @@ under-not-branch s env (proc p ps) n a l h =
     under-both a (behind (Branch n) (listed s env p).actions) (listed_parallel s env (n + 1) ps).actions
     ∙ ap₂ (λ (xs ys : List LocalAction). xs ++ ys) (under-other a (Branch n) (listed s env p).actions l (h n)) (under-not-branch s env ps (n + 1) a l h)
 
--- ---- what is at a place
-found-at : (a : Place) (x : LocalAction) (rs : List LocalAction) → In x (at a rs) → In x rs × (x.place ≡ a)
-found-at a x [] i = absurd i
-found-at a x (r ∷ rs) i = pick (same_place a r.place) refl (found-at a x rs) i
-  where
-    pick : (b : Bool) → same_place a r.place ≡ b → (In x (at a rs) → In x rs × (x.place ≡ a)) → In x (cond b (r ∷ at a rs) (at a rs)) → In x (r ∷ rs) × (x.place ≡ a)
-    pick true e later j = elim j [
-      | inl u ↦ (inl u, ap (λ (y : LocalAction). y.place) u ∙ sym (place-true a r.place e))
-      | inr u ↦ let rest = later u in (inr rest.0, rest.1)
-    ]
-    pick false e later j = let rest = later j in (inr rest.0, rest.1)
-
-kept-at : (a : Place) (x : LocalAction) (rs : List LocalAction) → In x rs → x.place ≡ a → In x (at a rs)
-kept-at a x [] i e = absurd i
-kept-at a x (r ∷ rs) i e = pick (same_place a r.place) refl (λ u. kept-at a x rs u e) i
-  where
-    pick : (b : Bool) → same_place a r.place ≡ b → (In x rs → In x (at a rs)) → In x (r ∷ rs) → In x (cond b (r ∷ at a rs) (at a rs))
-    pick true t later j = elim j [ inl u ↦ inl u | inr u ↦ inr (later u) ]
-    pick false t later j = elim j [
-      | inl u ↦ let told : same_place a r.place ≡ true = ap (same_place a) (sym (ap (λ (y : LocalAction). y.place) u) ∙ e) ∙ place-itself a in cc
-      | inr u ↦ later u
-    ]
-
-pub in-at : (a : Place) (x : LocalAction) (rs : List LocalAction) → In x (at a rs) ↔ (In x rs × (x.place ≡ a))
-in-at a x rs = (found-at a x rs, λ h. kept-at a x rs h.0 h.1)
-
--- the list in memory, and the test of the code
-pub at-filter : (a : Place) (rs : List LocalAction) → filter (λ (r : LocalAction). same_place a r.place) rs ≡ at a rs
-at-filter a [] = refl
-at-filter a (r ∷ rs) = ap (λ l. cond (same_place a r.place) (r ∷ l) l) (at-filter a rs)
-
 -- ---- what is at a place and below it
 found-under : (a : Place) (x : LocalAction) (rs : List LocalAction) → In x (under a rs) → In x rs × Under a x.place
 found-under a x [] i = absurd i
@@ -304,15 +240,7 @@ kept-under a x (r ∷ rs) i h = pick (is_under a r.place) refl (λ u. kept-under
 pub in-under : (a : Place) (x : LocalAction) (rs : List LocalAction) → In x (under a rs) ↔ (In x rs × Under a x.place)
 in-under a x rs = (found-under a x rs, λ h. kept-under a x rs h.0 h.1)
 
-pub under-filter : (a : Place) (rs : List LocalAction) → filter (λ (r : LocalAction). is_under a r.place) rs ≡ under a rs
-under-filter a [] = refl
-under-filter a (r ∷ rs) = ap (λ l. cond (is_under a r.place) (r ∷ l) l) (under-filter a rs)
-
 -- below the root are all
 pub under-root : (rs : List LocalAction) → under [] rs ≡ rs
 under-root [] = refl
 under-root (r ∷ rs) = ap (λ l. r ∷ l) (under-root rs)
-
-pub under-root-at : (a : Place) (rs : List LocalAction) (b : Bool) → b ≡ (length a == 0) → b ≡ true → rs ≡ under a rs
-under-root-at [] rs b told is = sym (under-root rs)
-under-root-at (x ∷ a) rs b told is = let none : length (x ∷ a) ≡ 0 = eqb-true (length (x ∷ a)) 0 (sym told ∙ is) in absurd (omega arith)

@@ -2,14 +2,14 @@
 use Rattle.std.proofs.Common.{◌≡◌, ℕ, suc, ◌-◌, List, [], ◌∷◌, ◌++◌, length, take, false, Option, Some, None, MatchOption, refl, sym, ap, ap₂, ◌∙◌, arith}
 use Rattle.std.proofs.lemmas.List.{append-nil, append_assoc}
 use Rattle.address.specs.declared.Entry.{Entry}
-use Rattle.system.specs.Expression.{Expression, Decision, by_guards, put_decision}
+use Rattle.system.specs.Expression.{Expression, Decision, by_guards, variables, decision_variables}
 use Rattle.runs.specs.Moves.{Place}
 use Rattle.process_tree.specs.Remaining.{Received}
 use Rattle.process_tree.specs.internal.Received.{puts_value, puts_decision}
 use Rattle.local_actions.specs.Walk.{Walk, action_at, below, added, down, up, without_last, outside, received_onto}
 use Rattle.local_actions.specs.internal.Listed.{behind}
 use Rattle.local_actions.specs.internal.Walk.{put_each, put_each_decision}
-use Rattle.local_actions.specs.declared.cursor.Arrived.{Arrived}
+use Rattle.local_actions.specs.declared.around.Arrived.{Arrived}
 use Rattle.local_actions.specs.declared.action.LocalAction.{LocalAction}
 
 -- walks with the same parts
@@ -84,7 +84,6 @@ put-each-decision-onto env (a ∷ vs) d = put-each-decision-onto ((a.channel, a.
 pub put_each_decision_is : (vs : List Arrived) (d : Decision) → put_each_decision vs d ≡ puts_decision (received_onto [] vs) d
 put_each_decision_is vs d = sym (put-each-decision-onto [] vs d)
 
--- in one guard
-pub puts_one_guard : (env : Received) (e : Expression) → puts_decision env (by_guards (e ∷ []) false) ≡ by_guards (puts_value env e ∷ []) false
-puts_one_guard [] e = refl
-puts_one_guard (x ∷ env) e = ap (put_decision x.0 x.1) (puts_one_guard env e)
+-- what one guard reads
+pub guard_reads : (e : Expression) → decision_variables (by_guards (e ∷ []) false) ≡ variables e
+guard_reads e = append-nil (variables e)

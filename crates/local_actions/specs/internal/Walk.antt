@@ -7,7 +7,7 @@ use Rattle.system.specs.Expression.{Store, Expression, Decision, put_value, put_
 use Rattle.process_tree.specs.Proc.{Proc}
 use Rattle.local_actions.specs.Walk.{Walk, added}
 use Rattle.local_actions.specs.internal.Listed.{behind, listed}
-use Rattle.local_actions.specs.declared.cursor.Arrived.{Arrived}
+use Rattle.local_actions.specs.declared.around.Arrived.{Arrived}
 
 -- what is listed of a process
 abbrev pub lists : Store → Proc → Walk → Walk

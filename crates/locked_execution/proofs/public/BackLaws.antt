@@ -10,6 +10,7 @@ use Rattle.runs.specs.Steps.{opening}
 use Rattle.runs.specs.Commands as runs
 use Rattle.runs.proofs.public.Effects.{does-effect}
 use Rattle.runs.proofs.public.ObjectLaws.{stays, least-rollback-law, back-then-forth-law, rolls-exactly, rolled-value, consequences-exactly}
+use Rattle.machine.specs.Marks.{marks_behind}
 use Rattle.locked_execution.specs.AtDesk.{AtDesk, execution}
 use Rattle.locked_execution.specs.Bridge.{commands_of}
 use Rattle.locked_execution.specs.GoingBack.{NoneTakeLess, RollTakesNoOthers, ConsequencesTellRoll, ValueFromBefore, PerformsAll, AllAmountToBackAndForth}
@@ -75,10 +76,11 @@ performs-on d d' session (runs.Command.Value x) reply h = (Command.Value x, refl
 
 left-by : (d : AtDesk) (session : ℕ) (c : runs.Command) (r : runs.Reply) (m : Object) → Sound (execution d) → Does (execution d) c r m → LeftBy d session c r m
 left-by d session c r m s does =
-    let after : AtDesk = record { machine = record { checked = d.machine.checked; live = m.live; next = m.next }; breaks = d.breaks } in
+    let marks = marks_behind r d.machine.marked in
+    let after : AtDesk = record { machine = record { checked = d.machine.checked; live = m.live; next = m.next; marked = marks }; breaks = d.breaks } in
     let begun : m.opening ≡ opening d.machine.checked = same-opening (execution d) m (does-effect (execution d) c r m s does) in
     let one : m ≡ execution after = (λ i. record { opening = begun i; live = m.live; next = m.next }) in
-    let done = performs-on d after session c (session_reply r) (r, refl, subst (λ (o : Object). Does (execution d) c r o) one does, refl, refl) in
+    let done = performs-on d after session c (session_reply r) (r, refl, subst (λ (o : Object). Does (execution d) c r o) one does, refl, refl, refl) in
     record { desk = after; is = one; command = done.0; own = done.1; performed = done.2 }
 
 -- the desk that is left by all of them

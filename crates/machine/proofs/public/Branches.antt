@@ -33,9 +33,10 @@ use Rattle.machine.specs.internal.Sites.{ReadyWith}
 use Rattle.machine.proofs.Sites.{with-chosen}
 use Rattle.machine.proofs.Stepped.{chosen-first, not-taken}
 
--- the same execution of one system is the same `AtMachine`
-pub at_machine-same : (checked : Checked) (h h' : History) → execution checked h' ≡ execution checked h → at_machine checked h' ≡ at_machine checked h
-at_machine-same checked h h' e = λ i. record { checked = checked; live = (e i).live; next = (e i).next }
+-- the same execution of one system with the same marks is the same `AtMachine`
+pub at_machine-same : (checked : Checked) (h h' : History) → execution checked h' ≡ execution checked h → h'.live.marked ≡ h.live.marked →
+    at_machine checked h' ≡ at_machine checked h
+at_machine-same checked h h' e marks = λ i. record { checked = checked; live = (e i).live; next = (e i).next; marked = marks i }
 
 -- one more event that does not pass
 pub fails-more : (test : Event → Bool) (es : List Event) (i : ℕ) (e : Event) (b : Bool) → Every (λ f. test f ≡ false) (take i es) → i < length es →

@@ -3,7 +3,7 @@ use Rattle.std.proofs.Common.{◌≡◌, inl, inr, ℕ, suc, ◌+◌, ◌<◌, �
 use Rattle.std.proofs.lemmas.List.{length_push, length-take-le}
 use Rattle.syntax.specs.Lists.{In}
 use Rattle.sharing_check.specs.declared.checked.Checked.{Checked}
-use Rattle.sharing_check.specs.Rule.{SharesWell}
+use Rattle.sharing_rule.specs.Rule.{SharesWell}
 use Rattle.runs.specs.Dependence.{Directly}
 use Rattle.runs.specs.Steps.{Allowed, opening}
 use Rattle.runs.specs.Live.{Live, events, Rising, LiveAt, same, later, NoDependent, WithoutTickets}

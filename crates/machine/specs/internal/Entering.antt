@@ -12,6 +12,7 @@ pub record Entered (h : History) (kept : Event) (inverse : Inverse) (h' : Histor
   pub live : h'.live.live ≡ h.live.live ++ (h.next, kept) ∷ []
   pub inverses : h'.inverses ≡ h.inverses ++ inverse ∷ []
   pub next : h'.next ≡ suc h.next
+  pub marked : h'.live.marked ≡ h.live.marked
 
 -- nothing has changed
 pub record NotEntered (h : History) (h' : History) : Type 0 where
@@ -19,3 +20,4 @@ pub record NotEntered (h : History) (h' : History) : Type 0 where
   pub live : h'.live.live ≡ h.live.live
   pub inverses : h'.inverses ≡ h.inverses
   pub next : h'.next ≡ h.next
+  pub marked : h'.live.marked ≡ h.live.marked

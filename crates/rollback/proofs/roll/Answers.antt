@@ -1,15 +1,19 @@
+use Rattle.std.proofs.Common.{inl, refl, Ok, subst}
+use Rattle.runs.specs.Live.{Live, IsLive, NoneAt}
 use Rattle.machine.specs.AtMachine.{object}
-use Rattle.rollback.proofs.RollbackLemmas.{taken, refused, unchanged}
+use Rattle.machine.proofs.public.Standing.{live-at}
+use Rattle.rollback.proofs.RollbackLemmas.{taken}
 use Rattle.rollback.proofs.roll.Goals as goal
 
-pub returns-clause-taken : goal.returns-clause-taken
-returns-clause-taken c =
-    taken (object c.args.machine.now) (object c.roll.new.self) c.args.ticket c.roll.result c.is_sound.ensures.sound c.roll.ensures.answers
+pub roll_live-requires : goal.roll_live-requires
+roll_live-requires c =
+    subst (λ (l : Live). IsLive l c.args.ticket) c.live_events.ensures.live
+    (c.in-Some.ensures.0, live-at _ c.args.ticket c.in-Some.field-0 c.in-Some.ensures.0 c.in-Some.ensures.1)
 
-pub returns-clause-refused : goal.returns-clause-refused
-returns-clause-refused c =
-    refused (object c.args.machine.now) (object c.roll.new.self) c.args.ticket c.roll.result c.roll.ensures.answers
+pub returns-in-Some-clause-taken : goal.returns-in-Some-clause-taken
+returns-in-Some-clause-taken c =
+    taken (object c.args.machine.now) (object c.roll_live.new.machine) c.args.ticket (Ok c.roll_live.result) c.is_sound.ensures.sound
+    (inl c.roll_live.ensures.rolled)
 
-pub returns-clause-same : goal.returns-clause-same
-returns-clause-same c =
-    unchanged c.args.machine.now c.roll.new.self c.args.ticket c.roll.result c.roll.ensures.system c.roll.ensures.answers
+pub returns-in-None-clause-refused : goal.returns-in-None-clause-refused
+returns-in-None-clause-refused c = (refl, subst (λ (l : Live). NoneAt l c.args.ticket) c.live_events.ensures.live c.in-None.ensures)

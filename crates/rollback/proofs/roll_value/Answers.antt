@@ -1,22 +1,17 @@
+use Rattle.std.proofs.Common.{inl, Ok}
 use Rattle.machine.specs.AtMachine.{object}
-use Rattle.rollback.proofs.RollbackLemmas.{value-taken, value-from-before, value-refused, value-unchanged}
+use Rattle.rollback.proofs.RollbackLemmas.{value-taken, value-from-before}
 use Rattle.rollback.proofs.roll_value.Goals as goal
 
-pub returns-clause-taken : goal.returns-clause-taken
-returns-clause-taken c =
-    value-taken (object c.args.machine.now) (object c.roll_value.new.self) c.args.variable c.roll_value.result c.is_sound.ensures.sound
-    c.roll_value.ensures.answers
+pub roll_live-requires : goal.roll_live-requires
+roll_live-requires c = (c.in-Ok.ensures.blamed.event, c.in-Ok.ensures.blamed.live)
 
-pub returns-clause-value : goal.returns-clause-value
-returns-clause-value c =
-    value-from-before (object c.args.machine.now) (object c.roll_value.new.self) c.args.variable c.roll_value.result c.is_sound.ensures.sound
-    c.roll_value.ensures.answers
+pub returns-in-Ok-clause-taken : goal.returns-in-Ok-clause-taken
+returns-in-Ok-clause-taken c =
+    value-taken (object c.args.machine.now) (object c.roll_live.new.machine) c.args.variable (Ok c.roll_live.result) c.is_sound.ensures.sound
+    (inl (c.in-Ok.ticket, c.in-Ok.ensures.blamed, c.roll_live.ensures.rolled.1))
 
-pub returns-clause-refused : goal.returns-clause-refused
-returns-clause-refused c =
-    value-refused (object c.args.machine.now) (object c.roll_value.new.self) c.args.variable c.roll_value.result c.roll_value.ensures.answers
-
-pub returns-clause-same : goal.returns-clause-same
-returns-clause-same c =
-    value-unchanged c.args.machine.now c.roll_value.new.self c.args.variable c.roll_value.result c.roll_value.ensures.system
-    c.roll_value.ensures.answers
+pub returns-in-Ok-clause-value : goal.returns-in-Ok-clause-value
+returns-in-Ok-clause-value c =
+    value-from-before (object c.args.machine.now) (object c.roll_live.new.machine) c.args.variable (Ok c.roll_live.result) c.is_sound.ensures.sound
+    (inl (c.in-Ok.ticket, c.in-Ok.ensures.blamed, c.roll_live.ensures.rolled.1))

@@ -1,7 +1,7 @@
 -- The laws of runs, for the runs of a system from its opening state.
 use Rattle.std.proofs.Common.{◌≡◌, ℕ, List, ◌∷◌, Some, refl, ap, sym, ◌∙◌}
 use Rattle.system.specs.Expression.{Store}
-use Rattle.sharing_check.specs.Rule.{is_sync, is_shared}
+use Rattle.sharing_rule.specs.Rule.{is_sync, is_shared}
 use Rattle.runs.specs.Choices.{opened_arm, choice_of}
 use Rattle.runs.specs.Dependence.{Directly}
 use Rattle.runs.specs.Events.{Located, Makes, assigning, testing, turning, meeting, opening as opens_with_data, opening_without_data, shutting, syncing}

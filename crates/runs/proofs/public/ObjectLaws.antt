@@ -4,7 +4,7 @@ use Rattle.runs.specs.Steps.{State, Allowed, opening}
 use Rattle.runs.specs.Dependence.{Causes}
 use Rattle.system.specs.declared.system.System.{System}
 use Rattle.runs.proofs.public.SharingWidths.{KeepsSharing}
-use Rattle.sharing_check.specs.Rule.{SharesWell, is_sync, is_shared}
+use Rattle.sharing_rule.specs.Rule.{SharesWell, is_sync, is_shared}
 use Rattle.runs.specs.Live.{Live, events, LiveAt, DependsOn}
 use Rattle.runs.specs.Object.{Object, Reaches, most_live, last_ticket, with_event, with_live, new_object}
 use Rattle.runs.specs.Does.{Does}

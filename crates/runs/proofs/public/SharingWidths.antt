@@ -1,7 +1,7 @@
 -- The rule on sharing as limits of the widths of a residual, which steps keep.
 use Rattle.std.specs.Prelude.{ℕ, zero, suc, max, ◌≡◌, ◌≤◌, Bool, true, false}
 use Rattle.system.specs.Residual.{Residual}
-use Rattle.sharing_check.specs.Measure.{amount, sending, receiving, syncing, Measure, only, nothing}
+use Rattle.sharing_rule.specs.Measure.{amount, sending, receiving, syncing, Measure, only, nothing}
 
 -- readers beside readers count 1, one branch alone counts as it is, and a writer beside another branch that uses the variable counts at least 3
 abbrev pub variable_together : ℕ → ℕ → ℕ

@@ -4,9 +4,9 @@ use Rattle.std.proofs.Math.Nat.{le-max_left, le-max_right, max-le}
 use Rattle.syntax.specs.Lists.{In}
 use Rattle.system.specs.Expression.{variables, decision_variables}
 use Rattle.system.specs.Residual.{Residual, inside, beside, assign, send, receive, loop, while, test, choose, Arms, no_arms, arm}
-use Rattle.sharing_check.specs.Measure.{amount, amount_of_arms, most, only}
+use Rattle.sharing_rule.specs.Measure.{amount, amount_of_arms, most, only}
 use Rattle.runs.proofs.public.SharingWidths.{on_variable, variable_together}
-use Rattle.sharing_check.specs.Sharing.{Writes, WritesInArms, Mentions, MentionsInArms, OneBranchWrites, OneBranchWritesInArms}
+use Rattle.sharing_rule.specs.Sharing.{Writes, WritesInArms, Mentions, MentionsInArms, OneBranchWrites, OneBranchWritesInArms}
 use Rattle.runs.proofs.Adding.{variables_add_up}
 use Rattle.runs.proofs.Most.{only_least, most_least}
 

@@ -11,8 +11,8 @@ use Rattle.sharing_check.specs.declared.widths.Together.{Together}
 use Rattle.sharing_check.specs.declared.widths.Together.TheVariants.{InOneBranch, InBranches}
 use Rattle.sharing_check.specs.declared.widths.Width.{Width}
 use Rattle.sharing_check.specs.declared.widths.Widths.{Widths}
-use Rattle.sharing_check.specs.Measure.{Measure, amount, sending, receiving, syncing}
-use Rattle.sharing_check.specs.Rule.{is_sync}
+use Rattle.sharing_rule.specs.Measure.{Measure, amount, sending, receiving, syncing}
+use Rattle.sharing_rule.specs.Rule.{is_sync}
 use Rattle.sharing_check.specs.Refusal.{declared_at}
 
 -- which users of a channel are counted

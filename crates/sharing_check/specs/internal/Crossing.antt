@@ -5,7 +5,7 @@ use Rattle.std.specs.Prelude.{ℕ, min, List, [], ◌∷◌, length, Bool, true,
 use Rattle.std.specs.Map.{lookup}
 use Rattle.indexmap.specs.IndexMap.{insert_entry}
 use Rattle.system.specs.declared.system.Variable.{Variable}
-use Rattle.sharing_check.specs.Rule.{is_shared_variable}
+use Rattle.sharing_rule.specs.Rule.{is_shared_variable}
 use Rattle.sharing_check.specs.declared.touched.Touched.{Touched}
 
 -- the lesser of two offsets, where there are two

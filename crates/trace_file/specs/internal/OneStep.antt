@@ -1,6 +1,6 @@
 -- One line of a trace on a machine.
 -- No reader has to believe it: `proofs/LoadLemmas.antt` ties it to `IsLoaded` and `IsRefused` of `Loading.antt`.
-use Rattle.std.specs.Prelude.{ℕ, suc, ◌≡◌, ◌≢◌, ◌⊎◌, ◌<◌, List, length, get_or, Result, Ok, Err}
+use Rattle.std.specs.Prelude.{ℕ, suc, ◌≡◌, ◌≢◌, ◌⊎◌, ◌<◌, List, [], length, get_or, Result, Ok, Err}
 use Rattle.address.specs.Reading.{IsTextOf, HasNoText}
 use Rattle.address.specs.declared.Entry.{Entry}
 use Rattle.system.specs.declared.system.System.{System}
@@ -25,6 +25,7 @@ pub record Loading (system : System) (steps : List ℕ) (m : AtMachine) (rest : 
   pub begins : Begins system steps (events m.live) rest
   pub tickets : m.live ≡ ticketed 1 (events m.live)
   pub next : m.next ≡ suc (length (events m.live))
+  pub unmarked : m.marked ≡ []
 
 -- the step of this choice was taken
 abbrev pub Taken : AtMachine → Choice → AtMachine → Type 0

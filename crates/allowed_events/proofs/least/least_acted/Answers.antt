@@ -1,18 +1,16 @@
--- The events of one action after another.
+-- The events of one action.
+use Rattle.std.proofs.lemmas.Result.{IfOk-weaker}
 use Rattle.local_actions.specs.View.{state_of}
-use Rattle.allowed_events.proofs.LeastChosen.{least-start, least-step, least-end}
-use Rattle.allowed_events.proofs.Sooner.{left-none}
+use Rattle.local_actions.specs.Walk.{action_at}
+use Rattle.allowed_events.proofs.LeastChosen.{taken-alone, taken-met}
 use Rattle.allowed_events.proofs.least.least_acted.Goals as goal
 
-pub loop-one-init : goal.loop-one-init
-loop-one-init c = λ code table stems tidy. least-start (state_of c.args.tree.now c.args.store.now) c.args.arm _ c.args.acting c.into_vec-left.ensures
+pub returns-in-None : goal.returns-in-None
+returns-in-None c = λ code table stems tidy.
+    IfOk-weaker c.alone.result _ _ (λ made h. taken-alone (state_of c.args.tree.now c.args.store.now) (action_at c.args.place.now c.args.action) made h c.in-None.ensures.looks) c.alone.ensures
 
-pub loop-one-preserved : goal.loop-one-preserved
-loop-one-preserved c = λ code table stems tidy.
-    least-step (state_of c.args.tree.now c.args.store.now) c.args.arm c.loop-one.left.items c.pop.new.self.items c.args.acting c.in-Some.one c.loop-one.least c.take_acted.new.least
-    c.in-Some.ensures.items (c.in_ok-take_acted.ensures code table stems tidy) (c.loop-one.invariant code table stems tidy)
-
-pub returns : goal.returns
-returns c = λ code table stems tidy.
-    least-end (state_of c.args.tree.now c.args.store.now) c.args.arm c.loop-one.left.items c.args.acting c.loop-one.least
-    (left-none c.loop-one.left.items _ c.loop-one.left.ok.0 c.in_default.ensures.cases.0) (c.loop-one.invariant code table stems tidy)
+pub returns-in_ok-others-in-Some : goal.returns-in_ok-others-in-Some
+returns-in_ok-others-in-Some c = λ code table stems tidy.
+    IfOk-weaker c.least_met.result _ _
+    (λ least h. taken-met (state_of c.args.tree.now c.args.store.now) c.in-Some.channel (action_at c.args.place.now c.args.action) c.as_slice.result.now c.in_ok-others-in-Some.others least c.in-Some.ensures.never_alone
+    c.as_slice.ensures (c.in_ok-others-in-Some.ensures code table stems tidy) c.in-Some.ensures.looks h) c.least_met.ensures

@@ -9,7 +9,7 @@ pub returns-in-Some : goal.returns-in-Some
 returns-in-Some c =
     let last = c.in_ok-last.last in
     let same : c.live_events-live.result.now.live ≡ c.args.desk.now.machine.live =
-    c.live_events-live.ensures ∙ ap (λ (m : AtMachine). m.live) c.machine.ensures in (
+    c.live_events-live.ensures.live ∙ ap (λ (m : AtMachine). m.live) c.machine.ensures in (
       last,
       c.in-Some.field-0-1.now,
       ap (λ (l : Live). slice_get l last) (sym same) ∙ c.in-Some.ensures,

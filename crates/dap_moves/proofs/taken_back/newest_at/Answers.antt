@@ -7,4 +7,4 @@ pub returns-in-Some : goal.returns-in-Some
 returns-in-Some c =
     newest_there c.args.desk.now c.args.branch c.args.below c.in_ok-index.index c.in-Some.ticket c.in-Some.event.now c.system-system.result.now
     c.live_events-live.result.now.live (c.system-system.ensures ∙ c.checked.ensures ∙ ap (λ (m : AtMachine). m.checked) c.machine-2.ensures)
-    (c.live_events-live.ensures ∙ ap (λ (m : AtMachine). m.live) c.machine.ensures) c.requires c.in_ok-index.ensures c.in-Some.ensures
+    (c.live_events-live.ensures.live ∙ ap (λ (m : AtMachine). m.live) c.machine.ensures) c.requires c.in_ok-index.ensures c.in-Some.ensures

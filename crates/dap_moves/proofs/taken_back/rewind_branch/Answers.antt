@@ -11,7 +11,7 @@ loop-index-init c = record {
   system = refl;
   rest = rest_whole (Some c.args.branch) c.args.marks.now.lines.now c.args.marks.now.watched.now c.args.desk.now;
   none =
-      let all = c.len-below.ensures ∙ ap length (c.live_events.ensures ∙ ap (λ (m : AtMachine). m.live) c.machine.ensures) in
+      let all = c.len-below.ensures ∙ ap length (c.live_events.ensures.live ∙ ap (λ (m : AtMachine). m.live) c.machine.ensures) in
       none_behind c.args.desk.now c.args.branch c.len-below.result (omega (arith, all));
   kept = c.clear.ensures.items;
 }

@@ -1,31 +1,29 @@
-use Rattle.std.proofs.Common.{MatchOption, subst, refl, inl}
-use Rattle.debug_session.specs.Lines.{Asks, AsksNothing}
-use Rattle.debug_session.specs.declared.fault.Fault.{Fault}
-use Rattle.debug_session.proofs.AcceptLemmas.{told}
-use Rattle.debug_session.proofs.AskLemmas.{Unsaid, found-says, found-session, found-nothing}
+use Rattle.std.proofs.Common.{IfOk, IfErr, subst, refl, inr}
+use Rattle.debug_session.specs.Lines.{AsksBy}
+use Rattle.debug_session.proofs.AskLemmas.{UnsaidBy, no-keyword, behind-says, behind-session, behind-unsaid}
 use Rattle.line_text.proofs.public.CutLemmas.{not-nil}
 use Rattle.debug_session.proofs.read.read_command.Goals as goal
 
+pub returns-in_default-clause-fault : goal.returns-in_default-clause-fault
+returns-in_default-clause-fault c =
+    inr (
+      refl,
+      not-nil c.args.line.now c.is_empty.result c.is_empty.ensures c.if-is_empty.false,
+      no-keyword c.args.checked.now c.args.line.now c.cut_at_space.result.0.now c.cut_at_space.result.1.now c.cut_at_space.ensures c.in_default.ensures,
+    )
+
 pub returns-clause-line : goal.returns-clause-line
 returns-clause-line c =
-    found-says c.args.checked.now c.args.line.now c.args.number c.in_ok-read_asked.field-0 c.or_fault.result c.or_fault.ensures
-    (subst (λ system. MatchOption c.in_ok-read_asked.field-0 (AsksNothing system c.args.line.now) (λ said. Asks system c.args.line.now said))
-    c.system.ensures c.in_ok-read_asked.ensures.found)
-
-pub returns-clause-fault : goal.returns-clause-fault
-returns-clause-fault c =
-    found-nothing c.args.checked.now c.args.line.now c.args.number c.in_ok-read_asked.field-0 c.or_fault.result c.or_fault.ensures
-    (not-nil c.args.line.now c.is_empty.result c.is_empty.ensures c.if-is_empty.false)
-    (subst (λ system. MatchOption c.in_ok-read_asked.field-0 (AsksNothing system c.args.line.now) (λ said. Asks system c.args.line.now said))
-    c.system.ensures c.in_ok-read_asked.ensures.found)
-
-pub returns-in_err-read_asked-clause-fault : goal.returns-in_err-read_asked-clause-fault
-returns-in_err-read_asked-clause-fault c =
-    told c.from_residual.result Fault.Memory (Unsaid c.args.checked.now c.args.line.now c.args.number) c.from_residual.ensures.1
-    (inl (refl, c.in_err-read_asked.ensures.memory))
+    behind-says c.args.checked.now c.args.line.now c.cut_at_space.result.0.now c.cut_at_space.result.1.now c.in-Some.keyword c.read_behind.result
+    c.cut_at_space.ensures c.in-Some.ensures
+    (subst (λ system. IfOk c.read_behind.result (λ said. AsksBy system c.in-Some.keyword c.cut_at_space.result.1.now said)) c.system.ensures c.read_behind.ensures.line)
 
 pub returns-clause-session : goal.returns-clause-session
 returns-clause-session c =
-    found-session c.args.checked.now c.args.line.now c.args.number c.in_ok-read_asked.field-0 c.or_fault.result c.or_fault.ensures
-    (subst (λ system. MatchOption c.in_ok-read_asked.field-0 (AsksNothing system c.args.line.now) (λ said. Asks system c.args.line.now said))
-    c.system.ensures c.in_ok-read_asked.ensures.found)
+    behind-session c.system.result.now c.in-Some.keyword c.cut_at_space.result.1.now c.read_behind.result c.read_behind.ensures.line
+
+pub returns-clause-fault : goal.returns-clause-fault
+returns-clause-fault c =
+    behind-unsaid c.args.checked.now c.args.line.now c.cut_at_space.result.0.now c.cut_at_space.result.1.now c.in-Some.keyword c.args.number c.read_behind.result
+    c.cut_at_space.ensures c.in-Some.ensures (not-nil c.args.line.now c.is_empty.result c.is_empty.ensures c.if-is_empty.false)
+    (subst (λ system. IfErr c.read_behind.result (UnsaidBy system c.in-Some.keyword c.cut_at_space.result.1.now c.args.number)) c.system.ensures c.read_behind.ensures.fault)

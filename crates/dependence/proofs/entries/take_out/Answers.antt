@@ -1,4 +1,4 @@
-use Rattle.std.proofs.Common.{◌∙◌, ◌≡◌, ℕ, List, Some, sym, ap, subst}
+use Rattle.std.proofs.Common.{◌∙◌, ℕ, List, sym, subst}
 use Rattle.runs.specs.Live.{Live}
 use Rattle.runs.specs.declared.event.Event.{Event}
 use Rattle.dependence.specs.declared.links.Links.{Links}
@@ -27,7 +27,7 @@ returns c =
     record {
       taken = (
         c.take-kept.ensures.0,
-        out.stands ∙ ap (λ (e : Event). Some (c.args.ticket, e)) (sym c.into_inner.ensures),
+        out.stands,
         c.unlink_all.ensures.same.live ∙ out.live,
       );
       linked = subst (λ (k : Live). Linked k c.unlink_all.new.list.links) (sym c.unlink_all.ensures.same.live)

@@ -9,6 +9,8 @@ use Rattle.dependence.proofs.public.Tabling.{tabled-taken}
 use Rattle.dependence.proofs.Wholes.{whole-removed, marked-removed}
 use Rattle.dependence.proofs.public.ListPlaces.{in-at}
 use Rattle.dependence.proofs.public.Standing.{same-index}
+use Rattle.runs.specs.declared.event.Event.{Event}
+use Rattle.dependence.specs.internal.Tabled.{FewerTables}
 use Rattle.dependence.proofs.whole.take_event.Goals as goal
 
 pub remove_mark-requires : goal.remove_mark-requires
@@ -33,7 +35,8 @@ returns c =
       whole = whole-removed l c.take_out-event.new.list.live c.args.list.now.links c.take_out-event.new.list.links c.args.marks.now.items
           c.remove_mark.new.marks.items index c.requires.whole less c.take_out-event.ensures.linked taken.2 marks;
       tabled = tabled-taken r.0 l c.take_out-event.new.list.live c.args.tables.now c.remove.new.self c.args.ticket c.take_out-event.result r.1
-          here left c.requires.tabled c.remove.ensures;
+          here left c.requires.tabled
+          (subst (λ (e : Event). FewerTables c.args.tables.now c.args.ticket e c.remove.new.self) c.get.ensures c.remove.ensures);
       event = here;
       live = left;
       marked = subst (λ (k : Live). Without (λ (t : ℕ). t ≡ c.args.ticket) (tickets_marked l c.args.marks.now.items) (tickets_marked k c.remove_mark.new.marks.items))

@@ -12,5 +12,5 @@ returns-in_err-read_source g c =
 pub returns : goal.returns
 returns g c =
     source-accepted (g.F.Files.holds c.args.from.now.files.now) c.args.file.now (kept_of c.read_source.new.texts)
-    c.as_slice.result.now c.accept.result c.in_ok-read_source.ensures c.as_slice.ensures.value c.accept.ensures.system
-    c.accept.ensures.fault
+    c.as_slice.result.now c.accept_leaving.result c.in_ok-read_source.ensures c.as_slice.ensures.value c.accept_leaving.ensures.system
+    c.accept_leaving.ensures.fault

@@ -1,7 +1,10 @@
-use Rattle.std.proofs.Common.{◌<◌, List, length, refl, sym, subst, ◌∙◌, arith}
+use Rattle.std.proofs.Common.{◌<◌, List, length, map, refl, sym, subst, ◌∙◌, arith}
 use Rattle.address.specs.declared.Entry.{Entry}
 use Rattle.last_events.specs.LastEvents.{RemovedAt}
-use Rattle.last_events.specs.internal.Seats.{Places, FitsBehind}
+use Rattle.last_events.specs.declared.branch.Seat.{Seat}
+use Rattle.last_events.specs.internal.Seats.{Places, seat_way, FitsBehind, IsBranch}
+use Rattle.last_events.specs.internal.Walks.{IsGroupBegin}
+use Rattle.last_events.proofs.BesideLaws.{begin-kept, ways-kept}
 use Rattle.last_events.proofs.SeatLaws.{Stands, stands-at, stands-sound, fits-behind, left-less, event-removed, inner-taken, gone-branch, gone-removed, kept-branch, kept-removed, taken-all, taken-some, absent-as}
 use Rattle.last_events.proofs.branch.+remove.Goals as goal
 
@@ -20,7 +23,7 @@ remove_among-remove-requires t c =
     let st : Stands c.args.seats.now.items c.find_way-index.result.0 c.index_mut.result.now c.args.place.now =
     stands-at c.args.seats.now.items c.as_slice.result.now c.find_way-index.result.0 c.split_at.result.0.now _ c.args.place.now c.index_mut.result.now
     c.as_slice.ensures.value c.split_at.ensures.front c.way_length.ensures.way (c.find_way-index.ensures.yes c.if-is_there.true) c.index_mut.ensures.value in
-    let sound = stands-sound c.args.seats.now.items c.find_way-index.result.0 c.index_mut.result.now c.args.place.now c.requires st in
+    let sound = stands-sound c.args.seats.now.items c.find_way-index.result.0 c.index_mut.result.now c.args.place.now c.requires.branch st in
     let rest = c.split_at.ensures.back ∙ c.way_length.ensures.rest in
     let less = left-less c.index_mut.result.now c.args.place.now c.split_at.result.1.now sound st.way rest in (
       omega (arith, less, c.decreases),
@@ -34,14 +37,27 @@ remove_among-remove-requires-then-remove t c =
     c.as_slice.ensures.value c.split_at.ensures.front c.way_length.ensures.way (c.find_way-index.ensures.yes c.if-is_there.true) c.index_mut.ensures.value in
     omega (arith, st.within, c.args.seats.now.ok)
 
-pub remove_among-returns-then-remove-clause-branch : goal.remove_among-returns-then-remove-clause-branch
-remove_among-returns-then-remove-clause-branch t c =
+pub remove_among-count_beside-requires : goal.remove_among-count_beside-requires
+remove_among-count_beside-requires t c =
     let st : Stands c.args.seats.now.items c.find_way-index.result.0 c.index_mut.result.now c.args.place.now =
     stands-at c.args.seats.now.items c.as_slice.result.now c.find_way-index.result.0 c.split_at.result.0.now _ c.args.place.now c.index_mut.result.now
     c.as_slice.ensures.value c.split_at.ensures.front c.way_length.ensures.way (c.find_way-index.ensures.yes c.if-is_there.true) c.index_mut.ensures.value in
     let rest = c.split_at.ensures.back ∙ c.way_length.ensures.rest in
-    gone-branch c.args.seats.now.items c.find_way-index.result.0 c.index_mut.result.now c.remove.new.self c.args.place.now c.split_at.result.1.now c.requires st rest
-    c.remove-then-remove.new.self.items c.remove-then-remove.ensures.items
+    subst IsBranch (sym c.as_slice-then-remove.ensures.value)
+    (gone-branch c.args.seats.now.items c.find_way-index.result.0 c.index_mut.result.now c.remove.new.self c.args.place.now c.split_at.result.1.now c.requires.branch st rest
+    c.remove-then-remove.new.self.items c.remove-then-remove.ensures.items)
+
+pub remove_among-returns-then-remove-clause-sorted : goal.remove_among-returns-then-remove-clause-sorted
+remove_among-returns-then-remove-clause-sorted t c =
+    let st : Stands c.args.seats.now.items c.find_way-index.result.0 c.index_mut.result.now c.args.place.now =
+    stands-at c.args.seats.now.items c.as_slice.result.now c.find_way-index.result.0 c.split_at.result.0.now _ c.args.place.now c.index_mut.result.now
+    c.as_slice.ensures.value c.split_at.ensures.front c.way_length.ensures.way (c.find_way-index.ensures.yes c.if-is_there.true) c.index_mut.ensures.value in
+    let rest = c.split_at.ensures.back ∙ c.way_length.ensures.rest in
+    record {
+      branch = gone-branch c.args.seats.now.items c.find_way-index.result.0 c.index_mut.result.now c.remove.new.self c.args.place.now c.split_at.result.1.now c.requires.branch st rest
+          c.remove-then-remove.new.self.items c.remove-then-remove.ensures.items;
+      begins = subst (λ (xs : List Seat). IsGroupBegin (map seat_way xs) c.count_beside.result) c.as_slice-then-remove.ensures.value c.count_beside.ensures;
+    }
 
 pub remove_among-returns-then-remove-clause-removed : goal.remove_among-returns-then-remove-clause-removed
 remove_among-returns-then-remove-clause-removed t c =
@@ -49,18 +65,22 @@ remove_among-returns-then-remove-clause-removed t c =
     stands-at c.args.seats.now.items c.as_slice.result.now c.find_way-index.result.0 c.split_at.result.0.now _ c.args.place.now c.index_mut.result.now
     c.as_slice.ensures.value c.split_at.ensures.front c.way_length.ensures.way (c.find_way-index.ensures.yes c.if-is_there.true) c.index_mut.ensures.value in
     let rest = c.split_at.ensures.back ∙ c.way_length.ensures.rest in
-    gone-removed c.args.seats.now.items c.find_way-index.result.0 c.index_mut.result.now c.remove.new.self c.args.place.now c.split_at.result.1.now c.requires st rest
+    gone-removed c.args.seats.now.items c.find_way-index.result.0 c.index_mut.result.now c.remove.new.self c.args.place.now c.split_at.result.1.now c.requires.branch st rest
     c.remove-then-remove.new.self.items c.remove-then-remove.ensures.items (taken-all c.index_mut.result.now c.split_at.result.1.now c.remove.result c.remove.new.self c.remove.ensures c.if-remove.true)
 
-pub remove_among-returns-else-remove-clause-branch : goal.remove_among-returns-else-remove-clause-branch
-remove_among-returns-else-remove-clause-branch t c =
+pub remove_among-returns-else-remove-clause-sorted : goal.remove_among-returns-else-remove-clause-sorted
+remove_among-returns-else-remove-clause-sorted t c =
     let st : Stands c.args.seats.now.items c.find_way-index.result.0 c.index_mut.result.now c.args.place.now =
     stands-at c.args.seats.now.items c.as_slice.result.now c.find_way-index.result.0 c.split_at.result.0.now _ c.args.place.now c.index_mut.result.now
     c.as_slice.ensures.value c.split_at.ensures.front c.way_length.ensures.way (c.find_way-index.ensures.yes c.if-is_there.true) c.index_mut.ensures.value in
     let rest = c.split_at.ensures.back ∙ c.way_length.ensures.rest in
     let left = taken-some c.index_mut.result.now c.split_at.result.1.now c.remove.result c.remove.new.self c.remove.ensures c.if-remove.false in
-    kept-branch c.args.seats.now.items c.find_way-index.result.0 c.index_mut.result.now c.remove.new.self c.args.place.now c.split_at.result.1.now c.requires st rest
-    left.0 left.1
+    record {
+      branch = kept-branch c.args.seats.now.items c.find_way-index.result.0 c.index_mut.result.now c.remove.new.self c.args.place.now c.split_at.result.1.now c.requires.branch st rest
+          left.0 left.1;
+      begins = begin-kept (map seat_way c.args.seats.now.items) _ c.args.group.now
+          (ways-kept c.args.seats.now.items c.find_way-index.result.0 c.index_mut.result.now c.remove.new.self c.args.place.now st left.1) c.requires.begins;
+    }
 
 pub remove_among-returns-else-remove-clause-removed : goal.remove_among-returns-else-remove-clause-removed
 remove_among-returns-else-remove-clause-removed t c =
@@ -69,10 +89,10 @@ remove_among-returns-else-remove-clause-removed t c =
     c.as_slice.ensures.value c.split_at.ensures.front c.way_length.ensures.way (c.find_way-index.ensures.yes c.if-is_there.true) c.index_mut.ensures.value in
     let rest = c.split_at.ensures.back ∙ c.way_length.ensures.rest in
     let left = taken-some c.index_mut.result.now c.split_at.result.1.now c.remove.result c.remove.new.self c.remove.ensures c.if-remove.false in
-    kept-removed c.args.seats.now.items c.find_way-index.result.0 c.index_mut.result.now c.remove.new.self c.args.place.now c.split_at.result.1.now c.requires st rest
+    kept-removed c.args.seats.now.items c.find_way-index.result.0 c.index_mut.result.now c.remove.new.self c.args.place.now c.split_at.result.1.now c.requires.branch st rest
     left.2
 
 pub remove_among-returns-else-is_there-clause-removed : goal.remove_among-returns-else-is_there-clause-removed
 remove_among-returns-else-is_there-clause-removed t c =
-    absent-as c.args.seats.now.items c.as_slice.result.now c.as_slice.result.now c.split_at.result.0.now _ c.args.place.now c.find_way-index.result.0 c.requires
+    absent-as c.args.seats.now.items c.as_slice.result.now c.as_slice.result.now c.split_at.result.0.now _ c.args.place.now c.find_way-index.result.0 c.requires.branch
     c.as_slice.ensures.value c.as_slice.ensures.value c.split_at.ensures.front c.way_length.ensures.way c.find_way-index.ensures.splits (c.find_way-index.ensures.no c.if-is_there.false)

@@ -1,7 +1,10 @@
-use Rattle.std.proofs.Common.{◌∙◌, arith}
+use Rattle.std.proofs.Common.{◌≡◌, ◌≤◌, length, ◌∙◌, arith}
+use Rattle.last_events.proofs.ListLaws.{on-ok}
 use Rattle.last_events.proofs.TicketLaws.{insert-last}
 use Rattle.last_events.proofs.inserts.insert_at.Goals as goal
 
-pub returns-then-index-len-clause-put : goal.returns-then-index-len-clause-put
-returns-then-index-len-clause-put t c =
-    c.in_ok-push.ensures.items ∙ insert-last c.args.items.now.items c.args.index c.args.item (omega (arith, c.if-index-len.true))
+pub returns-clause-put : goal.returns-clause-put
+returns-clause-put t c =
+    let within : c.args.index ≤ length c.args.items.now.items = c.requires in
+    let all : c.args.index ≡ length c.args.items.now.items = omega (arith, within, c.if-index-len.false) in
+    on-ok c.push_last.result (λ put. put ∙ insert-last c.args.items.now.items c.args.index c.args.item all) c.push_last.ensures.put

@@ -1,11 +1,10 @@
-use Rattle.std.proofs.Common.{List, sym, subst}
-use Rattle.std.specs.Prelude.{◌↔◌}
-use Rattle.syntax.specs.Lists.{In}
-use Rattle.local_actions.specs.Actions.{Offered, Under}
-use Rattle.local_actions.specs.View.{state_of}
-use Rattle.local_actions.specs.declared.action.LocalAction.{LocalAction}
+-- The actions at a place and below it.
+use Rattle.process_tree.specs.View.{proc_view, tree_view}
+use Rattle.local_actions.proofs.public.Offering.{offered-below}
 use Rattle.local_actions.proofs.at_place.actions_below.Goals as goal
 
 pub returns : goal.returns
-returns c = λ t x.
-    subst (λ (l : List LocalAction). In x l ↔ (Offered (state_of c.args.tree.now c.args.store.now) x × Under c.args.place.now x.place)) (sym c.those_below.ensures) (c.in_ok-near.ensures t x)
+returns c = λ tidy.
+    offered-below c.args.store.now c.as_slice.result.now (tree_view c.args.tree.now) (proc_view c.root.result.now) c.args.place.now c.new-around.result c.down.new.around c.in_ok-site.site
+    tidy c.as_slice.ensures c.root.ensures c.new-around.ensures c.in_ok-site.ensures c.in_ok-cursor.cursor c.list_site.new.cursor c.into_found.result c.in_ok-cursor.ensures c.in_ok-list_site.ensures
+    c.into_found.ensures

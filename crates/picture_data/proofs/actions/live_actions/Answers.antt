@@ -8,7 +8,7 @@ use Rattle.picture_data.proofs.actions.live_actions.Goals as goal
 
 pub loop-event-preserved : goal.loop-event-preserved
 loop-event-preserved c =
-    let all = c.into_iter-event-iterator.ensures.into_iter_gives ∙ c.iter-event-items.ensures.events ∙ c.live_events-live.ensures in
+    let all = c.into_iter-event-iterator.ensures.into_iter_gives ∙ c.iter-event-items.ensures.events ∙ c.live_events-live.ensures.live in
     let at = turn _ _ _ _ c.loop-event.yielded _ _ all refl c.loop-event.yielded_by c.in-Some.ensures.steps in
     subst (λ (n : ℕ). EachStandsIn c.args.machine.now c.args.table.now (events (take n c.args.machine.now.live)) c.push.new.self.items)
     (sym (length_push c.loop-event.yielded _))
@@ -17,6 +17,6 @@ loop-event-preserved c =
 
 pub returns : goal.returns
 returns c =
-    let all = c.into_iter-event-iterator.ensures.into_iter_gives ∙ c.iter-event-items.ensures.events ∙ c.live_events-live.ensures in
+    let all = c.into_iter-event-iterator.ensures.into_iter_gives ∙ c.iter-event-items.ensures.events ∙ c.live_events-live.ensures.live in
     all-stand c.args.machine.now c.args.table.now c.args.machine.now.live (length c.loop-event.yielded) c.loop-event.actions.items
     (ended _ _ _ c.loop-event.yielded all c.loop-event.yielded_by c.in-None.ensures.steps.0) c.loop-event.invariant

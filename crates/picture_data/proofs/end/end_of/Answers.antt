@@ -12,7 +12,7 @@ use Rattle.picture_data.proofs.end.end_of.Goals as goal
 
 pub held_places-requires-clause-depths : goal.held_places-requires-clause-depths
 held_places-requires-clause-depths c =
-    subst (λ (l : Live). AreDepths l c.args.depths.now) (sym c.live_events-live.ensures) c.requires.0
+    subst (λ (l : Live). AreDepths l c.args.depths.now) (sym c.live_events-live.ensures.live) c.requires.0
 
 pub held_places-requires-clause-small : goal.held_places-requires-clause-small
 held_places-requires-clause-small c = c.requires.1
@@ -38,7 +38,7 @@ returns c =
       lacks_input = (told.0, told.1, c.lacks_input.ensures.meant told.0 told.2);
       waits = shows-waits-by c.args.machine.now c.args.table.now c.args.uses.now c.args.depths.now c.in_ok-waiting.waiting _
           c.in_ok-shown.shown.places.items c.in_ok-shown.shown.place_of_action.items c.as_slice-actions.result.now c.as_slice-events.result.now
-          c.live_events-live.result.now.live c.as_slice-actions.ensures c.as_slice-events.ensures c.live_events-live.ensures c.in_ok-waiting.ensures
+          c.live_events-live.result.now.live c.as_slice-actions.ensures c.as_slice-events.ensures c.live_events-live.ensures.live c.in_ok-waiting.ensures
           c.in_ok-shown.ensures
           (subst (λ (es : List Event). AddsSpots deep c.in_ok-shown.shown.places.items c.add_ready_places.new.places.items (ready_spots seen es))
           c.as_slice-events.ensures c.in_ok-add_ready_places.ensures)

@@ -12,5 +12,5 @@ missing l m event asked same is answered =
 
 pub returns-in-Missing : goal.returns-in-Missing
 returns-in-Missing c =
-    missing c.live_events-2.result.now.live c.args.machine.now.live c.args.event c.in_ok-asked_of.field-0 c.live_events-2.ensures
+    missing c.live_events-2.result.now.live c.args.machine.now.live c.args.event c.in_ok-asked_of.field-0 c.live_events-2.ensures.live
     c.in-Missing.is c.in_ok-asked_of.ensures

@@ -8,7 +8,7 @@ returns c = (
   c.value-value.result,
   c.last_writer-writer.result,
   c.value-value.ensures,
-  subst (λ (live : Live). model.IsWriter live c.args.variable c.last_writer-writer.result) c.live_events.ensures
+  subst (λ (live : Live). model.IsWriter live c.args.variable c.last_writer-writer.result) c.live_events.ensures.live
       c.last_writer-writer.ensures,
   search rules,
 )

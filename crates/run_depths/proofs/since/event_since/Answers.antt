@@ -10,7 +10,7 @@ use Rattle.run_depths.proofs.since.event_since.Goals as goal
 pub put_since-requires-clause-orderly : goal.put_since-requires-clause-orderly
 put_since-requires-clause-orderly c =
     let rising = c.is_sound.ensures.rising in
-    orderly-at 0 rising.0 c.args.live.now.live c.args.index c.args.index c.args.table.now c.args.event.now.first rising.1 c.requires.placed c.requires.table
+    orderly-at 0 rising.0 c.args.live.now.live c.args.index c.args.table.now c.args.event.now.first rising.1 c.requires.placed c.requires.table
     (c.args.ticket, c.args.event.now, c.requires.stands, inl refl)
 
 pub put_since-requires-clause-inside : goal.put_since-requires-clause-inside
@@ -21,7 +21,7 @@ pub put_since-requires-in-Some-clause-orderly : goal.put_since-requires-in-Some-
 put_since-requires-in-Some-clause-orderly c =
     let rising = c.is_sound.ensures.rising in
     orderly-put c.args.table.now c.put_since.new.table c.args.index c.args.event.now c.in-Some.second
-    (λ b within. orderly-at 0 rising.0 c.args.live.now.live c.args.index c.args.index c.args.table.now b rising.1 c.requires.placed c.requires.table
+    (λ b within. orderly-at 0 rising.0 c.args.live.now.live c.args.index c.args.table.now b rising.1 c.requires.placed c.requires.table
     (c.args.ticket, c.args.event.now, c.requires.stands, within))
     (λ z is. c.requires.placed.own c.args.ticket c.args.event.now z
     (in-at c.args.live.now.live c.args.index (c.args.ticket, c.args.event.now) c.requires.stands) is)

@@ -1,6 +1,6 @@
 -- A system that was not refused keeps the rule.
 use Rattle.std.proofs.Common.{sym, subst}
-use Rattle.sharing_check.specs.Rule.{SharesWell}
+use Rattle.sharing_rule.specs.Rule.{SharesWell}
 use Rattle.sharing_check.proofs.checked.check_sharing.Goals as goal
 
 pub invariant_of-result : goal.invariant_of-result

@@ -12,8 +12,8 @@ returns-then-count-len g c =
 
 pub overflow_add-result : goal.overflow_add-result
 overflow_add-result g c =
-    let one = c.before_block.ensures in
-    let two = c.between.ensures in
+    let one = c.before_block-2.ensures in
+    let two = c.between-2.ensures in
     let low = rank-low c.args.slots.now.entries c.args.place in
     let within = c.requires.within in
     let len = c.len.ensures.len in

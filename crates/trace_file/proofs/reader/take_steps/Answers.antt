@@ -22,7 +22,8 @@ pub loop-number-preserved : goal.loop-number-preserved
 loop-number-preserved c =
     let more =
     loading-more c.args.machine.now.checked c.args.steps.now c.loop-number.machine c.take_line.new.machine
-    c.loop-number.rest.now c.in_ok-rest.rest.now c.loop-number.invariant.0 c.in_ok-rest.ensures.line c.in_ok-rest.ensures.system in (
+    c.loop-number.rest.now c.in_ok-rest.rest.now c.loop-number.invariant.0 c.in_ok-rest.ensures.line c.in_ok-rest.ensures.system
+    c.in_ok-rest.ensures.marked in (
       more,
       number-more c.args.machine.now.checked c.args.steps.now c.loop-number.machine c.take_line.new.machine
           c.loop-number.rest.now c.in_ok-rest.rest.now c.loop-number.number c.loop-number.invariant.0 more c.in_ok-rest.ensures.line

@@ -7,11 +7,11 @@ use Rattle.trace_file.proofs.OrderLemmas.{runs-listed}
 use Rattle.trace_file.proofs.writer.write_trace.Goals as goal
 
 pub write_events-requires : goal.write_events-requires
-write_events-requires c = runs-listed c.args.machine.now c.live_events.result.now.live c.live_events.ensures c.is_sound.ensures.sound
+write_events-requires c = runs-listed c.args.machine.now c.live_events.result.now.live c.live_events.ensures.live c.is_sound.ensures.sound
 
 pub returns-clause-equal : goal.returns-clause-equal
 returns-clause-equal c =
     IfOk-weaker c.write_events.result _ _
     (λ text trace k other there back too. only-trace c.args.machine.now text.items k other c.is_sound.ensures.sound there back
-    (subst (λ (l : Live). IsTrace (events l) text.items) c.live_events.ensures trace) too)
+    (subst (λ (l : Live). IsTrace (events l) text.items) c.live_events.ensures.live trace) too)
     c.write_events.ensures.text

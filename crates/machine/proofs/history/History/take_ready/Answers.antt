@@ -43,4 +43,4 @@ returns-in-Ok-clause-done c = λ e at.
 pub returns-clause-done : goal.returns-clause-done
 returns-clause-done c = λ e at.
     let room = c.in_default.ensures in
-    inr (refl, room.0, room.1, at_machine-same c.args.system.now c.args.self.now c.add.new.self c.in-Err.ensures.unchanged)
+    inr (refl, room.0, room.1, at_machine-same c.args.system.now c.args.self.now c.add.new.self c.in-Err.ensures.unchanged c.add.ensures.marked)

@@ -1,4 +1,4 @@
-use Rattle.std.proofs.Common.{List, ℕ, subst}
+use Rattle.std.proofs.Common.{List, ℕ, subst, ap, ◌∙◌}
 use Rattle.machine.specs.AtMachine.{AtMachine, at_machine}
 use Rattle.machine.specs.Branching.{AnswersBranch}
 use Rattle.machine.proofs.machine.Machine.branch_step.Goals as goal
@@ -12,3 +12,6 @@ returns-clause-answers c =
 
 pub invariant_of-self : goal.invariant_of-self
 invariant_of-self c = (c.branch_step.ensures.holds, c.self.invariant.1)
+
+pub returns-clause-marked : goal.returns-clause-marked
+returns-clause-marked c = c.branch_step.ensures.marked ∙ ap (λ (h : AtMachine). h.marked) c.self.view_is

@@ -10,7 +10,11 @@ marked-live : (s : Shown) (r : Option ℕ) → IsSound s → MatchOption r (s.ma
 marked-live s None sound h = tt
 marked-live s (Some t) sound h = sound.live t h.inside
 
-pub returns : goal.returns
-returns c =
+pub returns-clause-last : goal.returns-clause-last
+returns-clause-last c =
+    subst (λ (h : AtMachine). MatchOption c.last_marked.result (h.marked ≡ []) (λ t. Greatest h.marked t)) c.self.view_is c.last_marked.ensures
+
+pub returns-clause-live : goal.returns-clause-live
+returns-clause-live c =
     subst (λ (h : AtMachine). IfSome c.last_marked.result (λ t. IsLive h.live t)) c.self.view_is
     (marked-live c.self.inside.history.live c.last_marked.result c.is_sound.ensures c.last_marked.ensures)

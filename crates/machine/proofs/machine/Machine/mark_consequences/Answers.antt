@@ -1,6 +1,6 @@
-use Rattle.std.proofs.Common.{◌≡◌, ◌∙◌, refl, sym, subst}
+use Rattle.std.proofs.Common.{◌∙◌, ap, refl, sym, subst}
 use Rattle.runs.specs.Live.{IsLive, ConsequencesList}
-use Rattle.machine.specs.AtMachine.{AtMachine, at_machine}
+use Rattle.machine.specs.AtMachine.{AtMachine}
 use Rattle.machine.specs.internal.Histories.{tree_of}
 use Rattle.machine.proofs.public.Standing.{stands-same}
 use Rattle.machine.proofs.machine.Machine.mark_consequences.Goals as goal
@@ -8,21 +8,12 @@ use Rattle.machine.proofs.machine.Machine.mark_consequences.Goals as goal
 pub mark_consequences-requires : goal.mark_consequences-requires
 mark_consequences-requires c = subst (λ (h : AtMachine). IsLive h.live c.args.ticket) (sym c.self.view_is) c.requires
 
-pub returns-clause-counted : goal.returns-clause-counted
-returns-clause-counted c =
-    let s = c.mark_consequences.new.self in (
-      s.marked,
-      subst (λ (h : AtMachine). ConsequencesList h.live c.args.ticket s.marked) c.self.view_is c.mark_consequences.ensures.marked,
-      c.mark_consequences.ensures.counted,
-    )
+pub returns-clause-marked : goal.returns-clause-marked
+returns-clause-marked c =
+    subst (λ (h : AtMachine). ConsequencesList h.live c.args.ticket c.mark_consequences.new.self.marked) c.self.view_is c.mark_consequences.ensures.marked
 
-pub returns-clause-same : goal.returns-clause-same
-returns-clause-same c =
-    let h = c.self.inside.history in
-    let after : AtMachine = record { checked = c.self.inside.system; live = c.mark_consequences.new.self.live; next = h.next } in
-    let same : after ≡ at_machine c.self.inside.system h =
-    (λ i. record { checked = c.self.inside.system; live = c.mark_consequences.ensures.live i; next = h.next }) in
-    same ∙ c.self.view_is
+pub returns-clause-live : goal.returns-clause-live
+returns-clause-live c = c.mark_consequences.ensures.live ∙ ap (λ (h : AtMachine). h.live) c.self.view_is
 
 pub invariant_of-self : goal.invariant_of-self
 invariant_of-self c =

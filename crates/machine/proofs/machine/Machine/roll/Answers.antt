@@ -1,10 +1,11 @@
-use Rattle.std.proofs.Common.{inl, subst}
+use Rattle.std.proofs.Common.{◌≡◌, inl, subst}
 use Rattle.runs.specs.Does.{Answers}
 use Rattle.runs.specs.Commands.{Command}
 use Rattle.machine.specs.AtMachine.{AtMachine, object}
 use Rattle.machine.specs.Results.{roll_reply}
 use Rattle.machine.specs.internal.Histories.{execution}
 use Rattle.machine.proofs.NeverMemory.{roll-wants-none}
+use Rattle.machine.specs.Marks.{marks_behind}
 use Rattle.machine.proofs.machine.Machine.roll.Goals as goal
 
 pub roll-requires : goal.roll-requires
@@ -22,3 +23,7 @@ returns-clause-never_memory c =
 
 pub invariant_of-self : goal.invariant_of-self
 invariant_of-self c = (c.roll.ensures.holds c.self.inside.system c.self.invariant.0, c.self.invariant.1)
+
+pub returns-clause-marked : goal.returns-clause-marked
+returns-clause-marked c =
+    subst (λ (h : AtMachine). c.roll.new.self.live.marked ≡ marks_behind (roll_reply c.roll.result) h.marked) c.self.view_is c.roll.ensures.marked

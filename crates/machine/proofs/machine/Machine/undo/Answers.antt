@@ -1,10 +1,11 @@
-use Rattle.std.proofs.Common.{inl, subst}
+use Rattle.std.proofs.Common.{◌≡◌, inl, subst}
 use Rattle.runs.specs.Does.{Answers}
 use Rattle.runs.specs.Commands.{Command}
 use Rattle.machine.specs.AtMachine.{AtMachine, object}
 use Rattle.machine.specs.Results.{undo_reply}
 use Rattle.machine.specs.internal.Histories.{execution}
 use Rattle.machine.proofs.NeverMemory.{undo-wants-none}
+use Rattle.machine.specs.Marks.{marks_behind}
 use Rattle.machine.proofs.machine.Machine.undo.Goals as goal
 
 pub undo-requires : goal.undo-requires
@@ -22,3 +23,7 @@ returns-clause-never_memory c =
 
 pub invariant_of-self : goal.invariant_of-self
 invariant_of-self c = (c.undo.ensures.holds c.self.inside.system c.self.invariant.0, c.self.invariant.1)
+
+pub returns-clause-marked : goal.returns-clause-marked
+returns-clause-marked c =
+    subst (λ (h : AtMachine). c.undo.new.self.live.marked ≡ marks_behind (undo_reply c.args.ticket c.undo.result) h.marked) c.self.view_is c.undo.ensures.marked

@@ -1,4 +1,0 @@
-use Rattle.front_end.proofs.acceptance.accept.Goals as goal
-
-pub returns-clause-fault : goal.returns-clause-fault
-returns-clause-fault c = c.checked.ensures.fault c.args.source.now c.in_ok-typed.ensures.typed

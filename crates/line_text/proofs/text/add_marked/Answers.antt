@@ -1,0 +1,7 @@
+use Rattle.std.proofs.Common.{arith}
+use Rattle.line_text.proofs.DigitLemmas.{at-most-20}
+use Rattle.line_text.proofs.text.add_marked.Goals as goal
+
+pub put_decimal-requires : goal.put_decimal-requires
+put_decimal-requires c =
+    omega (arith, c.in_ok-make_room.ensures.room, c.push_reserved.ensures.len, c.push_reserved.ensures.capacity, at-most-20 c.args.number (omega arith))

@@ -1,5 +1,0 @@
-use Rattle.std.proofs.Common.{length}
-use Rattle.local_actions.proofs.place.+is_under.Given as goal
-
-abbrev pub decreases-is_under : goal.decreases-is_under
-decreases-is_under l = length l.place.now
