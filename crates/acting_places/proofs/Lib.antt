@@ -1,4 +1,5 @@
 mod Beginning
+mod FewBranches
 mod Knowing
 mod Lined
 mod Lying

@@ -3,4 +3,7 @@
 
 mod laws;
 
-pub use laws::{events_have_lines, events_lie_in_branches};
+pub use laws::{
+    accepted_systems_have_few_branches, events_have_lines, events_lie_in_branches,
+    events_of_accepted_lie_in_branches,
+};

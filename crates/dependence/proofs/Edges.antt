@@ -21,7 +21,7 @@ use Rattle.dependence.proofs.AddedEvent.{added, others-stay, new-follows}
 use Rattle.dependence.proofs.public.FollowerLaws.{no-new-follower}
 
 -- the last of a list, or one before
-at-end : {X : Type 0} (xs : List X) (x y : X) (i : ℕ) → slice_get (xs ++ x ∷ []) i ≡ Some y → ((i < length xs) × (slice_get xs i ≡ Some y)) ⊎ (y ≡ x)
+pub at-end : {X : Type 0} (xs : List X) (x y : X) (i : ℕ) → slice_get (xs ++ x ∷ []) i ≡ Some y → ((i < length xs) × (slice_get xs i ≡ Some y)) ⊎ (y ≡ x)
 at-end [] x y zero h = inr (at-one (x ∷ []) zero y x h refl)
 at-end [] x y (suc i) h = absurd (in-at [] i y h)
 at-end (z ∷ xs) x y zero h = inl (omega arith, h)

@@ -7,13 +7,9 @@ mod Counting
 mod Distinct
 mod Edges
 mod FromIndex
-mod Keeping
 mod LastWriters
 mod ListedLaws
-mod NoMarks
+mod MarkEnds
 mod ShownStates
 mod Sweeps
-mod TakenMarked
-mod Thinning
-mod Unmarking
 mod Wholes

@@ -4,5 +4,4 @@ pub mod Followers
 pub mod Laws
 pub mod Listing
 pub mod Shown
-pub mod Taking
 pub mod internal

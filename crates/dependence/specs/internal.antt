@@ -4,5 +4,4 @@ pub mod Marking
 pub mod Sweeping
 pub mod Tabled
 pub mod Tables
-pub mod Unmarked
 pub mod Whole

@@ -17,7 +17,6 @@ mod live_list;
 mod marks;
 mod puts;
 mod tables;
-mod take;
 mod topmost;
 mod unreached;
 mod whole;

@@ -1,4 +1,4 @@
-ghost use Rattle.std.specs.Prelude.{◌≡◌, ◌<◌, ◌≤◌, ◌^◌, ℕ, [], length, Some, None, slice_get, MatchOption, IfErr, IfOk, OnOk};
+ghost use Rattle.std.specs.Prelude.{◌≡◌, ◌<◌, ◌^◌, ℕ, [], length, Some, None, slice_get, MatchOption, IfErr, IfOk, OnOk};
 ghost use Rattle.runs.specs.Dependence.{Without};
 ghost use Rattle.runs.specs.Live.{LiveAt, NoneAt, NoDependent, FirstDependent, ConsequencesList, WithoutTickets, IsLive, LastWriter, NoWriter};
 ghost use Rattle.last_events.specs.LastEvents.{first_child};
@@ -6,17 +6,14 @@ ghost use Rattle.dependence.specs.Acting.{ActsAlone, NoneActs};
 ghost use Rattle.dependence.specs.Behind.{ComesBehind};
 ghost use Rattle.dependence.specs.Followers.{ListsFollowers, ListsLeads, CountsDirect};
 ghost use Rattle.dependence.specs.Shown.{with_newest, Greatest, IsSound};
-ghost use Rattle.dependence.specs.Taking.{MarksAllDependents, OneMarkedAt, NoneMarkedAt, IsNearMarked, StaysBeside};
-ghost use Rattle.syntax.specs.Lists.{In};
 
 use crate::acting_event::acting_at_first_child;
 use crate::consequences::consequences;
 use crate::count::count_direct;
 use crate::live_events::LiveEvents;
 use crate::live_list::LiveList;
-use crate::marks::{copy_marked, last_marked, mark_and_count, marked_at, unmarked_below};
+use crate::marks::{copy_marked, end_below, mark_and_count};
 use crate::tables::Tables;
-use crate::take::{keep_unmarked, take_marked};
 use crate::whole::{add_event, followers_of, last_writer, leads_at, least_dependent, take_event};
 use address::Entry;
 use runs::Event;
@@ -32,6 +29,8 @@ pub struct Live {
     marks: Vec<bool>,
     /// no event of a lesser ticket is marked
     first_marked: u64,
+    /// behind the last mark that is set, 0 where none is
+    marked_to: usize,
     tables: Tables,
     /// room in which is looked for what a new event follows
     found: Vec<u64>,
@@ -42,7 +41,7 @@ impl Model for Live {
 
     ghost Value = { Shown };
 
-    ghost use Rattle.dependence.specs.internal.Marking.{NoneLess};
+    ghost use Rattle.dependence.specs.internal.Marking.{NoneLess, EndsAt};
     ghost use Rattle.dependence.specs.internal.Tabled.{IsTabled};
     ghost use Rattle.dependence.specs.internal.Whole.{IsWhole};
 
@@ -50,7 +49,8 @@ impl Model for Live {
         record { live = live.list.live; marked = tickets_marked live.list.live live.marks.items } };
 
     ghost invariant = { λ live. IsWhole live.list.live live.list.links live.marks.items
-        × IsTabled live.list.live live.tables × NoneLess live.list.live live.marks.items live.first_marked };
+        × IsTabled live.list.live live.tables × NoneLess live.list.live live.marks.items live.first_marked
+        × EndsAt live.marks.items live.marked_to };
 }
 
 impl Live {
@@ -63,6 +63,7 @@ impl Live {
             list: LiveList::new(alloc),
             marks: Vec::new(alloc),
             first_marked: u64::MAX,
+            marked_to: 0,
             tables: Tables::new(alloc),
             found: Vec::new(alloc),
         }
@@ -187,35 +188,22 @@ impl Live {
             &self.list,
             self.marks.as_mut_slice(),
             self.first_marked,
+            self.marked_to,
             ticket,
         );
         self.first_marked = ticket;
+        self.marked_to = end_below(self.marks.as_slice(), self.marks.len());
         count as u64
     }
 
-    /// The greatest ticket of a live event that is marked.
+    /// The greatest ticket of a live event that is marked. It is not looked for.
     pub fn last_marked(&self) -> Option<u64>
         ensures { MatchOption result (self.now.marked ≡ []) (λ t. Greatest self.now.marked t) }
     {
-        last_marked(&self.list, self.marks.as_slice())
-    }
-
-    /// The live event at an index, counted from 0 in order of tickets, where it is marked.
-    pub fn marked_at(&self, index: usize) -> Option<&Event>
-        ensures { MatchOption result (NoneMarkedAt self.now.live self.now.marked index) (λ found.
-            OneMarkedAt self.now.live self.now.marked index found.now) }
-    {
-        marked_at(&self.list, self.marks.as_slice(), index)
-    }
-
-    /// An index, counted from 0 in order of tickets, below which no live event is marked. It is less than 1,024 before
-    /// the first that is, or before the end.
-    pub fn unmarked_below(&self) -> usize
-        ensures within { result ≤ length self.now.live }
-        ensures none { (i : ℕ) → i < result → NoneMarkedAt self.now.live self.now.marked i }
-        ensures near { IsNearMarked self.now.live self.now.marked result }
-    {
-        unmarked_below(self.marks.as_slice())
+        if self.marked_to == 0 {
+            return None;
+        }
+        Some(self.list.ticket_at(self.marked_to - 1))
     }
 
     /// The tickets of the marked live events, ascending. It is an error if there is no memory.
@@ -227,6 +215,7 @@ impl Live {
             &self.list,
             self.marks.as_slice(),
             self.first_marked,
+            self.marked_to,
         )
     }
 
@@ -272,33 +261,9 @@ impl Live {
         take_event(
             &mut self.list,
             &mut self.marks,
+            &mut self.marked_to,
             &mut self.tables,
-            self.first_marked,
             ticket,
         )
-    }
-
-    /// Takes out what stands beside a marked event, of items that stand beside the live events at the same indexes.
-    pub fn keep_unmarked<T: Drop>(&self, items: &mut Vec<T>)
-        requires { length items.old.items ≡ length self.now.live }
-        ensures { StaysBeside (λ t. In t self.now.marked) self.now.live items.old.items items.new.items }
-    {
-        keep_unmarked(items, self.marks.as_slice());
-    }
-
-    /// Takes out the marked live events with their marks, where what depends on a marked one is marked. It takes as
-    /// long as to go once through the marks, and through the live events from about the first marked one on.
-    pub fn take_marked(&mut self)
-        requires { MarksAllDependents self.old }
-        ensures live { WithoutTickets (λ t. In t self.old.marked) self.old.live self.new.live }
-        ensures marked { self.new.marked ≡ [] }
-    {
-        take_marked(
-            self.alloc,
-            &mut self.list,
-            &mut self.marks,
-            &mut self.tables,
-        );
-        self.first_marked = u64::MAX;
     }
 }

@@ -11,7 +11,7 @@ ghost use Rattle.dependence.specs.internal.Listed.{events_kept, SameLive, LinksO
 ghost use Rattle.dependence.specs.internal.Tables.{IsRising, StandsAt, FollowersChanged, Removed};
 
 use crate::kept::Kept;
-use crate::links::{Followers, Leads, Links, remove};
+use crate::links::{Leads, Links, remove};
 use crate::live_events::LiveEvents;
 use runs::Event;
 use slots::{Slots, close_up, cut_end, find, index_at, make_room, place_at, push, take_at};
@@ -247,20 +247,6 @@ impl LiveList {
         }
     }
 
-    /// Gives the live event `lead` other followers; those that it had.
-    pub(crate) fn replace_followers(&mut self, lead: u64, followers: Followers) -> Followers
-        requires { IsLive self.old.live lead }
-        ensures same { SameLive self.old self.new }
-        ensures changed { FollowersChanged self.old.live lead
-            (λ before after. (before ≡ result.items) × (after ≡ followers.items)) self.old.links self.new.links }
-    {
-        let place = place_of(&self.slots, lead);
-        match &mut self.slots[place] {
-            Some(kept) => std::mem::replace(&mut kept.links.followers, followers),
-            None => unreachable!(),
-        }
-    }
-
     /// Takes the live event of this ticket out with its links.
     pub(crate) fn take(&mut self, ticket: u64) -> Kept
         requires { IsLive self.old.live ticket }
@@ -271,18 +257,6 @@ impl LiveList {
         self.count -= 1;
         settle(&mut self.slots, &mut self.counts, self.count);
         kept
-    }
-
-    /// Takes the event at an index out with its links.
-    pub(crate) fn take_at(&mut self, index: usize)
-        requires { index < length self.old.live }
-        ensures live { self.new.live ≡ remove self.old.live index }
-        ensures links { self.new.links ≡ remove self.old.links index }
-    {
-        let place = place_at(&self.slots, self.counts.as_slice(), self.count, index);
-        take_at(&mut self.slots, self.counts.as_mut_slice(), place);
-        self.count -= 1;
-        settle(&mut self.slots, &mut self.counts, self.count);
     }
 }
 

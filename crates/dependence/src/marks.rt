@@ -1,34 +1,35 @@
 // Marks on the events that depend on one.
-ghost use Rattle.std.specs.Prelude.{◌≡◌, ◌+◌, ◌<◌, ◌≤◌, ◌⊎◌, ◌↔◌, ℕ, [], length, drop, true, false, Some, slice_get, MatchOption, IfOk};
+ghost use Rattle.std.specs.Prelude.{◌≡◌, ◌+◌, ◌≤◌, ◌⊎◌, ◌↔◌, ℕ, length, drop, true, Some, slice_get, IfOk};
 ghost use Rattle.std.specs.List.{remove};
 ghost use Rattle.syntax.specs.Lists.{In};
-ghost use Rattle.system.specs.Expression.{is_in};
-ghost use Rattle.runs.specs.Live.{ConsequencesList, IsLive, LiveAt};
-ghost use Rattle.dependence.specs.Shown.{tickets_marked, Greatest};
-ghost use Rattle.dependence.specs.Taking.{OneMarkedAt, NoneMarkedAt};
+ghost use Rattle.runs.specs.Live.{ConsequencesList, IsLive};
+ghost use Rattle.dependence.specs.Shown.{tickets_marked};
 ghost use Rattle.dependence.specs.internal.Tables.{IsRising, Linked, StandsAt};
-ghost use Rattle.dependence.specs.internal.Marking.{MarkedAt, UnmarkedTo, SomeMarked, MarkedNear, NoneLess};
+ghost use Rattle.dependence.specs.internal.Marking.{MarkedAt, UnmarkedTo, UnmarkedFrom, EndsAt, NoneLess};
 
 use crate::live_list::LiveList;
-use runs::Event;
 use std::alloc::{AllocError, Global};
 
-/// How many marks are looked at together.
-const STRIDE: usize = 1_024;
-
 /// Marks the event of this ticket and all that depend on it, and no others; how many they are. No event of a ticket
-/// less than `first` was marked.
-pub(crate) fn mark_and_count(list: &LiveList, marks: &mut [bool], first: u64, ticket: u64) -> usize
+/// less than `first` was marked, and no mark was set from the end on.
+pub(crate) fn mark_and_count(
+    list: &LiveList,
+    marks: &mut [bool],
+    first: u64,
+    end: usize,
+    ticket: u64,
+) -> usize
     requires rising { IsRising list.now.live }
     requires linked { Linked list.now.live list.now.links }
     requires live { IsLive list.now.live ticket }
     requires size { length marks.old ≡ length list.now.live }
     requires lower { NoneLess list.now.live marks.old first }
+    requires ended { EndsAt marks.old end }
     ensures marked { ConsequencesList list.now.live ticket (tickets_marked list.now.live marks.new) }
     ensures lower { NoneLess list.now.live marks.new ticket }
     ensures counted { result ≡ length (tickets_marked list.now.live marks.new) }
 {
-    let from = first_index(list, marks, first);
+    let from = first_index(list, marks, first, end);
     clear(marks, from);
     mark_dependents(list, 0, marks, ticket);
     count_marked(list, marks, ticket)
@@ -58,7 +59,7 @@ pub(crate) fn mark_dependents(list: &LiveList, base: usize, marks: &mut [bool], 
 }
 
 /// Takes all marks away. Below this index there are none.
-pub(crate) fn clear(marks: &mut [bool], from: usize)
+fn clear(marks: &mut [bool], from: usize)
     requires within { from ≤ length marks.old }
     requires unmarked { UnmarkedTo marks.old from }
     ensures { (i : ℕ) → slice_get marks.new i ≡ Some true → ⊥ }
@@ -68,43 +69,39 @@ pub(crate) fn clear(marks: &mut [bool], from: usize)
     }
 }
 
-/// An index below which none is marked: where no event of a ticket less than `first` is, that of the event of this
-/// ticket, and where there is no such event one that is looked for.
-fn first_index(list: &LiveList, marks: &[bool], first: u64) -> usize
+/// An index below which none is marked: that of the event of the ticket `first`, where no event of a lesser one is
+/// marked, and behind all marks where none is set. While one is set that event is live, since it is taken last.
+fn first_index(list: &LiveList, marks: &[bool], first: u64, end: usize) -> usize
     requires rising { IsRising list.now.live }
     requires size { length marks.now ≡ length list.now.live }
     requires lower { NoneLess list.now.live marks.now first }
+    requires ended { EndsAt marks.now end }
     ensures within { result ≤ length marks.now }
     ensures none { UnmarkedTo marks.now result }
 {
+    if end == 0 {
+        return marks.len();
+    }
     match list.index_of(first) {
         Some(index) => index,
-        None => unmarked_below(marks),
+        None => 0,
     }
 }
 
-/// An index below which none is marked, and less than a stride before the first that is, or before the end.
-pub(crate) fn unmarked_below(marks: &[bool]) -> usize
-    ensures within { result ≤ length marks.now }
-    ensures none { UnmarkedTo marks.now result }
-    ensures near { MarkedNear marks.now result }
+/// Behind the last mark that is set below the end, 0 where none is. From the end on none is set.
+pub(crate) fn end_below(marks: &[bool], end: usize) -> usize
+    requires within { end ≤ length marks.now }
+    requires none { UnmarkedFrom marks.now end }
+    ensures { EndsAt marks.now result }
 {
-    let mut passed = 0;
-    while STRIDE <= marks.len() - passed {
-        if is_any(&marks[passed..passed + STRIDE]) {
-            return passed;
+    let mut left = end;
+    while left > 0 {
+        if marks[left - 1] {
+            return left;
         }
-        passed += STRIDE;
+        left -= 1;
     }
-    passed
-}
-
-/// Whether one of the marks is set.
-fn is_any(marks: &[bool]) -> bool
-    ensures none { result ≡ false → UnmarkedTo marks.now (length marks.now) }
-    ensures one { result ≡ true → SomeMarked marks.now 0 (length marks.now) }
-{
-    marks.contains(&true)
+    0
 }
 
 /// Marks the events of these tickets beside those that are marked. The marks are those of the live events from the index
@@ -122,82 +119,58 @@ fn mark_all(list: &LiveList, base: usize, marks: &mut [bool], tickets: &[u64])
     }
 }
 
-/// Takes out the mark of the live event of this ticket. No event of a ticket less than `first` is marked. Where none is
-/// set that is as good as to take out the last: no mark moves, and it is not looked for the event.
-pub(crate) fn remove_mark(list: &LiveList, marks: &mut Vec<bool>, first: u64, ticket: u64)
-    requires rising { IsRising list.now.live }
+/// Takes out the mark of the live event of this ticket; where the marks that are set then end. Where none is set behind
+/// it, its place is cleared and the last mark goes, so that no mark moves. Where none is set at all, it is not even looked
+/// for the event.
+pub(crate) fn remove_mark(list: &LiveList, marks: &mut Vec<bool>, end: usize, ticket: u64) -> usize
     requires size { length marks.old.items ≡ length list.now.live }
-    requires lower { NoneLess list.now.live marks.old.items first }
+    requires ended { EndsAt marks.old.items end }
     requires live { IsLive list.now.live ticket }
-    ensures { (i : ℕ) × StandsAt list.now.live ticket i × (marks.new.items ≡ remove marks.old.items i) }
+    ensures removed { (i : ℕ) × StandsAt list.now.live ticket i × (marks.new.items ≡ remove marks.old.items i) }
+    ensures ended { EndsAt marks.new.items result }
 {
-    if are_lesser(list, first) {
+    if end == 0 {
         marks.pop();
-    } else {
-        marks.remove(list.index_of_live(ticket));
+        return 0;
     }
+    let index = list.index_of_live(ticket);
+    if index < end - 1 {
+        marks.remove(index);
+        return end - 1;
+    }
+    marks[index] = false;
+    let left = end_below(marks.as_slice(), end);
+    marks.pop();
+    left
 }
 
-/// Whether all live events are of lesser tickets.
-fn are_lesser(list: &LiveList, ticket: u64) -> bool
-    requires { IsRising list.now.live }
-    ensures { result ≡ true → (t : ℕ) (e : Event) → LiveAt list.now.live t e → t < ticket }
-{
-    match list.last() {
-        Some((last, _)) => last < ticket,
-        None => true,
-    }
-}
-
-/// Whether the event of this ticket is live and marked.
-pub(crate) fn is_marked(list: &LiveList, marks: &[bool], ticket: u64) -> bool
+/// How many events are marked. None of a ticket less than this live one is.
+fn count_marked(list: &LiveList, marks: &[bool], ticket: u64) -> usize
     requires rising { IsRising list.now.live }
     requires size { length marks.now ≡ length list.now.live }
-    ensures { result ≡ is_in ticket (tickets_marked list.now.live marks.now) }
-{
-    match list.index_of(ticket) {
-        Some(index) => marks[index],
-        None => false,
-    }
-}
-
-/// The event at this index where it is marked.
-pub(crate) fn marked_at<'a>(list: &'a LiveList, marks: &[bool], index: usize) -> Option<&'a Event>
-    requires rising { IsRising list.now.live }
-    requires size { length marks.now ≡ length list.now.live }
-    ensures { MatchOption result (NoneMarkedAt list.now.live (tickets_marked list.now.live marks.now) index) (λ found.
-        OneMarkedAt list.now.live (tickets_marked list.now.live marks.now) index found.now) }
-{
-    if index < marks.len() && marks[index] {
-        return Some(list.event_at(index));
-    }
-    None
-}
-
-/// How many events are marked. None of a ticket less than `first` is.
-fn count_marked(list: &LiveList, marks: &[bool], first: u64) -> usize
-    requires rising { IsRising list.now.live }
-    requires size { length marks.now ≡ length list.now.live }
-    requires lower { NoneLess list.now.live marks.now first }
+    requires live { IsLive list.now.live ticket }
+    requires lower { NoneLess list.now.live marks.now ticket }
     ensures { result ≡ length (tickets_marked list.now.live marks.now) }
 {
-    let from = first_index(list, marks, first);
+    let from = list.index_of_live(ticket);
     marks[from..].iter().filter(|mark| **mark).count()
 }
 
-/// The tickets of the marked events, ascending. None is less than `first`.
+/// The tickets of the marked events, ascending. None is less than `first`, and no mark is set from the end on.
 pub(crate) fn copy_marked(
     alloc: Global,
     list: &LiveList,
     marks: &[bool],
     first: u64,
+    end: usize,
 ) -> Result<Vec<u64>, AllocError>
     requires rising { IsRising list.now.live }
     requires size { length marks.now ≡ length list.now.live }
     requires lower { NoneLess list.now.live marks.now first }
+    requires ended { EndsAt marks.now end }
     ensures { IfOk result (λ tickets. tickets.items ≡ tickets_marked list.now.live marks.now) }
 {
-    let from = first_index(list, marks, first);
+    let from = first_index(list, marks, first, end);
     copy_each(alloc, list, from, &marks[from..])
 }
 
@@ -220,21 +193,4 @@ pub(crate) fn copy_each(
         }
     }
     Ok(tickets)
-}
-
-/// The greatest ticket of a marked event.
-pub(crate) fn last_marked(list: &LiveList, marks: &[bool]) -> Option<u64>
-    requires rising { IsRising list.now.live }
-    requires size { length marks.now ≡ length list.now.live }
-    ensures { MatchOption result (tickets_marked list.now.live marks.now ≡ []) (λ t.
-        Greatest (tickets_marked list.now.live marks.now) t) }
-{
-    let mut index = marks.len();
-    while index > 0 {
-        index -= 1;
-        if marks[index] {
-            return Some(list.ticket_at(index));
-        }
-    }
-    None
 }

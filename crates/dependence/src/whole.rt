@@ -6,7 +6,7 @@ ghost use Rattle.runs.specs.Live.{Rising, LiveAt, NoDependent, FirstDependent, W
 ghost use Rattle.dependence.specs.Behind.{ComesBehind};
 ghost use Rattle.dependence.specs.Followers.{ListsFollowers, ListsLeads};
 ghost use Rattle.dependence.specs.Shown.{tickets_marked};
-ghost use Rattle.dependence.specs.internal.Marking.{NoneLess};
+ghost use Rattle.dependence.specs.internal.Marking.{EndsAt};
 ghost use Rattle.dependence.specs.internal.Tables.{IsRising, Linked};
 ghost use Rattle.dependence.specs.internal.Tabled.{IsTabled, TablesOf, MoreTables};
 ghost use Rattle.dependence.specs.internal.Whole.{IsWhole, IsEntered};
@@ -86,6 +86,7 @@ pub(crate) fn add_event(
     requires behind { ComesBehind list.old.live event }
     ensures whole { IsWhole list.new.live list.new.links marks.new.items }
     ensures tabled { IsTabled list.new.live tables.new }
+    ensures ended { (end : ℕ) → EndsAt marks.old.items end → EndsAt marks.new.items end }
     ensures added { OnOk result ((list.new.live ≡ list.old.live ++ (ticket, event) ∷ [])
         × (tickets_marked list.new.live marks.new.items ≡ tickets_marked list.old.live marks.old.items)) }
     ensures refused { IfErr result (λ back. (back ≡ event) × (list.new.live ≡ list.old.live)
@@ -142,29 +143,30 @@ fn enter(
     Ok(leads)
 }
 
-/// Takes out the live event of this ticket, on which no other live event depends, with its mark. No event of a ticket
-/// less than `first` is marked.
+/// Takes out the live event of this ticket, on which no other live event depends, with its mark. At `end` is where the
+/// marks that are set end.
 pub(crate) fn take_event(
     list: &mut LiveList,
     marks: &mut Vec<bool>,
+    end: &mut usize,
     tables: &mut Tables,
-    first: u64,
     ticket: u64,
 ) -> Boxed<Event>
     requires whole { IsWhole list.old.live list.old.links marks.old.items }
-    requires lower { NoneLess list.old.live marks.old.items first }
+    requires ended { EndsAt marks.old.items end.old }
     requires tabled { IsTabled list.old.live tables.old }
     requires live { IsLive list.old.live ticket }
     requires alone { NoDependent list.old.live ticket }
     ensures whole { IsWhole list.new.live list.new.links marks.new.items }
     ensures tabled { IsTabled list.new.live tables.new }
+    ensures ended { EndsAt marks.new.items end.new }
     ensures event { LiveAt list.old.live ticket result }
     ensures live { WithoutTickets (λ t. t ≡ ticket) list.old.live list.new.live }
     ensures marked { Without
         (λ t. t
         ≡ ticket) (tickets_marked list.old.live marks.old.items) (tickets_marked list.new.live marks.new.items) }
 {
-    remove_mark(list, marks, first, ticket);
+    *end = remove_mark(list, marks, *end, ticket);
     let event = take_out(list, ticket);
     tables.remove(ticket, event.get());
     event

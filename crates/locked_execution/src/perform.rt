@@ -8,6 +8,7 @@ ghost use Rattle.locked_execution.specs.Performs.{Answers};
 
 use crate::{Command, Desk, Reply};
 use machine::{BranchReply, Breaks, Machine, Ticket};
+use rollback::{blame, consequences, roll, roll_value};
 use runs::{Event, Refusal};
 use syntax::Items;
 use value::Value;
@@ -22,11 +23,13 @@ impl Desk {
         match command {
             Command::Step(choice) => step_reply(self.machine.step(choice)),
             Command::Undo(ticket) => undo_reply(*ticket, self.machine.undo(*ticket)),
-            Command::Roll(ticket) => roll_reply(self.machine.roll(*ticket)),
-            Command::RollValue(variable) => roll_reply(self.machine.roll_value(*variable)),
-            Command::Blame(variable) => blame_reply(self.machine.blame(*variable)),
+            Command::Roll(ticket) => roll_reply(roll(&mut self.machine, *ticket)),
+            Command::RollValue(variable) => roll_reply(roll_value(&mut self.machine, *variable)),
+            Command::Blame(variable) => blame_reply(blame(&self.machine, *variable)),
             Command::Ready => ready_reply(self.machine.ready()),
-            Command::Consequences(ticket) => consequences_reply(self.machine.consequences(*ticket)),
+            Command::Consequences(ticket) => {
+                consequences_reply(consequences(&self.machine, *ticket))
+            }
             Command::Live => live_reply(self.machine.live()),
             Command::Value(variable) => value_reply(self.machine.value(*variable)),
             Command::Branch(branch) => self.step_branch(session, *branch),

@@ -1,6 +1,6 @@
 -- What a step answers, from the state and the ready list.
 use Rattle.std.proofs.Common.{◌≡◌, inl, inr, ℕ, suc, ◌<◌, ◌≤◌, List, length, take, drop, Option, Some, None, Result, Ok, Err, refl, sym, ◌∙◌, ap, subst, slice_get}
-use Rattle.std.specs.Prelude.{IfOk, OnErr, IsSome, MatchOption, MatchResult, Vec}
+use Rattle.std.specs.Prelude.{IfOk, IsSome, MatchOption, MatchResult, Vec}
 use Rattle.std.specs.Global.{Global}
 use Rattle.syntax.specs.Lists.{In}
 use Rattle.runs.specs.Steps.{State}
@@ -64,13 +64,6 @@ found-answers o o' c T found (Err HistoryFull) reaches sought h = inl (not-taken
 found-answers o o' c T found (Err Spent) reaches sought h = inl (not-taken o c found Spent T reaches sought h.0, h.1)
 found-answers o o' c T found (Err _) reaches sought h = absurd h.0
 
--- what is answered where a call may want memory, and may be refused for another reason
-pub answers-of : {A E : Type 0} (o o' : Object) (c : Command) (shown : Result A Refusal → Reply) (r : Result (Result A Refusal) E) (told : Result A Refusal) →
-    shown (Err Memory) ≡ Reply.Refused Memory → IfOk r (λ answer. Does o c (shown answer) o') → OnErr r (MayWantMemory o c) → OnErr r (o' ≡ o) →
-    MatchResult r (λ answer. told ≡ answer) (λ _. told ≡ Err Memory) → Answers o c (shown told) o'
-answers-of o o' c shown (Ok answer) told refused does wants same is = inl (subst (λ t. Does o c (shown t) o') (sym is) does)
-answers-of o o' c shown (Err x) told refused does wants same is = inr (wants, ap shown is ∙ refused, same)
-
 -- what is answered where it may want memory alone
 pub told-of : {A E : Type 0} (o : Object) (c : Command) (shown : Result A Refusal → Reply) (r : Result A E) (told : Result A Refusal) →
     shown (Err Memory) ≡ Reply.Refused Memory → IfOk r (λ value. Does o c (shown (Ok value)) o) → MayWantMemory o c →
@@ -83,11 +76,6 @@ pub ok-told : {A E F : Type 0} (P : A → Type 0) (why : F) (r : Result A E) (to
     MatchResult r (λ value. told ≡ Ok value) (λ _. told ≡ Err why) → IfOk told P
 ok-told P why (Ok value) told holds is = subst (λ t. IfOk t P) (sym is) holds
 ok-told P why (Err x) told holds is = subst (λ t. IfOk t P) (sym is) tt
-
--- a fact that holds holds on an error
-pub on-error : {X E : Type 0} {P : Type 0} (r : Result X E) → P → OnErr r P
-on-error (Ok x) p = tt
-on-error (Err e) p = p
 
 -- what holds of a list that was told holds of its vector
 pub in-vec : {A E : Type 0} (P : List A → Type 0) (told : Result (List A) E) (made : Result (Vec A Global) E) → IfOk told P →

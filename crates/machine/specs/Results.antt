@@ -1,4 +1,4 @@
--- The result of each call of a machine, as the reply of its execution that it stands for.
+-- The result of each call on a machine, as the reply of its execution that it stands for.
 use Rattle.std.specs.Prelude.{ℕ, Option, Some, None, Result, Ok, Err, Vec}
 use Rattle.std.specs.Global.{Global}
 use Rattle.value.specs.Word.{Word}

@@ -1,6 +1,5 @@
 pub mod Choosing
 pub mod Entering
 pub mod Histories
-pub mod Marking
 pub mod Sites
 pub mod Sorting

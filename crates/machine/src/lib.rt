@@ -10,7 +10,6 @@ mod laws;
 mod machine;
 mod question;
 mod reply;
-mod roll;
 mod step;
 mod undo;
 

@@ -16,12 +16,12 @@ ghost use Rattle.machine.specs.Branching.{AnswersBranch};
 ghost use Rattle.machine.specs.AtMachine.{object};
 ghost use Rattle.machine.specs.Headline.{Headline};
 ghost use Rattle.machine.specs.Marks.{marks_behind};
-ghost use Rattle.machine.specs.Results.{step_reply, undo_reply, roll_reply, blame_reply, consequences_reply, ready_reply, live_reply, value_reply};
+ghost use Rattle.machine.specs.Results.{step_reply, undo_reply, ready_reply, live_reply, value_reply};
 ghost use Rattle.machine.specs.internal.Histories.{KnowsUses};
 
 use crate::branch::BranchReply;
 use crate::history::History;
-use crate::reply::{or_no_memory, or_refused};
+use crate::reply::or_no_memory;
 use crate::{Breaks, Fault};
 use address::Address;
 use channel_uses::ChannelUses;
@@ -173,60 +173,6 @@ impl Machine {
         ensures marked { self.new.marked ≡ marks_behind (undo_reply ticket result) self.old.marked }
     {
         self.history.undo(ticket)
-    }
-
-    /// Takes the event of this ticket back, and all live events that depend on it; how many they were. It takes no
-    /// memory.
-    ///
-    /// # Errors
-    ///
-    /// `NoSuchEvent` where no live event has the ticket. Nothing has changed then.
-    pub fn roll(&mut self, ticket: Ticket) -> Result<u64, Refusal>
-        ensures answers { Answers (object self.old) (Command.Roll ticket) (roll_reply result) (object self.new) }
-        ensures never_memory { IfErr result (λ why. why ≢ Refusal.Memory) }
-        ensures system { self.new.checked ≡ self.old.checked }
-        ensures marked { self.new.marked ≡ marks_behind (roll_reply result) self.old.marked }
-    {
-        self.history.roll(ticket)
-    }
-
-    /// Takes the last event that wrote the variable back, and all live events that depend on it; how many they were. It
-    /// takes no memory.
-    ///
-    /// # Errors
-    ///
-    /// `NeverWritten` where no live event wrote the variable, or there is no such variable. Nothing has changed then.
-    pub fn roll_value(&mut self, variable: Var) -> Result<u64, Refusal>
-        ensures answers { Answers (object self.old) (Command.RollValue variable) (roll_reply result) (object self.new) }
-        ensures never_memory { IfErr result (λ why. why ≢ Refusal.Memory) }
-        ensures system { self.new.checked ≡ self.old.checked }
-        ensures marked { self.new.marked ≡ marks_behind (roll_reply result) self.old.marked }
-    {
-        self.history.roll_value(variable)
-    }
-
-    /// The ticket of the last live event that wrote the variable. It takes no memory.
-    ///
-    /// # Errors
-    ///
-    /// `NeverWritten` where no live event wrote the variable, or there is no such variable.
-    pub fn blame(&self, variable: Var) -> Result<Ticket, Refusal>
-        ensures answers { Answers (object self.now) (Command.Blame variable) (blame_reply result) (object self.now) }
-        ensures never_memory { IfErr result (λ why. why ≢ Refusal.Memory) }
-    {
-        self.history.tell_blame(variable)
-    }
-
-    /// The tickets of the event of this ticket and of all live events that depend on it, ascending. It marks nothing.
-    ///
-    /// # Errors
-    ///
-    /// `NoSuchEvent` where no live event has the ticket. `Memory` without memory, but never in its place.
-    pub fn consequences(&self, ticket: Ticket) -> Result<Vec<Ticket>, Refusal>
-        ensures { Answers (object self.now) (Command.Consequences ticket) (consequences_reply result)
-            (object self.now) }
-    {
-        or_refused(self.history.tell_consequences(ticket))
     }
 
     /// Marks the live event of this ticket and all live events that depend on it, and no others; how many they are. It

@@ -15,16 +15,6 @@ pub(crate) fn or_no_memory<T>(told: Result<T, AllocError>) -> Result<T, Refusal>
     }
 }
 
-/// What was answered, or that there was no memory for it.
-pub(crate) fn or_refused<T>(told: Result<Result<T, Refusal>, AllocError>) -> Result<T, Refusal>
-    ensures { MatchResult told (λ answer. result ≡ answer) (λ _. result ≡ Err Refusal.Memory) }
-{
-    match told {
-        Ok(answer) => answer,
-        Err(_) => Err(Refusal::Memory),
-    }
-}
-
 /// What was told, as a vector in the same memory.
 pub(crate) fn in_vec<T>(told: Result<Items<T>, AllocError>) -> Result<Vec<T>, AllocError>
     ensures { IfOk result (λ made. told ≡ Ok made.items) }

@@ -1,16 +1,21 @@
 // Taking one event back.
-ghost use Rattle.std.specs.Prelude.{◌≡◌, Some, slice_get};
+ghost use Rattle.std.specs.Prelude.{◌≡◌, Some, IsSome, slice_get};
 ghost use Rattle.sharing_check.specs.declared.checked.Checked.{Checked};
 ghost use Rattle.runs.specs.Dependence.{Without};
 ghost use Rattle.runs.specs.Live.{LiveAt, IsLive, NoDependent, WithoutTickets};
 ghost use Rattle.runs.specs.Does.{Undoes};
+ghost use Rattle.event_inverse.specs.Laws.{UndoneBy};
+ghost use Rattle.event_inverse.specs.View.{both_view, inverse_view};
+ghost use Rattle.event_inverse.specs.internal.Reverted.{reverted};
 ghost use Rattle.machine.specs.Marks.{marks_behind};
 ghost use Rattle.machine.specs.Results.{undo_reply};
 ghost use Rattle.machine.specs.internal.Histories.{execution, Holds};
 
 use crate::history::History;
-use crate::roll::undo_by;
+use event_inverse::{Inverse, invert_by};
+use process_tree::Tree;
 use runs::{Event, Refusal};
+use store::Store;
 use syntax::Boxed;
 
 impl History {
@@ -58,7 +63,7 @@ impl History {
     }
 
     /// Takes the event of this ticket, which stands at this index, back. No other live event depends on it.
-    pub(crate) fn take_back(&mut self, ticket: u64, index: usize) -> Boxed<Event>
+    fn take_back(&mut self, ticket: u64, index: usize) -> Boxed<Event>
         requires holds { (system : Checked) × Holds system self.old }
         requires at { (e : Event) × (slice_get self.old.live.live index ≡ Some (ticket, e)) }
         requires alone { NoDependent self.old.live.live ticket }
@@ -73,4 +78,12 @@ impl History {
         undo_by(&mut self.tree, &mut self.store, event.get(), inverse);
         event
     }
+}
+
+/// Takes an event back by its inverse, which is dropped.
+fn undo_by(tree: &mut Tree, store: &mut Store, event: &Event, mut inverse: Inverse)
+    requires { IsSome (reverted (both_view tree.old store.old) event.now (inverse_view inverse)) }
+    ensures { UndoneBy (both_view tree.old store.old) (event.now, inverse_view inverse) (both_view tree.new store.new) }
+{
+    invert_by(tree, store, event, &mut inverse);
 }

@@ -31,13 +31,15 @@ pub enum Comparison {
 /// The most bits that a number has.
 pub const MOST_BITS: u8 = 64;
 
-/// An unsigned number below two to the power of its width, which is 1 to 64 bits.
+/// An unsigned number below two to the power of its width, which is 1 to 64 bits: whoever writes one out proves that.
 ///
 /// Two values are equal where both the numbers and the widths are.
 #[derive(Clone, Copy, Debug, PartialEq, Eq)]
 pub struct Value {
-    bits: u64,
-    width: u8,
+    /// the number
+    pub bits: u64,
+    /// 1 to 64, in bits
+    pub width: u8,
 }
 
 impl Model for Value {

@@ -79,21 +79,25 @@ impl Session {
         let chosen = self.plain.len() - 1 - back;
         let ticket = self.plain[chosen].0;
         let found = dependents(self.alloc, self.plain.as_slice(), chosen)?;
-        let mut beside = self.tickets()?;
         self.live.mark_consequences(ticket);
-        self.live.keep_unmarked(&mut beside);
-        self.live.take_marked();
         for place in (0..found.len()).rev() {
             if found[place] {
-                let (_, event) = self.plain.remove(place);
-                self.threads.retreat(&event);
+                self.take_last_marked(place)?;
             }
         }
-        let left = self.tickets()?;
-        self.expect(beside.as_slice() == left.as_slice(), "keep_unmarked", ticket)?;
-        let shown = self.listed()?;
-        self.expect(shown.as_slice() == left.as_slice(), "take_marked", ticket)?;
-        self.expect(self.live.last_marked().is_none(), "take_marked", ticket)
+        let is_left = self.listed()?.as_slice() == self.tickets()?.as_slice();
+        self.expect(is_left, "take", ticket)?;
+        self.expect(self.live.last_marked().is_none(), "last_marked", ticket)
+    }
+
+    /// Takes the marked event of the greatest ticket, which has to be the one at this place.
+    fn take_last_marked(&mut self, place: usize) -> io::Result<()> {
+        let (ticket, event) = self.plain.remove(place);
+        self.threads.retreat(&event);
+        let is_last = self.live.last_marked() == Some(ticket);
+        self.expect(is_last, "last_marked", ticket)?;
+        let taken = self.live.take(ticket);
+        self.expect(taken.equals(&event), "take", ticket)
     }
 
     fn tickets(&self) -> io::Result<Vec<u64>> {

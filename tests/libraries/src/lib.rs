@@ -7,6 +7,8 @@ mod addresses;
 #[cfg(test)]
 mod by_parts;
 #[cfg(test)]
+mod counted;
+#[cfg(test)]
 mod crowd;
 #[cfg(test)]
 mod diagnosed;

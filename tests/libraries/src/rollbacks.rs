@@ -48,9 +48,9 @@ pub fn begun(alloc: Global, example: Example, steps: Steps) -> Result<Machine, F
 fn ask(machine: &mut Machine, asked: Asked) -> Result<Told, Refusal> {
     match asked {
         Asked::Undo(ticket) => machine.undo(ticket).map(|_| Told::Undone(ticket)),
-        Asked::Roll(ticket) => machine.roll(ticket).map(Told::Rolled),
-        Asked::RollValue(variable) => machine.roll_value(variable).map(Told::Rolled),
-        Asked::Blame(variable) => machine.blame(variable).map(Told::Blamed),
+        Asked::Roll(ticket) => rollback::roll(machine, ticket).map(Told::Rolled),
+        Asked::RollValue(variable) => rollback::roll_value(machine, variable).map(Told::Rolled),
+        Asked::Blame(variable) => rollback::blame(machine, variable).map(Told::Blamed),
     }
 }
 

@@ -51,7 +51,7 @@ fn a_machine_is_asked(rt: HostRuntime) -> Result<(), Fail> {
     let entry: Option<(Ticket, &Event)> = machine.live_at(1);
     assert!(rt; matches!(entry, Some((2, _))));
     assert!(rt; machine.live_at(2).is_none());
-    let blamed: Result<Ticket, Refusal> = machine.blame(x);
+    let blamed: Result<Ticket, Refusal> = rollback::blame(&machine, x);
     assert_eq!(rt; blamed?, 2);
     let marked: u64 = machine.mark_consequences(1);
     assert_eq!(rt; marked, 2);
@@ -65,7 +65,7 @@ fn a_question_marks_nothing(rt: HostRuntime) -> Result<(), Fail> {
     let mut machine = written(rt.alloc())?;
     assert_eq!(rt; machine.mark_consequences(1), 2);
     let asked: &Machine = &machine;
-    let consequences: Result<Vec<Ticket>, Refusal> = asked.consequences(2);
+    let consequences: Result<Vec<Ticket>, Refusal> = rollback::consequences(asked, 2);
     assert!(rt; consequences?.as_slice() == [2].as_slice());
     machine.undo(2)?;
     assert_eq!(rt; machine.last_marked(), Some(1));
@@ -91,15 +91,17 @@ fn a_machine_goes_back(rt: HostRuntime) -> Result<(), Fail> {
     let undone: Result<Event, Refusal> = machine.undo(2);
     assert_eq!(rt; undone?.written, Some(0));
     assert!(rt; matches!(machine.undo(2), Err(Refusal::NoSuchEvent)));
-    let rolled: Result<u64, Refusal> = machine.roll_value(0);
+    let rolled: Result<u64, Refusal> = rollback::roll_value(&mut machine, 0);
     assert_eq!(rt; rolled?, 1);
-    assert!(rt; matches!(machine.roll_value(0), Err(Refusal::NeverWritten)));
-    assert!(rt; matches!(machine.blame(0), Err(Refusal::NeverWritten)));
-    assert!(rt; matches!(machine.roll(1), Err(Refusal::NoSuchEvent)));
-    assert!(rt; matches!(machine.consequences(1), Err(Refusal::NoSuchEvent)));
+    let again = rollback::roll_value(&mut machine, 0);
+    assert!(rt; matches!(again, Err(Refusal::NeverWritten)));
+    assert!(rt; matches!(rollback::blame(&machine, 0), Err(Refusal::NeverWritten)));
+    assert!(rt; matches!(rollback::roll(&mut machine, 1), Err(Refusal::NoSuchEvent)));
+    let consequences = rollback::consequences(&machine, 1);
+    assert!(rt; matches!(consequences, Err(Refusal::NoSuchEvent)));
     let mut machine = written(rt.alloc())?;
     assert!(rt; matches!(machine.undo(1), Err(Refusal::NeededBy(2))));
-    let rolled: Result<u64, Refusal> = machine.roll(1);
+    let rolled: Result<u64, Refusal> = rollback::roll(&mut machine, 1);
     assert_eq!(rt; rolled?, 2);
     Ok(())
 }

@@ -24,7 +24,9 @@ use value::{Comparison, Value, add, bit_and, bit_or, bit_xor, compare, not, resi
 
 #[test]
 fn values_are_reckoned(rt: HostRuntime) -> Result<(), Fail> {
-    let (three, five) = (Value::make(3, 4), Value::make(5, 8));
+    let three = Value { bits: 3, width: 4 };
+    let five = Value::make(5, 8);
+    assert!(rt; three.bits == 3 && three.width == 4);
     let sum: Value = add(three, five);
     assert!(rt; sum == Value::make(8, 9));
     assert!(rt; sub(three, five) == Value::make(254, 8));

@@ -1,12 +1,10 @@
 -- Marks: what they stand for, and what the passes over them keep.
-use Rattle.std.proofs.Common.{◌≡◌, ◌⊎◌, ◌↔◌, inl, inr, ℕ, zero, suc, ◌+◌, ◌-◌, ◌<◌, ◌≤◌, List, [], ◌∷◌, ◌++◌, Bool, true, false, cond, length, take, drop, get_or, Some, refl, sym, ◌∙◌, ap, subst, arith}
-use Rattle.std.specs.Prelude.{slice_get, slice_set, MatchBool}
-use Rattle.std.specs.List.{count_by, between, AllWithin, HoldsAt}
-use Rattle.std.proofs.Math.Bool.{beq}
+use Rattle.std.proofs.Common.{◌≡◌, ◌≢◌, ◌⊎◌, ◌↔◌, inl, inr, ℕ, zero, suc, ◌+◌, ◌-◌, ◌<◌, ◌≤◌, List, [], ◌∷◌, ◌++◌, Bool, true, false, cond, length, take, drop, get_or, Some, refl, sym, ◌∙◌, ap, subst, arith}
+use Rattle.std.specs.Prelude.{slice_get, slice_set}
+use Rattle.std.specs.List.{count_by}
 use Rattle.std.proofs.lemmas.Bool.{cases_eq, cases_lt}
 use Rattle.std.proofs.lemmas.List.Sums.{sum_by-cons}
-use Rattle.std.proofs.lemmas.List.Edits.{get_or-between, length-between}
-use Rattle.std.proofs.lemmas.Option.{slice_get_within, slice_get-get_or, get_or_from_slice_get}
+use Rattle.std.proofs.lemmas.Option.{slice_get_within, slice_get-get_or}
 use Rattle.syntax.specs.Lists.{In}
 use Rattle.runs.specs.InOrder.{InOrder}
 use Rattle.runs.specs.Dependence.{Without, ended, stays, leaves}
@@ -18,9 +16,8 @@ use Rattle.runs.proofs.public.Options.{none-some}
 use Rattle.runs.proofs.public.Tickets.{rising-in}
 use Rattle.dependence.specs.Followers.{Follower, ListsFollowers, Reached, here, along}
 use Rattle.dependence.specs.Shown.{tickets_marked, Greatest, IsSound}
-use Rattle.dependence.specs.Taking.{NoneMarkedAt, IsNearMarked}
 use Rattle.dependence.specs.internal.Tables.{IsRising, StandsAt}
-use Rattle.dependence.specs.internal.Marking.{MarkedAt, MarkedBelow, UnmarkedTo, SomeMarked, MarkedNear, NoneLess}
+use Rattle.dependence.specs.internal.Marking.{MarkedAt, MarkedBelow, UnmarkedTo, UnmarkedFrom, NoneLess}
 use Rattle.dependence.proofs.public.ListPlaces.{in-at, at-one, at-within, take-next, set-here, set-other}
 use Rattle.dependence.proofs.public.Linking.{one-index}
 use Rattle.dependence.proofs.public.Standing.{lesser-stands}
@@ -80,56 +77,6 @@ marked-count (x ∷ l) (false ∷ marks) h =
     omega arith
 
 -- ---- the first n marks, of which none is set, are passed
-pub none-set : (marks : List Bool) → AllWithin (λ (m : Bool). beq m true ≡ false) marks 0 (length marks) → UnmarkedTo marks (length marks)
-none-set marks h i less on =
-    let here : beq (get_or marks i false) true ≡ false = h i false (omega arith) less in
-    let both : true ≡ false = ap (λ (m : Bool). beq m true) (sym (get_or_from_slice_get marks i true false on)) ∙ here in
-    cc
-
-is-set : (m : Bool) → beq m true ≡ true → m ≡ true
-is-set true h = refl
-is-set false h = cc
-
--- one of the marks is set
-pub some-set : (marks : List Bool) → (k : ℕ) × (k < length marks) × HoldsAt (λ (m : Bool). beq m true ≡ true) marks k → SomeMarked marks 0 (length marks)
-some-set marks h = (h.0, omega arith, h.1, slice_get-get_or marks h.0 false h.1 ∙ ap (λ (m : Bool). Some m) (is-set (get_or marks h.0 false) (h.2 false)))
-
--- of an answer that says which of two holds, the one and the other
-pub set-one : (r : Bool) (P Q : Type 0) → r ≡ true → MatchBool r P Q → P
-set-one r P Q on h = subst (λ (b : Bool). MatchBool b P Q) on h
-
-pub unset : (r : Bool) (P Q : Type 0) → r ≡ false → MatchBool r P Q → Q
-unset r P Q off h = subst (λ (b : Bool). MatchBool b P Q) off h
-
--- a stretch more
-pub stretch-passed : (marks : List Bool) (passed next : ℕ) → passed ≤ next → next ≤ length marks → UnmarkedTo marks passed →
-    UnmarkedTo (between passed next marks) (length (between passed next marks)) → UnmarkedTo marks next
-stretch-passed marks passed next up inside before more i less on = elim (cases_lt i passed) [
-  | inl low ↦ before i low on
-  | inr high ↦
-      let k : ℕ = i - passed in
-      let size : length (between passed next marks) ≡ next - passed = length-between marks passed next inside in
-      let within : k < length (between passed next marks) = omega arith in
-      let there : passed + k < next = omega arith in
-      let at : passed + k ≡ i = omega arith in
-      let here : get_or (between passed next marks) k false ≡ true =
-      get_or-between marks passed next k false there ∙ ap (λ (n : ℕ). get_or marks n false) at ∙ get_or_from_slice_get marks i true false on in
-      more k within (slice_get-get_or (between passed next marks) k false within ∙ ap (λ (m : Bool). Some m) here)
-]
-
--- a mark within a stretch is one of all marks
-pub stretch-marked : (marks : List Bool) (low high : ℕ) → low ≤ high → high ≤ length marks →
-    SomeMarked (between low high marks) 0 (length (between low high marks)) → SomeMarked marks low high
-stretch-marked marks low high up inside one =
-    let k : ℕ = one.0 in
-    let size : length (between low high marks) ≡ high - low = length-between marks low high inside in
-    let within : k < length (between low high marks) = one.2 in
-    let there : low + k < high = omega arith in
-    let less : low + k < length marks = omega arith in
-    let here : get_or marks (low + k) false ≡ true =
-    sym (get_or-between marks low high k false there) ∙ get_or_from_slice_get (between low high marks) k true false one.3 in
-    (low + k, omega arith, there, slice_get-get_or marks (low + k) false less ∙ ap (λ (m : Bool). Some m) here)
-
 pub passed-first : (m : Bool) (marks : List Bool) (n : ℕ) → UnmarkedTo (m ∷ marks) (suc n) → UnmarkedTo marks n
 passed-first m marks n h i less on = h (suc i) (omega arith) on
 
@@ -278,7 +225,7 @@ marked-next l first marks tickets i index e r size less stands before u =
 
 -- one more index is without a mark
 pub none-marked : (marks : List Bool) (index : ℕ) → index < length marks → get_or marks index false ≡ false →
-    ((k : ℕ) → suc index ≤ k → slice_get marks k ≡ Some true → ⊥) → (k : ℕ) → index ≤ k → slice_get marks k ≡ Some true → ⊥
+    UnmarkedFrom marks (suc index) → UnmarkedFrom marks index
 none-marked marks index less off none k up on =
     elim (cases_eq k index) [
       | inl is ↦
@@ -290,7 +237,7 @@ none-marked marks index less off none k up on =
 
 -- the last of the marked places has the greatest ticket
 pub last-greatest : (l : Live) (marks : List Bool) (index : ℕ) (x : ℕ × Event) → IsRising l → slice_get l index ≡ Some x → slice_get marks index ≡ Some true →
-    ((k : ℕ) → suc index ≤ k → slice_get marks k ≡ Some true → ⊥) → Greatest (tickets_marked l marks) x.0
+    UnmarkedFrom marks (suc index) → Greatest (tickets_marked l marks) x.0
 last-greatest l marks index x r at on none = record {
   inside = (is-marked l marks x.0).1 (index, (x.1, at), on);
   greatest = λ u i.
@@ -303,25 +250,8 @@ last-greatest l marks index x r at on none = record {
       ];
 }
 
--- without a mark at the index no live event there is marked
-pub none-here : (l : Live) (marks : List Bool) (index : ℕ) → IsRising l → (slice_get marks index ≡ Some true → ⊥) → NoneMarkedAt l (tickets_marked l marks) index
-none-here l marks index r off e one =
-    let at = (is-marked l marks one.0).0 one.2 in
-    let same : at.0 ≡ index = one-index 0 r.0 l one.0 at.1.0 e at.0 index r.1 at.1.1 one.1 in
-    off (subst (λ (i : ℕ). slice_get marks i ≡ Some true) same at.2)
-
--- what is near among the marks is near among the live events
-pub near-shown : (l : Live) (marks : List Bool) (index : ℕ) → length marks ≡ length l → MarkedNear marks index → IsNearMarked l (tickets_marked l marks) index
-near-shown l marks index size near = elim near [
-  | inl ends ↦ inl (omega arith)
-  | inr one ↦
-      let inside : one.0 < length marks = slice_get_within marks one.0 true one.3 in
-      let at = at-within l one.0 (omega arith) in
-      inr (one.0, at.0.1, one.1, one.2, (at.0.0, at.1, (is-marked l marks at.0.0).1 (one.0, (at.0.1, at.1), one.3)))
-]
-
 -- without marks there are no marked tickets
-pub none-at-all : (l : Live) (marks : List Bool) → ((k : ℕ) → 0 ≤ k → slice_get marks k ≡ Some true → ⊥) → tickets_marked l marks ≡ []
+pub none-at-all : (l : Live) (marks : List Bool) → UnmarkedFrom marks 0 → tickets_marked l marks ≡ []
 none-at-all l marks none = pick (tickets_marked l marks) refl
   where
     pick : (ts : List ℕ) → tickets_marked l marks ≡ ts → tickets_marked l marks ≡ []
@@ -360,17 +290,23 @@ unmarked-before l marks t index r size at none i less on =
 pub dependents-above : (d l : Live) (marks : List Bool) (t : ℕ) → ConsequencesList l t (tickets_marked d marks) → NoneLess d marks t
 dependents-above d l marks t all u i = depends-up l t u ((all.exactly u).0 i).2
 
--- an index more without a mark
-pub cleared-next : (marks : List Bool) (index next : ℕ) → next ≡ suc index → index < length marks → ((k : ℕ) → k < index → slice_get marks k ≡ Some true → ⊥) →
-    (k : ℕ) → k < next → slice_get (slice_set marks index false) k ≡ Some true → ⊥
-cleared-next marks index next is less none k low on = elim (cases_eq k index) [
+-- a mark that is set where one was cleared is another, and was set
+pub still-set : (marks : List Bool) (index k : ℕ) → index < length marks → slice_get (slice_set marks index false) k ≡ Some true → (k ≢ index) × (slice_get marks k ≡ Some true)
+still-set marks index k less on = elim (cases_eq k index) [
   | inl equal ↦
       let off : slice_get (slice_set marks index false) k ≡ Some false =
       ap (slice_get (slice_set marks index false)) equal ∙ set-here marks index false less in
       let both : true ≡ false = at-one (slice_set marks index false) k true false on off in
       cc
-  | inr differs ↦ none k (omega arith) (sym (set-other marks index k false differs) ∙ on)
+  | inr differs ↦ (differs, sym (set-other marks index k false differs) ∙ on)
 ]
+
+-- an index more without a mark
+pub cleared-next : (marks : List Bool) (index next : ℕ) → next ≡ suc index → index < length marks → UnmarkedTo marks index → UnmarkedTo (slice_set marks index false) next
+cleared-next marks index next is less none k low on =
+    let was = still-set marks index k less on in
+    let other : k < index = elim (cases_lt k index) [ inl below ↦ below | inr high ↦ absurd (was.0 (omega arith)) ] in
+    none k other was.1
 
 -- tickets that were among others are not less either
 pub less-marked : (t : ℕ) (old new : List ℕ) → ((u : ℕ) → In u new → In u old) → ((u : ℕ) → In u old → t ≤ u) → (u : ℕ) → In u new → t ≤ u

@@ -1,12 +1,11 @@
 -- Marks beside the live events, at the same indexes.
 -- No reader has to believe it: the proof of `mark_dependents` ties it to `ConsequencesList` of `runs`, and that of
--- `Live::unmarked_below` to what `specs/Taking.antt` has.
-use Rattle.std.specs.Prelude.{◌≡◌, ◌⊎◌, ℕ, ◌+◌, ◌<◌, ◌≤◌, List, Bool, true, length, Some, slice_get}
+-- `Live::last_marked` to `Greatest`.
+use Rattle.std.specs.Prelude.{◌≡◌, ℕ, ◌-◌, ◌<◌, ◌≤◌, List, Bool, true, Some, slice_get}
 use Rattle.syntax.specs.Lists.{In}
 use Rattle.runs.specs.Live.{Live, DependsOn}
 use Rattle.dependence.specs.Followers.{Follower}
 use Rattle.dependence.specs.Shown.{tickets_marked}
-use Rattle.dependence.specs.Taking.{stride}
 use Rattle.dependence.specs.internal.Tables.{StandsAt}
 
 -- the event of ticket t is marked
@@ -17,13 +16,14 @@ MarkedAt l marks t = (i : ℕ) × StandsAt l t i × (slice_get marks i ≡ Some 
 abbrev pub UnmarkedTo : List Bool → ℕ → Type 0
 UnmarkedTo marks n = (i : ℕ) → i < n → slice_get marks i ≡ Some true → ⊥
 
--- one of the marks from `low` on and below `high` is set
-abbrev pub SomeMarked : List Bool → ℕ → ℕ → Type 0
-SomeMarked marks low high = (i : ℕ) × (low ≤ i) × (i < high) × (slice_get marks i ≡ Some true)
+-- no mark is set from the index n on
+abbrev pub UnmarkedFrom : List Bool → ℕ → Type 0
+UnmarkedFrom marks n = (i : ℕ) → n ≤ i → slice_get marks i ≡ Some true → ⊥
 
--- the end is near the index, or a mark that is set is, at the index itself or behind it
-abbrev pub MarkedNear : List Bool → ℕ → Type 0
-MarkedNear marks index = (length marks < index + stride) ⊎ SomeMarked marks index (index + stride)
+-- the marks that are set end at n: just below it one is, unless it is 0, and none from it on
+pub record EndsAt (marks : List Bool) (n : ℕ) : Type 0 where
+  pub none : UnmarkedFrom marks n
+  pub last : 0 < n → slice_get marks (n - 1) ≡ Some true
 
 -- no event of a lesser ticket than t is marked
 abbrev pub NoneLess : Live → List Bool → ℕ → Type 0

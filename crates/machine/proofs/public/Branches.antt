@@ -23,7 +23,7 @@ use Rattle.runs.proofs.public.Lists.{every-in, every-of, in-parts}
 use Rattle.machine.specs.AtMachine.{AtMachine, object, at_machine}
 use Rattle.machine.specs.internal.Histories.{execution}
 use Rattle.machine.specs.internal.Choosing.{NotTaken, FirstAt, Takes, IsChosenAt, moves, line_of_first}
-use Rattle.machine.specs.Branching.{is_branch, acts_in, in_branch, has_no_break, line_of, is_free, FirstFree, Branched, StepsBranch, AnswersBranch, SteppedIsStep, OthersLeave}
+use Rattle.machine.specs.Branching.{is_branch, acts_in, in_branch, has_no_break, line_of, is_free, FirstFree, Branched, StepsBranch, SteppedIsStep, OthersLeave}
 use Rattle.machine.specs.declared.history.History.{History}
 use Rattle.machine.specs.declared.branch.BranchReply.{BranchReply}
 use Rattle.machine.specs.declared.branch.BranchReply.TheVariants.{Stepped, Stopped, Idle, Refused}

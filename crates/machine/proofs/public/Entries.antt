@@ -32,11 +32,6 @@ take-next [] i x h = none-some x h
 take-next (y ∷ l) zero x h = ap (λ z. z ∷ []) (some-injective y x h)
 take-next (y ∷ l) (suc i) x h = ap (λ k. y ∷ k) (take-next l i x h)
 
-pub drop-next : {X : Type 0} (l : List X) (i : ℕ) (x : X) → slice_get l i ≡ Some x → drop i l ≡ x ∷ drop (suc i) l
-drop-next [] i x h = none-some x h
-drop-next (y ∷ l) zero x h = ap (λ z. z ∷ l) (some-injective y x h)
-drop-next (y ∷ l) (suc i) x h = drop-next l i x h
-
 -- the last element and those before it
 pub newest-out : {X : Type 0} (xs : List X) (x : X) (k : ℕ) → suc k ≡ length (xs ++ x ∷ []) → (remove (xs ++ x ∷ []) k ≡ xs) × (slice_get (xs ++ x ∷ []) k ≡ Some x)
 newest-out [] x zero h = (refl, refl)

@@ -1,13 +1,10 @@
 -- Which live events are marked after a reply.
-use Rattle.std.proofs.Common.{◌≡◌, ◌≢◌, ℕ, ◌==◌, List, ◌∷◌, Bool, true, false, cond, not, Option, Some, None, Result, Ok, Err, refl, sym, ◌∙◌, ap, eqb-true, eq-eqb}
-use Rattle.std.specs.Global.{Global}
-use Rattle.std.specs.Prelude.{Vec}
-use Rattle.value.specs.Word.{Word}
+use Rattle.std.proofs.Common.{◌≡◌, ◌≢◌, ℕ, ◌==◌, List, ◌∷◌, Bool, true, false, cond, not, Result, Ok, Err, refl, sym, ◌∙◌, ap, eqb-true, eq-eqb}
 use Rattle.runs.specs.Dependence.{Without, ended, stays, leaves}
 use Rattle.runs.specs.declared.event.Event.{Event}
 use Rattle.runs.specs.declared.command.Refusal.{Refusal}
 use Rattle.machine.specs.Marks.{without_ticket, marks_behind}
-use Rattle.machine.specs.Results.{step_reply, blame_reply, consequences_reply, ready_reply, live_reply, value_reply}
+use Rattle.machine.specs.Results.{step_reply}
 
 -- another ticket is not the same
 pub not-same : (u t : ℕ) → u ≢ t → (u == t) ≡ false
@@ -30,23 +27,3 @@ without-left t xs ys (leaves {x = u} {l = l} gone w) =
 pub step-marks : (r : Result (ℕ × Event) Refusal) (before after : List ℕ) → after ≡ before → after ≡ marks_behind (step_reply r) before
 step-marks (Ok entry) before after is = is
 step-marks (Err why) before after is = is
-
-pub blame-marks : (r : Result ℕ Refusal) (marked : List ℕ) → marked ≡ marks_behind (blame_reply r) marked
-blame-marks (Ok t) marked = refl
-blame-marks (Err why) marked = refl
-
-pub consequences-marks : (r : Result (Vec ℕ Global) Refusal) (marked : List ℕ) → marked ≡ marks_behind (consequences_reply r) marked
-consequences-marks (Ok tickets) marked = refl
-consequences-marks (Err why) marked = refl
-
-pub ready-marks : (r : Result (Vec Event Global) Refusal) (marked : List ℕ) → marked ≡ marks_behind (ready_reply r) marked
-ready-marks (Ok es) marked = refl
-ready-marks (Err why) marked = refl
-
-pub live-marks : (r : Result (Vec (ℕ × Event) Global) Refusal) (marked : List ℕ) → marked ≡ marks_behind (live_reply r) marked
-live-marks (Ok l) marked = refl
-live-marks (Err why) marked = refl
-
-pub value-marks : (r : Option Word) (marked : List ℕ) → marked ≡ marks_behind (value_reply r) marked
-value-marks (Some v) marked = refl
-value-marks None marked = refl

@@ -175,7 +175,7 @@ live-at l t i e at =
     subst (λ (k : Live). LiveAt k t e) (sym (parts-at l i (t, e) at)) (in-right (t, e) (take i l) ((t, e) ∷ drop (suc i) l) (inl refl))
 
 -- one event less: the lists split at its place
-pub record Split (l k : Live) (is js : List Inverse) (t : ℕ) (e : Event) (x : Inverse) : Type 0 where
+record Split (l k : Live) (is js : List Inverse) (t : ℕ) (e : Event) (x : Inverse) : Type 0 where
   pub before : Live
   pub after : Live
   pub earlier : List Inverse
@@ -216,7 +216,7 @@ same-place [] v vs (x ∷ xs) y ys l e = absurd (omega (arith, l))
 same-place (u ∷ us) v vs [] y ys l e = absurd (omega (arith, l))
 same-place (u ∷ us) v vs (x ∷ xs) y ys l e = same-place us v vs xs y ys (omega (arith, l)) (ap (drop 1) e)
 
-pub revert-here : (checked : Checked) (T : TreeAndStore) (n t : ℕ) (e : Event) (x : Inverse) (before after : Live) (earlier behind : List Inverse) →
+revert-here : (checked : Checked) (T : TreeAndStore) (n t : ℕ) (e : Event) (x : Inverse) (before after : Live) (earlier behind : List Inverse) →
     Stands checked T (before ++ (t, e) ∷ after) (earlier ++ x ∷ behind) n → length earlier ≡ length before → NoDependent (before ++ (t, e) ∷ after) t →
     IsSome (reverted T e (inverse_view x))
 revert-here checked T n t e x before after earlier behind s even alone =
@@ -231,7 +231,7 @@ revert-here checked T n t e x before after earlier behind s even alone =
     (u.placed ∙ sym (with-length es earlier sizes)) u.found in
     some-then (reverted T e (inverse_view x)) u.tree (ap (λ (y : Event × Taken). reverted T e y.1) one ∙ u.reverts)
 
-pub less-split : (checked : Checked) (T U : TreeAndStore) (l k : Live) (is js : List Inverse) (n t : ℕ) (e : Event) (x : Inverse) → Stands checked T l is n →
+less-split : (checked : Checked) (T U : TreeAndStore) (l k : Live) (is js : List Inverse) (n t : ℕ) (e : Event) (x : Inverse) → Stands checked T l is n →
     (p : Split l k is js t e x) → NoDependent l t → WithoutTickets (λ v. v ≡ t) l k → LiveAt l t e → UndoneBy T (e, inverse_view x) U → Stands checked U k js n
 less-split checked T U l k is js n t e x s p alone w i undone =
     let o : Object = record { opening = opening checked; live = l; next = n } in

@@ -3,6 +3,9 @@ use Rattle.std.proofs.lemmas.Option.{slice_get_within}
 use Rattle.dependence.proofs.public.Markings.{unmarked-before}
 use Rattle.dependence.proofs.marks.first_index.Goals as goal
 
+pub returns-then-end-eq0 : goal.returns-then-end-eq0
+returns-then-end-eq0 c = record { within = omega arith; none = λ i less on. c.requires.ended.none i (omega arith) on }
+
 pub returns-in-Some : goal.returns-in-Some
 returns-in-Some c =
     let at = c.in-Some.ensures in

@@ -7,6 +7,8 @@ use Rattle.dependence.specs.internal.Tabled.{MoreTables, FewerTables}
 use Rattle.syntax.specs.Lists.{In}
 use Rattle.dependence.specs.internal.Tables.{PartLinked, LinkedBehind}
 use Rattle.dependence.specs.internal.Whole.{IsEntered}
+use Rattle.dependence.specs.internal.Marking.{EndsAt}
+use Rattle.dependence.proofs.MarkEnds.{ends-longer}
 use Rattle.dependence.proofs.public.Tabling.{fresh-behind, same-again, tabled-added, tabled-same}
 use Rattle.dependence.proofs.Wholes.{rising-below, marked-added, whole-added, whole-same}
 use Rattle.dependence.proofs.whole.add_event.Goals as goal
@@ -54,6 +56,7 @@ returns-in-Ok c =
           c.args.ticket c.args.event c.in-Ok.leads.items c.requires.whole rising in_it.topmost in_it.falling behind pairs marks;
       tabled = tabled-added l c.push_event.new.list.live c.args.tables.now c.enter.new.tables c.args.ticket c.args.event c.requires.tabled rising
           c.requires.behind more in_it.has pairs;
+      ended = λ end was. subst (λ (k : List Bool). EndsAt k end) (sym marks) (ends-longer c.args.marks.now.items end was);
       added = (
         pairs,
         ap (λ (k : Live). tickets_marked k c.push_event.new.marks.items) pairs
@@ -78,6 +81,7 @@ returns-in-Err c =
           c.in-Err.ensures.refused c.in-Err.ensures.live c.in-Err.ensures.marks;
       tabled = tabled-same l c.enter.new.list.live c.args.tables.now c.remove.new.self c.requires.tabled
           (same-again c.args.tables.now c.enter.new.tables c.remove.new.self c.args.ticket c.args.event fresh more fewer) c.in-Err.ensures.live;
+      ended = λ end was. subst (λ (k : List Bool). EndsAt k end) (sym c.in-Err.ensures.marks) was;
       added = tt;
       refused = (refl, c.in-Err.ensures.live, c.in-Err.ensures.marks);
     }

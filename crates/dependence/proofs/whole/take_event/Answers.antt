@@ -14,7 +14,7 @@ use Rattle.dependence.specs.internal.Tabled.{FewerTables}
 use Rattle.dependence.proofs.whole.take_event.Goals as goal
 
 pub remove_mark-requires : goal.remove_mark-requires
-remove_mark-requires c = record { rising = c.requires.whole.rising; size = c.requires.whole.marks; lower = c.requires.lower; live = c.requires.live }
+remove_mark-requires c = record { size = c.requires.whole.marks; ended = c.requires.ended; live = c.requires.live }
 
 pub returns : goal.returns
 returns c =
@@ -25,7 +25,7 @@ returns c =
     let less : index < length l = slice_get_within l index _ at in
     let r = c.requires.whole.rising in
     let here = in-at l index (c.args.ticket, c.take_out-event.result) at in
-    let mark = c.remove_mark.ensures in
+    let mark = c.remove_mark.ensures.removed in
     let marks : c.remove_mark.new.marks.items ≡ remove c.args.marks.now.items index =
     subst (λ (n : ℕ). c.remove_mark.new.marks.items ≡ remove c.args.marks.now.items n) (same-index 0 r.0 l mark.0 index c.args.ticket mark.1.0 _ r.1 mark.1.1 at) mark.2 in
     let left : WithoutTickets (λ t. t ≡ c.args.ticket) l c.take_out-event.new.list.live =
@@ -37,6 +37,7 @@ returns c =
       tabled = tabled-taken r.0 l c.take_out-event.new.list.live c.args.tables.now c.remove.new.self c.args.ticket c.take_out-event.result r.1
           here left c.requires.tabled
           (subst (λ (e : Event). FewerTables c.args.tables.now c.args.ticket e c.remove.new.self) c.get.ensures c.remove.ensures);
+      ended = c.remove_mark.ensures.ended;
       event = here;
       live = left;
       marked = subst (λ (k : Live). Without (λ (t : ℕ). t ≡ c.args.ticket) (tickets_marked l c.args.marks.now.items) (tickets_marked k c.remove_mark.new.marks.items))

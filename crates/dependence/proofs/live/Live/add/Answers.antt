@@ -20,6 +20,7 @@ invariant_of-self c = (
   c.add_event.ensures.tabled,
   lower-kept c.add_event.result _ _ c.self.inside.list.live c.add_event.new.list.live c.self.inside.marks.items c.add_event.new.marks.items c.self.inside.first_marked
       c.self.invariant.2 c.add_event.ensures.added c.add_event.ensures.refused,
+  c.add_event.ensures.ended c.self.inside.marked_to c.self.invariant.3,
 )
 
 pub returns : goal.returns

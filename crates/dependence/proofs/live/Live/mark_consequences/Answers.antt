@@ -1,6 +1,6 @@
 use Rattle.std.proofs.Common.{◌∙◌, List, Bool, length, sym, ap, subst, refl}
 use Rattle.runs.specs.Live.{Live}
-use Rattle.dependence.specs.internal.Marking.{NoneLess}
+use Rattle.dependence.specs.internal.Marking.{NoneLess, EndsAt}
 use Rattle.dependence.proofs.Edges.{take-whole}
 use Rattle.dependence.proofs.live.Live.mark_consequences.Goals as goal
 
@@ -8,6 +8,10 @@ pub mark_and_count-count-requires-clause-lower : goal.mark_and_count-count-requi
 mark_and_count-count-requires-clause-lower c =
     subst (λ (k : Live). NoneLess k c.as_mut_slice.result.now c.self.inside.first_marked) (sym refl)
     (subst (λ (k : List Bool). NoneLess c.self.inside.list.live k c.self.inside.first_marked) (sym c.as_mut_slice.ensures.value) c.self.invariant.2)
+
+pub mark_and_count-count-requires-clause-ended : goal.mark_and_count-count-requires-clause-ended
+mark_and_count-count-requires-clause-ended c =
+    subst (λ (k : List Bool). EndsAt k c.self.inside.marked_to) (sym c.as_mut_slice.ensures.value) c.self.invariant.3
 
 pub invariant_of-self : goal.invariant_of-self
 invariant_of-self c =
@@ -18,4 +22,5 @@ invariant_of-self c =
       c.self.invariant.1,
       subst (λ (k : List Bool). NoneLess c.self.inside.list.live k c.args.ticket) (sym whole)
           (subst (λ (k : Live). NoneLess k marks c.args.ticket) refl c.mark_and_count-count.ensures.lower),
+      subst (λ (k : List Bool). EndsAt k c.end_below-self-inside.result) c.as_slice.ensures.value c.end_below-self-inside.ensures,
     )

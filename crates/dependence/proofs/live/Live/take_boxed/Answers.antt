@@ -8,7 +8,7 @@ use Rattle.dependence.proofs.live.Live.take_boxed.Goals as goal
 pub take_event-requires : goal.take_event-requires
 take_event-requires c = record {
   whole = c.self.invariant.0;
-  lower = c.self.invariant.2;
+  ended = c.self.invariant.3;
   tabled = c.self.invariant.1;
   live = subst (λ (s : Shown). IsLive s.live c.args.ticket) (sym c.self.view_is) c.requires.live;
   alone = subst (λ (s : Shown). NoDependent s.live c.args.ticket) (sym c.self.view_is) c.requires.alone;
@@ -27,4 +27,5 @@ invariant_of-self c = (
   c.take_event.ensures.whole,
   c.take_event.ensures.tabled,
   less-marked c.self.inside.first_marked _ _ (without-in (λ (v : ℕ). v ≡ c.args.ticket) _ _ c.take_event.ensures.marked) c.self.invariant.2,
+  c.take_event.ensures.ended,
 )
