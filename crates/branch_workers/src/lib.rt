@@ -9,8 +9,8 @@ ghost use Rattle.locked_execution.specs.Calls.{ArePassesOf, opening, table};
 ghost use Rattle.locked_execution.specs.Sharing.{Keeps, is_step};
 ghost use Rattle.locked_execution.specs.declared.command.Command as asked;
 
-pub use locked_execution::Gate;
-use locked_execution::{Fault, Pass, Ran, Shared};
+use locked_execution::{Pass, Ran, Shared};
+pub use locked_execution::{Fault, Gate};
 use std::alloc::Global;
 use std::sync::Wait;
 use std::thread::Threads;

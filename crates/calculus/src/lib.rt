@@ -38,4 +38,5 @@ pub use runs::{
     soundness_laws, state_laws, step_laws, ticket_law, undo_laws, writes,
 };
 pub use slow::{replay, replay_live};
+pub use system::Variables;
 pub use translate::{in_parallel, in_sequence};

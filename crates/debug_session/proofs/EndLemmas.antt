@@ -35,7 +35,7 @@ completed-unwritten s o at_end taken given pending more ended b (lines, last, ar
       unended = are.unended;
       ending = inr (refl, ended);
     },
-    inr (begins s o (lines ++ last ∷ []) given pending more b answered),
+    begins s o (lines ++ last ∷ []) given pending more b answered,
   ),
 )
 
@@ -43,34 +43,29 @@ completed-unwritten s o at_end taken given pending more ended b (lines, last, ar
 stopped-unwritten : (s : System) (o : AtLine) (at_end : Type 0) (taken given pending more : List ℕ) (fault : Fault) → IsNoDevice fault → (pending ≡ [] → ⊥)
     → IsBeginning pending more → StopsHolding s o at_end taken given pending fault → StoppedByFault s o at_end taken (given ++ more) Fault.WriteFailed
 stopped-unwritten s o at_end taken given pending more Fault.Memory not some b (inl (none, stops)) = absurd (some none)
-stopped-unwritten s o at_end taken given pending more Fault.Memory not some b (inr (lines, answered, inl are)) =
+stopped-unwritten s o at_end taken given pending more Fault.Memory not some b (inr (lines, answered, are)) =
     (lines, inl (are, begins s o lines given pending more b answered))
-stopped-unwritten s o at_end taken given pending more Fault.Memory not some b (inr (lines, answered, inr (last, ended, wants))) =
-    (lines, inr (last, ended, inl (inr wants, begins s o lines given pending more b answered)))
-stopped-unwritten s o at_end taken given pending more (Fault.BadCommand n) not some b (lines, last, ended, answered, number, full, nothing) =
-    (lines, inr (last, ended, inl (inl nothing, begins s o lines given pending more b answered)))
+stopped-unwritten s o at_end taken given pending more (Fault.BadCommand n) not some b stops = absurd (some stops.0)
 stopped-unwritten s o at_end taken given pending more Fault.ReadFailed not some b stops = absurd (not.0 refl)
 stopped-unwritten s o at_end taken given pending more Fault.WriteFailed not some b stops = absurd (not.1 refl)
-stopped-unwritten s o at_end taken given pending more (Fault.NoSystem fault) not some b stops = absurd stops
-stopped-unwritten s o at_end taken given pending more (Fault.Trace fault) not some b stops = absurd stops
-stopped-unwritten s o at_end taken given pending more (Fault.Refused why) not some b stops = absurd stops
+stopped-unwritten s o at_end taken given pending more (Fault.NoSystem fault) not some b stops = absurd stops.1
+stopped-unwritten s o at_end taken given pending more (Fault.Trace fault) not some b stops = absurd stops.1
+stopped-unwritten s o at_end taken given pending more (Fault.Refused why) not some b stops = absurd stops.1
 
 -- what was pending is out
 stopped-written : (s : System) (o : AtLine) (at_end : Type 0) (taken given pending more : List ℕ) (fault : Fault) → IsNoDevice fault → more ≡ pending
     → StopsHolding s o at_end taken given pending fault → StoppedByFault s o at_end taken (given ++ more) fault
 stopped-written s o at_end taken given pending more Fault.Memory not e (inl (none, stops)) =
     subst (λ t. StoppedByFault s o at_end taken t Fault.Memory) (sym (ap (λ t. given ++ t) (e ∙ none) ∙ append-nil given)) stops
-stopped-written s o at_end taken given pending more Fault.Memory not e (inr (lines, (m, t), inl are)) =
+stopped-written s o at_end taken given pending more Fault.Memory not e (inr (lines, (m, t), are)) =
     (lines, [], (m, subst (λ x. Transcript s o lines (given ++ x) m) (sym e) t), inl are)
-stopped-written s o at_end taken given pending more Fault.Memory not e (inr (lines, (m, t), inr (last, ended, wants))) =
-    (lines, last, (m, subst (λ x. Transcript s o lines (given ++ x) m) (sym e) t), inr (ended, wants))
-stopped-written s o at_end taken given pending more (Fault.BadCommand n) not e stops =
-    subst (λ t. StoppedByFault s o at_end taken (given ++ t) (Fault.BadCommand n)) (sym e) stops
+stopped-written s o at_end taken given pending more (Fault.BadCommand n) not e (none, stops) =
+    subst (λ t. StoppedByFault s o at_end taken t (Fault.BadCommand n)) (sym (ap (λ t. given ++ t) (e ∙ none) ∙ append-nil given)) stops
 stopped-written s o at_end taken given pending more Fault.ReadFailed not e stops = absurd (not.0 refl)
 stopped-written s o at_end taken given pending more Fault.WriteFailed not e stops = absurd (not.1 refl)
-stopped-written s o at_end taken given pending more (Fault.NoSystem fault) not e stops = absurd stops
-stopped-written s o at_end taken given pending more (Fault.Trace fault) not e stops = absurd stops
-stopped-written s o at_end taken given pending more (Fault.Refused why) not e stops = absurd stops
+stopped-written s o at_end taken given pending more (Fault.NoSystem fault) not e stops = absurd stops.1
+stopped-written s o at_end taken given pending more (Fault.Trace fault) not e stops = absurd stops.1
+stopped-written s o at_end taken given pending more (Fault.Refused why) not e stops = absurd stops.1
 
 -- the end, where what was pending is out
 ended-written : (s : System) (o : AtLine) (read left wrote contents after : Option (List ℕ)) (pending more : List ℕ) (r : Result (Unit {0}) Fault)

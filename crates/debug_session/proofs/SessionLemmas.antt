@@ -1,5 +1,5 @@
 -- How far a session has come, and how it goes on.
-use Rattle.std.proofs.Common.{◌≡◌, ℕ, suc, ◌+◌, List, [], ◌∷◌, ◌++◌, Bool, true, false, Option, Result, Ok, Err, length, add-one, refl, sym, ap, ◌∙◌, subst, inl, inr, append_assoc, append-nil}
+use Rattle.std.proofs.Common.{◌≡◌, ◌⊎◌, ℕ, suc, ◌+◌, List, [], ◌∷◌, ◌++◌, Bool, true, false, Option, Result, Ok, Err, length, add-one, refl, sym, ap, ◌∙◌, subst, inl, inr, append_assoc, append-nil}
 use Rattle.std.specs.Option.{IfSome}
 use Rattle.std.specs.List.{flat_map}
 use Rattle.std.specs.Io.KnownBytes.{Appends, Consumes, IsAtEnd}
@@ -9,10 +9,10 @@ use Rattle.syntax.specs.Lists.{Every}
 use Rattle.system.specs.declared.system.System.{System}
 use Rattle.debug_session.specs.AtLine.{AtLine, first_line}
 use Rattle.debug_session.specs.declared.fault.Fault.{Fault}
-use Rattle.debug_session.specs.Counting.{WritingStops}
 use Rattle.debug_session.specs.Script.{with_end, IsLine, IsEnding, AreLines, EndWith}
 use Rattle.debug_session.specs.Transcript.{LineAnswered, Transcript, Ends}
-use Rattle.debug_session.specs.internal.OneLine.{TakesLine, LineStops, AskingStops, StopsHolding, EndsHolding}
+use Rattle.debug_session.specs.internal.OneLine.{TakesLine, ReadingStops, LineStops, StopsHolding, EndsHolding}
+use Rattle.debug_session.specs.internal.Owing.{WasAtHand, IsHeld, IsHeldAnew, LineDone, LineLacks, LineFails}
 use Rattle.devices.specs.Counting.{IsNoEnd}
 use Rattle.devices.proofs.public.KnownLemmas.{Appends-none, Consumes-none, Appends-then, Consumes-then, end-known}
 
@@ -139,69 +139,6 @@ lines-and-part lines part each one = record { joined = refl; each = each; unende
 no-bytes : IsLine []
 no-bytes = All-nil IsNoEnd
 
--- no line was had
-unasked : (s : System) (o m : AtLine) (read left left' wrote contents contents' : Option (List ℕ)) (pending pending' given : List ℕ) (number : ℕ) (fault : Fault)
-    → Progress s o read left wrote contents pending m number → Appends contents contents' given → AskingStops left left' pending pending' given fault
-    → EndsHolding s o read left' wrote contents' pending' (Err fault)
-unasked s o m read left left' wrote contents contents' pending pending' given number Fault.Memory p gives (inl (kept, join)) = (
-  flat_map with_end p.lines ++ [],
-  p.out ++ given,
-  Consumes-then read left left' (flat_map with_end p.lines) [] p.taken kept,
-  Appends-then wrote contents contents' p.out given p.given gives,
-  inr (
-    p.lines,
-    (m, subst (λ t. Transcript s o p.lines t m) (rejoin-none p.out pending given pending' join) p.answered),
-    inl (lines-and-part p.lines [] p.each no-bytes),
-  ),
-)
-unasked s o m read left left' wrote contents contents' pending pending' given number Fault.Memory p gives (inr ((part, one, takes), all, none)) = (
-  flat_map with_end p.lines ++ part,
-  p.out ++ given,
-  Consumes-then read left left' (flat_map with_end p.lines) part p.taken takes,
-  Appends-then wrote contents contents' p.out given p.given gives,
-  inl (
-    none,
-    (
-      p.lines,
-      part,
-      (m, subst (λ t. Transcript s o p.lines (p.out ++ t) m) (sym all) p.answered),
-      inl (lines-and-part p.lines part p.each one),
-    ),
-  ),
-)
-unasked s o m read left left' wrote contents contents' pending pending' given number Fault.ReadFailed p gives ((part, one, takes), all, none) = (
-  flat_map with_end p.lines ++ part,
-  p.out ++ given,
-  Consumes-then read left left' (flat_map with_end p.lines) part p.taken takes,
-  Appends-then wrote contents contents' p.out given p.given gives,
-  (
-    none,
-    (
-      p.lines,
-      part,
-      lines-and-part p.lines part p.each one,
-      (m, subst (λ t. Transcript s o p.lines (p.out ++ t) m) (sym all) p.answered),
-    ),
-  ),
-)
-unasked s o m read left left' wrote contents contents' pending pending' given number Fault.WriteFailed p gives (kept, (missing, e)) = (
-  flat_map with_end p.lines ++ [],
-  p.out ++ given,
-  Consumes-then read left left' (flat_map with_end p.lines) [] p.taken kept,
-  Appends-then wrote contents contents' p.out given p.given gives,
-  (
-    p.lines,
-    inl (
-      lines-and-part p.lines [] p.each no-bytes,
-      (missing, (m, subst (λ t. Transcript s o p.lines t m) (rejoin-none p.out pending given missing (sym e)) p.answered)),
-    ),
-  ),
-)
-unasked s o m read left left' wrote contents contents' pending pending' given number (Fault.NoSystem fault) p gives stops = absurd stops
-unasked s o m read left left' wrote contents contents' pending pending' given number (Fault.Trace fault) p gives stops = absurd stops
-unasked s o m read left left' wrote contents contents' pending pending' given number (Fault.Refused why) p gives stops = absurd stops
-unasked s o m read left left' wrote contents contents' pending pending' given number (Fault.BadCommand n) p gives stops = absurd stops
-
 -- a line with its end, or without where the reader, whose bytes were known from `read` on, is at its end
 line-taken : (read left left' : Option (List ℕ)) (taken line : List ℕ) (complete : Bool) → Consumes read left taken
     → TakesLine left left' line complete
@@ -215,41 +152,107 @@ lines-and-line : (at_end : Type 0) (lines : List (List ℕ)) (line tail : List �
     → EndWith at_end (flat_map with_end lines ++ (line ++ tail)) lines line
 lines-and-line at_end lines line tail h k e = record { tail = tail; joined = refl; each = h; unended = k; ending = e }
 
--- why the line that was taken is not answered
-stops-at : (s : System) (o m : AtLine) (at_end : Type 0) (lines : List (List ℕ)) (out pending line tail : List ℕ) (number : ℕ) (fault : Fault)
-    → Every IsLine lines → IsLine line → IsEnding at_end tail → Transcript s o lines (out ++ pending) m → number ≡ suc (length lines)
-    → LineStops s line number fault
-    → StopsHolding s o at_end (flat_map with_end lines ++ (line ++ tail)) out pending fault
-stops-at s o m at_end lines out pending line tail number Fault.Memory h one e t c stops =
-    inr (lines, (m, t), inr (line, lines-and-line at_end lines line tail h one e, stops))
-stops-at s o m at_end lines out pending line tail number (Fault.BadCommand n) h one e t c stops =
-    (lines, line, lines-and-line at_end lines line tail h one e, (m, t), stops.0 ∙ c, stops.1, stops.2)
-stops-at s o m at_end lines out pending line tail number Fault.WriteFailed h one e t c stops = absurd stops
-stops-at s o m at_end lines out pending line tail number Fault.ReadFailed h one e t c stops = absurd stops
-stops-at s o m at_end lines out pending line tail number (Fault.NoSystem fault) h one e t c stops = absurd stops
-stops-at s o m at_end lines out pending line tail number (Fault.Trace fault) h one e t c stops = absurd stops
-stops-at s o m at_end lines out pending line tail number (Fault.Refused why) h one e t c stops = absurd stops
+-- what was pending is out
+all-out : (s : System) (o m : AtLine) (read left wrote contents contents' : Option (List ℕ)) (pending : List ℕ) (number : ℕ)
+    → Progress s o read left wrote contents pending m number → Appends contents contents' pending → Progress s o read left wrote contents' [] m number
+all-out s o m read left wrote contents contents' pending number p gives =
+    put-on s o m read left wrote contents contents' pending [] pending number p gives (append-nil pending)
 
--- the line that was taken is not answered
-unanswered : (s : System) (o m : AtLine) (read left left' wrote contents : Option (List ℕ)) (pending : List ℕ) (number : ℕ) (line : List ℕ)
-    (complete : Bool) (fault : Fault) → Progress s o read left wrote contents pending m number → TakesLine left left' line complete
-    → LineStops s line number fault → EndsHolding s o read left' wrote contents pending (Err fault)
-unanswered s o m read left left' wrote contents pending number line complete fault p takes stops =
+-- all answers are out
+answers-out : (s : System) (o m : AtLine) (read left wrote contents : Option (List ℕ)) (number : ℕ) (p : Progress s o read left wrote contents [] m number)
+    → Transcript s o p.lines p.out m
+answers-out s o m read left wrote contents number p = subst (λ t. Transcript s o p.lines t m) (append-nil p.out) p.answered
+
+-- reading stopped, and nothing is pending
+unread : (s : System) (o m : AtLine) (read left left' wrote contents : Option (List ℕ)) (number : ℕ) (part : List ℕ) (fault : Fault)
+    → Progress s o read left wrote contents [] m number → ReadingStops left left' part fault → EndsHolding s o read left' wrote contents [] (Err fault)
+unread s o m read left left' wrote contents number part fault p (one, takes, inl e) =
+    subst (λ f. EndsHolding s o read left' wrote contents [] (Err f)) (sym e) (
+      flat_map with_end p.lines ++ part,
+      p.out,
+      Consumes-then read left left' (flat_map with_end p.lines) part p.taken takes,
+      p.given,
+      inl (
+        refl,
+        (
+          p.lines,
+          part,
+          (m, answers-out s o m read left wrote contents number p),
+          inl (lines-and-part p.lines part p.each one),
+        ),
+      ),
+    )
+unread s o m read left left' wrote contents number part fault p (one, takes, inr e) =
+    subst (λ f. EndsHolding s o read left' wrote contents [] (Err f)) (sym e) (
+      flat_map with_end p.lines ++ part,
+      p.out,
+      Consumes-then read left left' (flat_map with_end p.lines) part p.taken takes,
+      p.given,
+      (
+        refl,
+        (
+          p.lines,
+          part,
+          lines-and-part p.lines part p.each one,
+          (m, answers-out s o m read left wrote contents number p),
+        ),
+      ),
+    )
+
+-- why the line that was taken is not answered
+stops-at : (s : System) (o m : AtLine) (at_end : Type 0) (lines : List (List ℕ)) (out line tail : List ℕ) (number : ℕ) (fault : Fault)
+    → Every IsLine lines → IsLine line → IsEnding at_end tail → Transcript s o lines out m → number ≡ suc (length lines)
+    → LineStops s line number fault
+    → StopsHolding s o at_end (flat_map with_end lines ++ (line ++ tail)) out [] fault
+stops-at s o m at_end lines out line tail number Fault.Memory h one e t c stops =
+    inl (refl, (lines, line, (m, t), inr (lines-and-line at_end lines line tail h one e, stops)))
+stops-at s o m at_end lines out line tail number (Fault.BadCommand n) h one e t c stops =
+    (refl, (lines, line, lines-and-line at_end lines line tail h one e, (m, t), stops.0 ∙ c, stops.1, stops.2))
+stops-at s o m at_end lines out line tail number Fault.WriteFailed h one e t c stops = absurd stops
+stops-at s o m at_end lines out line tail number Fault.ReadFailed h one e t c stops = absurd stops
+stops-at s o m at_end lines out line tail number (Fault.NoSystem fault) h one e t c stops = absurd stops
+stops-at s o m at_end lines out line tail number (Fault.Trace fault) h one e t c stops = absurd stops
+stops-at s o m at_end lines out line tail number (Fault.Refused why) h one e t c stops = absurd stops
+
+-- the line that was taken is not answered, and nothing is pending
+unanswered : (s : System) (o m : AtLine) (read left left' wrote contents : Option (List ℕ)) (number : ℕ) (line : List ℕ)
+    (complete : Bool) (fault : Fault) → Progress s o read left wrote contents [] m number → TakesLine left left' line complete
+    → LineStops s line number fault → EndsHolding s o read left' wrote contents [] (Err fault)
+unanswered s o m read left left' wrote contents number line complete fault p takes stops =
     let piece : (tail : List ℕ) × IsEnding (IfSome read (λ _. IsAtEnd left')) tail × Consumes left left' (line ++ tail) =
     line-taken read left left' (flat_map with_end p.lines) line complete p.taken takes in (
       flat_map with_end p.lines ++ (line ++ piece.0),
       p.out,
       Consumes-then read left left' (flat_map with_end p.lines) (line ++ piece.0) p.taken piece.2,
       p.given,
-      stops-at s o m (IfSome read (λ _. IsAtEnd left')) p.lines p.out pending line piece.0 number fault p.each takes.0 piece.1 p.answered p.counted stops,
+      stops-at s o m (IfSome read (λ _. IsAtEnd left')) p.lines p.out line piece.0 number fault p.each takes.0 piece.1
+          (answers-out s o m read left wrote contents number p) p.counted stops,
     )
 
--- writing failed behind the answer to the line
-unwritten : (s : System) (o m o' : AtLine) (read left left' wrote contents contents' : Option (List ℕ)) (pending pending' given : List ℕ) (number : ℕ)
-    (line answer : List ℕ) (complete : Bool) → Progress s o read left wrote contents pending m number → TakesLine left left' line complete
-    → LineAnswered s m line answer o' → Appends contents contents' given → (missing : List ℕ) × (pending ++ answer ≡ given ++ missing)
-    → EndsHolding s o read left' wrote contents' pending' (Err Fault.WriteFailed)
-unwritten s o m o' read left left' wrote contents contents' pending pending' given number line answer complete p takes a gives (missing, e) =
+-- what was pending could not be written, and nothing was taken
+untaken : (s : System) (o m : AtLine) (read left wrote contents contents' : Option (List ℕ)) (pending pending' given : List ℕ) (number : ℕ)
+    → Progress s o read left wrote contents pending m number → Appends contents contents' given → (missing : List ℕ) × (pending ≡ given ++ missing)
+    → EndsHolding s o read left wrote contents' pending' (Err Fault.WriteFailed)
+untaken s o m read left wrote contents contents' pending pending' given number p gives (missing, e) = (
+  flat_map with_end p.lines,
+  p.out ++ given,
+  p.taken,
+  Appends-then wrote contents contents' p.out given p.given gives,
+  (
+    p.lines,
+    inl (
+      record { joined = sym (append-nil (flat_map with_end p.lines)); each = p.each; unended = no-bytes },
+      (missing, (m, subst (λ t. Transcript s o p.lines t m) (rejoin-none p.out pending given missing (sym e)) p.answered)),
+    ),
+  ),
+)
+
+-- the answer to the line could not be written
+unwritten : (s : System) (o m o' : AtLine) (read left left' wrote contents contents' : Option (List ℕ)) (pending given : List ℕ) (number : ℕ)
+    (line answer : List ℕ) (complete : Bool) → Progress s o read left wrote contents [] m number → TakesLine left left' line complete
+    → LineAnswered s m line answer o' → Appends contents contents' given → (missing : List ℕ) × (answer ≡ given ++ missing)
+    → EndsHolding s o read left' wrote contents' pending (Err Fault.WriteFailed)
+unwritten s o m o' read left left' wrote contents contents' pending given number line answer complete p takes a gives (missing, e) =
     let piece : (tail : List ℕ) × IsEnding (IfSome read (λ _. IsAtEnd left')) tail × Consumes left left' (line ++ tail) =
     line-taken read left left' (flat_map with_end p.lines) line complete p.taken takes in (
       flat_map with_end p.lines ++ (line ++ piece.0),
@@ -261,19 +264,19 @@ unwritten s o m o' read left left' wrote contents contents' pending pending' giv
         inr (
           line,
           lines-and-line (IfSome read (λ _. IsAtEnd left')) p.lines line piece.0 p.each takes.0 piece.1,
-          inr (
+          (
             missing,
             (
               o',
-              subst (λ t. Transcript s o (p.lines ++ line ∷ []) t o') (rejoin p.out pending answer given missing (sym e))
-                  (transcript-push s o m o' p.lines (p.out ++ pending) line answer p.answered a),
+              subst (λ t. Transcript s o (p.lines ++ line ∷ []) t o') (rejoin p.out [] answer given missing (sym e))
+                  (transcript-push s o m o' p.lines (p.out ++ []) line answer p.answered a),
             ),
           ),
         ),
       ),
     )
 
--- no line is left to count
+-- no line is left to count, or no memory for the next, which was not taken
 pub session-endless : (s : System) (o m : AtLine) (read left wrote contents : Option (List ℕ)) (pending : List ℕ) (number : ℕ)
     → Progress s o read left wrote contents pending m number → EndsHolding s o read left wrote contents pending (Err Fault.Memory)
 session-endless s o m read left wrote contents pending number p = (
@@ -281,94 +284,89 @@ session-endless s o m read left wrote contents pending number p = (
   p.out,
   p.taken,
   p.given,
-  inr (p.lines, (m, p.answered), inl (record { joined = sym (append-nil (flat_map with_end p.lines)); each = p.each; unended = no-bytes })),
+  inr (p.lines, (m, p.answered), record { joined = sym (append-nil (flat_map with_end p.lines)); each = p.each; unended = no-bytes }),
 )
 
--- the end that the result is equal to
-ends-at : (s : System) (o : AtLine) (read left wrote contents : Option (List ℕ)) (pending : List ℕ) (r q : Result (Unit {0}) Fault) → r ≡ q
-    → EndsHolding s o read left wrote contents pending q → EndsHolding s o read left wrote contents pending r
-ends-at s o read left wrote contents pending r q e h = subst (λ x. EndsHolding s o read left wrote contents pending x) (sym e) h
-
--- no line was had, and the result is its fault
-pub stopped-asking : (s : System) (o m : AtLine) (read left left' wrote contents contents' : Option (List ℕ)) (pending pending' : List ℕ) (number : ℕ)
-    (fault : Fault) (r : Result (Unit {0}) Fault) → Progress s o read left wrote contents pending m number
-    → (given : List ℕ) × Appends contents contents' given × AskingStops left left' pending pending' given fault → r ≡ Err fault
-    → EndsHolding s o read left' wrote contents' pending' r
-stopped-asking s o m read left left' wrote contents contents' pending pending' number fault r p (given, gives, stops) e =
-    ends-at s o read left' wrote contents' pending' r (Err fault) e
-    (unasked s o m read left left' wrote contents contents' pending pending' given number fault p gives stops)
-
--- a line was taken, and what was pending is out or still pending
-abbrev pub LineKept : Option (List ℕ) → Option (List ℕ) → List ℕ → List ℕ → List ℕ → Bool → List ℕ → Type 0
-LineKept left left' pending pending' line complete given = (given ++ pending' ≡ pending) × TakesLine left left' line complete
-
--- a line was had, once some of what was pending was written
-abbrev pub LineHad : Option (List ℕ) → Option (List ℕ) → Option (List ℕ) → Option (List ℕ) → List ℕ → List ℕ → List ℕ → Bool → Type 0
-LineHad left left' contents contents' pending pending' line complete =
-    (given : List ℕ) × Appends contents contents' given × LineKept left left' pending pending' line complete given
-
--- an answer was pending or written
-abbrev pub AnswerHeld : Option (List ℕ) → Option (List ℕ) → List ℕ → List ℕ → List ℕ → Type 0
-AnswerHeld contents contents' pending pending' answer = (given : List ℕ) × Appends contents contents' given × (given ++ pending' ≡ pending ++ answer)
-
--- the line is not answered, and the result is its fault
-pub stopped-by-line : (s t : System) (o m : AtLine) (read left left' wrote contents contents' : Option (List ℕ)) (pending pending' : List ℕ) (number : ℕ)
-    (line text : List ℕ) (complete : Bool) (fault : Fault) (r : Result (Unit {0}) Fault) → t ≡ s → text ≡ line
-    → Progress s o read left wrote contents pending m number → LineHad left left' contents contents' pending pending' line complete
-    → LineStops t text number fault → r ≡ Err fault → EndsHolding s o read left' wrote contents' pending' r
-stopped-by-line s t o m read left left' wrote contents contents' pending pending' number line text complete fault r same whole p (given, gives, (join, takes)) stops e =
-    ends-at s o read left' wrote contents' pending' r (Err fault) e
-    (unanswered s o m read left left' wrote contents' pending' number line complete fault
-    (put-on s o m read left wrote contents contents' pending pending' given number p gives join) takes
-    (subst (λ x. LineStops s x number fault) whole (subst (λ x. LineStops x text number fault) same stops)))
-
--- an answer on the system and the line
-pub answered-here : (s t : System) (m o' : AtLine) (line text given : List ℕ) → t ≡ s → text ≡ line → LineAnswered t m text given o'
-    → LineAnswered s m line given o'
-answered-here s t m o' line text given same whole a =
-    subst (λ x. LineAnswered s m x given o') whole (subst (λ x. LineAnswered x m text given o') same a)
-
--- writing failed behind the answer to the line, and the result is that
-pub stopped-by-writer : (s t : System) (o m o' : AtLine) (read left left' wrote contents contents' after : Option (List ℕ)) (pending pending' last : List ℕ)
-    (number : ℕ) (line text answer bytes : List ℕ) (complete : Bool) (fault : Fault) (r : Result (Unit {0}) Fault) → t ≡ s → text ≡ line → bytes ≡ answer
-    → Progress s o read left wrote contents pending m number → LineHad left left' contents contents' pending pending' line complete
-    → LineAnswered t m text answer o' → (given : List ℕ) × Appends contents' after given × WritingStops (pending' ++ bytes) given fault
-    → r ≡ Err fault → EndsHolding s o read left' wrote after last r
-stopped-by-writer s t o m o' read left left' wrote contents contents' after pending pending' last number line text answer bytes complete fault r same whole all p
-    (given, gives, (join, takes)) a (more, writes, (failed, (missing, e))) is =
-    ends-at s o read left' wrote after last r (Err Fault.WriteFailed) (is ∙ ap Err failed)
-    (unwritten s o m o' read left left' wrote contents' after pending' last more number line answer complete
-    (put-on s o m read left wrote contents contents' pending pending' given number p gives join) takes
-    (answered-here s t m o' line text answer same whole a) writes (missing, ap (λ x. pending' ++ x) (sym all) ∙ e))
-
--- the last line without an end was answered
-pub done-by-line : (s t : System) (o m o' : AtLine) (read left left' wrote contents contents' after : Option (List ℕ)) (pending pending' last : List ℕ)
-    (number : ℕ) (line text answer bytes : List ℕ) (complete : Bool) → t ≡ s → text ≡ line → bytes ≡ answer → complete ≡ false
-    → Progress s o read left wrote contents pending m number → LineHad left left' contents contents' pending pending' line complete
-    → LineAnswered t m text answer o' → AnswerHeld contents' after pending' last bytes
-    → EndsHolding s o read left' wrote after last (Ok tt)
-done-by-line s t o m o' read left left' wrote contents contents' after pending pending' last number line text answer bytes complete same whole all ended p
-    (given, gives, (join, takes)) a (more, writes, joins) =
-    let last_line : TakesLine left left' line false = subst (λ b. TakesLine left left' line b) ended takes in
-    last-answered s o m o' read left left' wrote contents' after pending' last more number line answer
-    (put-on s o m read left wrote contents contents' pending pending' given number p gives join) last_line.0 last_line.1.0 last_line.1.1 writes
-    (joins ∙ ap (λ x. pending' ++ x) all) (answered-here s t m o' line text answer same whole a)
-
--- a line with its end was answered
-pub more-by-line : (s t : System) (o m o' : AtLine) (read left left' wrote contents contents' after : Option (List ℕ)) (pending pending' last : List ℕ)
-    (number : ℕ) (line text answer bytes : List ℕ) (complete : Bool) → t ≡ s → text ≡ line → bytes ≡ answer → complete ≡ true
-    → Progress s o read left wrote contents pending m number → LineHad left left' contents contents' pending pending' line complete
-    → LineAnswered t m text answer o' → AnswerHeld contents' after pending' last bytes
-    → Progress s o read left' wrote after last o' (number + 1)
-more-by-line s t o m o' read left left' wrote contents contents' after pending pending' last number line text answer bytes complete same whole all ended p
-    (given, gives, (join, takes)) a (more, writes, joins) =
-    let whole_line : TakesLine left left' line true = subst (λ b. TakesLine left left' line b) ended takes in
-    line-on s o m o' read left left' wrote contents' after pending' last more number (number + 1) line answer
-    (put-on s o m read left wrote contents contents' pending pending' given number p gives join) whole_line.0 whole_line.1 writes
-    (joins ∙ ap (λ x. pending' ++ x) all) (answered-here s t m o' line text answer same whole a) (add-one number)
+-- no line was had, or one that has no answer; nothing is pending
+lacking : (s : System) (o m : AtLine) (read left left' wrote contents : Option (List ℕ)) (number : ℕ) (line : List ℕ) (fault : Fault)
+    → Progress s o read left wrote contents [] m number → LineLacks s left left' line number fault → EndsHolding s o read left' wrote contents [] (Err fault)
+lacking s o m read left left' wrote contents number line fault p (inl stops) = unread s o m read left left' wrote contents number line fault p stops
+lacking s o m read left left' wrote contents number line fault p (inr (complete, takes, stops)) =
+    unanswered s o m read left left' wrote contents number line complete fault p takes stops
 
 -- the session on a new desk
 pub begun : (o : AtLine) (system : System) (source : List ℕ) (read left wrote contents : Option (List ℕ)) (r : Result (Unit {0}) Fault)
     → o ≡ first_line system source → Ends o.desk.machine.checked o read left wrote contents r
     → Ends system (first_line system source) read left wrote contents r
 begun o system source read left wrote contents r e ends = subst (λ x. Ends x.desk.machine.checked x read left wrote contents r) e ends
+
+module _ {R A W : Type 0} (remaining : R → Option (List ℕ)) (buffered : R → List ℕ) (asked : R → A) (written : W → Option (List ℕ)) (unsent wanted : W → ℕ) where
+  -- what is given and what is pending are what was pending and the answer
+  held-joins : (now now' : R) (here here' : W) (pending pending' line answer : List ℕ) (complete : Bool)
+      → ((complete ≡ true) × WasAtHand buffered asked now now' line × IsHeld here here' pending pending' answer) ⊎ IsHeldAnew written unsent here here' pending pending' answer
+      → (given : List ℕ) × Appends (written here) (written here') given × (given ++ pending' ≡ pending ++ answer)
+  held-joins now now' here here' pending pending' line answer complete (inl (ended, at_hand, (same, e, few))) =
+      ([], subst (λ w. Appends (written here) (written w) []) (sym same) (Appends-none (written here)), e)
+  held-joins now now' here here' pending pending' line answer complete (inr (inl (gives, e, few))) =
+      (pending, gives.0, ap (λ t. pending ++ t) e)
+  held-joins now now' here here' pending pending' line answer complete (inr (inr (gives, none))) =
+      (pending ++ answer, gives.0, ap (λ t. (pending ++ answer) ++ t) none ∙ append-nil (pending ++ answer))
+
+  -- a line with its end was answered
+  pub more-by-line : (s t : System) (o m m' : AtLine) (now now' : R) (read wrote : Option (List ℕ)) (here here' : W) (pending pending' line : List ℕ)
+      (number : ℕ) (complete : Bool) → t ≡ s → complete ≡ true → Progress s o read (remaining now) wrote (written here) pending m number
+      → LineDone remaining buffered asked written unsent t m m' now now' here here' pending pending' line complete
+      → Progress s o read (remaining now') wrote (written here') pending' m' (number + 1)
+  more-by-line s t o m m' now now' read wrote here here' pending pending' line number complete same ended p done =
+      let whole : TakesLine (remaining now) (remaining now') line true = subst (TakesLine (remaining now) (remaining now') line) ended done.takes in
+      let joins : (given : List ℕ) × Appends (written here) (written here') given × (given ++ pending' ≡ pending ++ done.answer) =
+      held-joins now now' here here' pending pending' line done.answer complete done.held in
+      line-on s o m m' read (remaining now) (remaining now') wrote (written here) (written here') pending pending' joins.0 number (number + 1) line done.answer p
+      whole.0 whole.1 joins.1 joins.2 (subst (λ x. LineAnswered x m line done.answer m') same done.answered) (add-one number)
+
+  -- the last line without an end was answered
+  pub done-by-line : (s t : System) (o m m' : AtLine) (now now' : R) (read wrote : Option (List ℕ)) (here here' : W) (pending pending' line : List ℕ)
+      (number : ℕ) (complete : Bool) → t ≡ s → complete ≡ false → Progress s o read (remaining now) wrote (written here) pending m number
+      → LineDone remaining buffered asked written unsent t m m' now now' here here' pending pending' line complete
+      → EndsHolding s o read (remaining now') wrote (written here') pending' (Ok tt)
+  done-by-line s t o m m' now now' read wrote here here' pending pending' line number complete same ended p done =
+      let last : TakesLine (remaining now) (remaining now') line false = subst (TakesLine (remaining now) (remaining now') line) ended done.takes in
+      let joins : (given : List ℕ) × Appends (written here) (written here') given × (given ++ pending' ≡ pending ++ done.answer) =
+      held-joins now now' here here' pending pending' line done.answer complete done.held in
+      last-answered s o m m' read (remaining now) (remaining now') wrote (written here) (written here') pending pending' joins.0 number line done.answer p
+      last.0 last.1.0 last.1.1 joins.1 joins.2 (subst (λ x. LineAnswered x m line done.answer m') same done.answered)
+
+  -- the session ends at this line
+  failing : (s : System) (o m : AtLine) (now now' : R) (read wrote : Option (List ℕ)) (here here' : W) (pending pending' line : List ℕ) (number : ℕ) (fault : Fault)
+      → Progress s o read (remaining now) wrote (written here) pending m number
+      → LineFails remaining written unsent wanted s m now now' here here' pending pending' line number fault
+      → EndsHolding s o read (remaining now') wrote (written here') pending' (Err fault)
+  failing s o m now now' read wrote here here' pending pending' line number fault p (inl (failed, same, (given, gives, (missing, e, long), sent))) =
+      subst (λ f. EndsHolding s o read (remaining now') wrote (written here') pending' (Err f)) (sym failed)
+      (subst (λ x. EndsHolding s o read (remaining x) wrote (written here') pending' (Err Fault.WriteFailed)) (sym same)
+      (untaken s o m read (remaining now) wrote (written here) (written here') pending pending' given number p gives (missing, e)))
+  failing s o m now now' read wrote here here' pending pending' line number fault p (inr (inl (memory, same, kept, still))) =
+      subst (λ f. EndsHolding s o read (remaining now') wrote (written here') pending' (Err f)) (sym memory)
+      (subst (λ x. EndsHolding s o read (remaining x) wrote (written here') pending' (Err Fault.Memory)) (sym same)
+      (subst (λ w. EndsHolding s o read (remaining now) wrote (written w) pending' (Err Fault.Memory)) (sym kept)
+      (subst (λ t. EndsHolding s o read (remaining now) wrote (written here) t (Err Fault.Memory)) (sym still)
+      (session-endless s o m read (remaining now) wrote (written here) pending number p))))
+  failing s o m now now' read wrote here here' pending pending' line number fault p (inr (inr (inl (none, gives, lacks)))) =
+      subst (λ t. EndsHolding s o read (remaining now') wrote (written here') t (Err fault)) (sym none)
+      (lacking s o m read (remaining now) (remaining now') wrote (written here') number line fault
+      (all-out s o m read (remaining now) wrote (written here) (written here') pending number p gives.0) lacks)
+  failing s o m now now' read wrote here here' pending pending' line number fault p
+      (inr (inr (inr (complete, answer, m', takes, a, (failed, (mid, gives, (given, more, (missing, e, long), sent))))))) =
+      subst (λ f. EndsHolding s o read (remaining now') wrote (written here') pending' (Err f)) (sym failed)
+      (unwritten s o m m' read (remaining now) (remaining now') wrote (written mid) (written here') pending' given number line answer complete
+      (all-out s o m read (remaining now) wrote (written here) (written mid) pending number p gives.0) takes a more (missing, e))
+
+  -- and the result is its fault
+  pub stopped-by-line : (s t : System) (o m : AtLine) (now now' : R) (read wrote : Option (List ℕ)) (here here' : W) (pending pending' line : List ℕ) (number : ℕ)
+      (fault : Fault) (r : Result (Unit {0}) Fault) → t ≡ s → Progress s o read (remaining now) wrote (written here) pending m number
+      → LineFails remaining written unsent wanted t m now now' here here' pending pending' line number fault → r ≡ Err fault
+      → EndsHolding s o read (remaining now') wrote (written here') pending' r
+  stopped-by-line s t o m now now' read wrote here here' pending pending' line number fault r same p fails is =
+      subst (EndsHolding s o read (remaining now') wrote (written here') pending') (sym is)
+      (failing s o m now now' read wrote here here' pending pending' line number fault p
+      (subst (λ x. LineFails remaining written unsent wanted x m now now' here here' pending pending' line number fault) same fails))

@@ -10,9 +10,8 @@ use Rattle.debug_session.specs.Accepting.{AcceptedAs}
 use Rattle.debug_session.specs.AtLine.{AtLine, first_line}
 use Rattle.debug_session.specs.Counting.{StopsShort}
 use Rattle.debug_session.specs.declared.fault.Fault.{Fault}
-use Rattle.debug_session.specs.Lines.{AsksNothing, LineMayWantMemory}
 use Rattle.debug_session.specs.Script.{IsLine, with_end}
-use Rattle.debug_session.specs.Transcript.{LineAnswered, Transcript}
+use Rattle.debug_session.specs.Transcript.{Transcript}
 
 -- so many bytes of answers are held back at most
 abbrev pub most_held : ℕ
@@ -27,21 +26,12 @@ pub record TookLines (read left : Option (List ℕ)) (lines : List (List ℕ)) :
       ⊎ ((init : List (List ℕ)) × (last : List ℕ) × (lines ≡ init ++ last ∷ [])
       × (text ≡ flat_map with_end init ++ last) × IfSome read (λ _. IsAtEnd left))
 
--- the lines are answered so, and the answers are no more than may be held
-pub record AnswersHeld (system : System) (a : AtLine) (lines : List (List ℕ)) (held : List ℕ)
-    (a' : AtLine) : Type 0 where
-  pub transcript : Transcript system a lines held a'
-  pub few : length held ≤ most_held
-
--- these bytes are due behind the lines: the answers to all of them, of which that to the last line alone may make more
--- than may be held. The last line may lack an answer: it says nothing that can be answered, or there was no memory
+-- these bytes are due behind the lines: the answers to all of them, which are no more than may be held or belong to one
+-- line
 abbrev pub AreDue : System → AtLine → List (List ℕ) → List ℕ → Type 0
 AreDue system a lines due =
-    (first : List (List ℕ)) × (held : List ℕ) × (a' : AtLine) × AnswersHeld system a first held a'
-    × (((lines ≡ first) × (due ≡ held))
-    ⊎ ((last : List ℕ) × (lines ≡ first ++ last ∷ [])
-    × (((AsksNothing system last ⊎ LineMayWantMemory system last) × (due ≡ held))
-    ⊎ ((answer : List ℕ) × (a'' : AtLine) × LineAnswered system a' last answer a'' × (due ≡ held ++ answer)))))
+    (a' : AtLine) × Transcript system a lines due a'
+    × ((length due ≤ most_held) ⊎ ((line : List ℕ) × (lines ≡ line ∷ [])))
 
 module _ {R A : Type 0} (buffered : R → List ℕ) (asked : R → A) where
   -- the reader gave these lines, each with its end, out of its buffer, and asked for nothing
@@ -57,7 +47,7 @@ module _ {R A W : Type 0} (buffered : R → List ℕ) (asked : R → A) (written
     (unsent wanted : W → ℕ) where
   -- writing failed, with this output: the answers to the lines before are out and sent on, and a beginning of what is
   -- due behind the last lines, the rest of which was at hand behind the first of them. The writer failed when it was
-  -- asked to take all that is missing: behind that no line was taken, but for one at most that has no answer there
+  -- asked to take all that is missing: behind that no line was taken that has an answer
   pub record BreaksOff (system : System) (a : AtLine) (now : R) (writer writer' : W) (lines : List (List ℕ))
       (output : List ℕ) : Type 0 where
     pub before : List (List ℕ)

@@ -69,14 +69,11 @@ StoppedByFault system a at_end taken output Fault.Memory =
 StoppedByFault system a at_end taken output (Fault.BadCommand number) =
     (lines : List (List ℕ)) × (last : List ℕ) × EndWith at_end taken lines last × Answered system a lines output
     × (number ≡ suc (length lines)) × (last ≢ []) × AsksNothing system last
--- writing failed: a beginning of the answers to the lines that were taken is out; the last of them may be one that says
--- nothing that can be answered, or for which there was no memory
+-- writing failed: a beginning of the answers to the lines that were taken is out
 StoppedByFault system a at_end taken output Fault.WriteFailed =
     (lines : List (List ℕ))
     × ((AreLines taken lines [] × BeginsToAnswer system a lines output)
-    ⊎ ((last : List ℕ) × EndWith at_end taken lines last
-    × (((AsksNothing system last ⊎ LineMayWantMemory system last) × BeginsToAnswer system a lines output)
-    ⊎ BeginsToAnswer system a (lines ++ last ∷ []) output)))
+    ⊎ ((last : List ℕ) × EndWith at_end taken lines last × BeginsToAnswer system a (lines ++ last ∷ []) output))
 -- no other fault comes once the session has begun
 StoppedByFault system a at_end taken output (Fault.NoSystem fault) = ⊥
 StoppedByFault system a at_end taken output (Fault.Trace fault) = ⊥

@@ -4,11 +4,12 @@ ghost use Rattle.debug_session.specs.Lines.{SaysSession};
 ghost use Rattle.debug_session.specs.declared.line.Line.{Line};
 ghost use Rattle.debug_session.specs.internal.OneLine.{LineStops, EndsByDevice, EndsByNoDevice, EndsHolding};
 ghost use Rattle.debug_session.specs.Holding.{EndsWriting};
-ghost use Rattle.debug_session.specs.internal.Owing.{EndsOwing};
+ghost use Rattle.debug_session.specs.internal.Owing.{EndsOwing, LineDone, LineFails};
 ghost use Rattle.debug_session.specs.declared.fault.Fault.TheVariants.{WriteFailed};
 ghost use Rattle.debug_session.specs.Transcript.{SaidAnswered, LineAnswered, Ends};
 
-use crate::input::next_line;
+use crate::at_hand::{take_answered, take_behind};
+use crate::input::ask_line;
 use crate::pending::{hold, put_out};
 use crate::reply::add_answer;
 use crate::script_state::ScriptState;
@@ -23,8 +24,7 @@ const MOST_KEPT: usize = 65_536;
 
 /// Answers each line of the reader. It ends where the reader is at its end, or at the first fault: then the answers of
 /// the lines before are out, and where writing failed a beginning of the answers. Before the reader asks its device for
-/// more, all answers are out: they are held back only while its buffer has another line. Each line is taken into
-/// `line`.
+/// more, all answers are out: they are held back only while its buffer has another line. Each line is read into `line`.
 pub(crate) fn answer_lines<R: CountedLines, W: CountedWrite>(
     alloc: Global,
     script_state: &mut ScriptState<'_>,
@@ -78,15 +78,61 @@ fn hold_answers<R: CountedLines, W: CountedWrite>(
 {
     let mut answer = Vec::new(alloc);
     for number in 1..u64::MAX {
-        let is_complete = next_line(reader, writer, pending, line)?;
-        answer_line(alloc, script_state, line.as_slice(), number, &mut answer)?;
-        hold(writer, pending, answer.as_slice())?;
+        let is_complete = answer_next(
+            alloc,
+            script_state,
+            reader,
+            writer,
+            pending,
+            line,
+            number,
+            &mut answer,
+        )?;
         if !is_complete {
             return Ok(());
         }
     }
     // No script has so many lines: there is no room for their number.
     Err(Fault::Memory)
+}
+
+/// Answers the next line, and tells whether byte 10 was at its end. A line that the buffer has whole is only looked at
+/// while its answer is made, and taken behind that: so where writing fails, each line that was taken has an answer.
+fn answer_next<R: CountedLines, W: CountedWrite>(
+    alloc: Global,
+    script_state: &mut ScriptState<'_>,
+    reader: &mut R,
+    writer: &mut W,
+    pending: &mut Vec<u8>,
+    line: &mut Vec<u8>,
+    number: u64,
+    answer: &mut Vec<u8>,
+) -> Result<bool, Fault>
+    ensures checked { script_state.new.desk.machine.checked ≡ script_state.old.desk.machine.checked }
+    ensures line { MatchResult result
+        (λ complete.
+        LineDone R.remaining R.buffered R.asked W.contents W.unsent script_state.old.desk.machine.checked
+        script_state.old script_state.new reader.old reader.new writer.old writer.new pending.old.items
+        pending.new.items line.new.items complete)
+        (λ fault.
+        LineFails R.remaining W.contents W.unsent W.wanted script_state.old.desk.machine.checked script_state.old
+        reader.old reader.new writer.old writer.new pending.old.items pending.new.items line.new.items number fault) }
+    ensures read_failures { R.failed reader.new ≡ after_reading result (R.failed reader.old) }
+    ensures write_failures { W.failed writer.new ≡ after_writing result (W.failed writer.old) }
+{
+    let is_at_hand = reader.look_at_line(line)?;
+    if !is_at_hand {
+        let is_complete = ask_line(reader, writer, pending, line)?;
+        answer_line(alloc, script_state, line.as_slice(), number, answer)?;
+        hold(writer, pending, answer.as_slice())?;
+        return Ok(is_complete);
+    }
+    if let Err(fault) = answer_line(alloc, script_state, line.as_slice(), number, answer) {
+        take_behind(reader, writer, pending, line.as_slice())?;
+        return Err(fault);
+    }
+    take_answered(reader, writer, pending, line.as_slice(), answer.as_slice())?;
+    Ok(true)
 }
 
 /// What is answered to one line, without its end, in place of what was there.

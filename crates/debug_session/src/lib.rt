@@ -2,6 +2,7 @@
 #![tactic(auto)]
 
 mod answer;
+mod at_hand;
 mod fault;
 mod input;
 mod laws;

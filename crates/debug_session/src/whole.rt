@@ -43,11 +43,11 @@ pub fn accept_leaving(
 /// Answers the lines of `reader` on `writer`, over the system of source and stimulus.
 ///
 /// Source and stimulus are accepted before anything is read. Before the reader asks for more, the answers to all lines
-/// before are out and flushed; while its buffer has another line whole, answers may be held back, 8 KB at most.
-/// Where a write fails no further line is taken. (A buffer has to have room for a byte at least, or the script looks
-/// empty.) At a fault the answers of the lines before are out, and where writing failed a beginning of the answers. All
-/// else that was written is flushed. `ReadFailed` and `WriteFailed` come exactly where reader and writer count a
-/// failure.
+/// before are out and flushed; while its buffer has another line whole, answers may be held back, 8 KB at most. Such a
+/// line is only looked at while its answer is made: where a write fails each line that was taken has an answer, and no
+/// further line is taken. (A buffer has to have room for a byte at least, or the script looks empty.) At a fault the
+/// answers of the lines before are out, and where writing failed a beginning of the answers. All else that was written
+/// is flushed. `ReadFailed` and `WriteFailed` come exactly where reader and writer count a failure.
 pub fn debug<R: CountedLines, W: CountedWrite>(
     alloc: Global,
     reader: &mut R,
@@ -76,9 +76,9 @@ pub fn debug<R: CountedLines, W: CountedWrite>(
     )
 }
 
-/// The same, where `last_line` has the line that was taken last, without its end, once it ends. So a line that says
-/// nothing can be shown: no reader has it any more. No clause speaks of `last_line`. The execution is not taken apart at
-/// the end: it is for a program that ends behind it.
+/// The same, where `last_line` has the line that was read last, without its end, once it ends. So a line that says
+/// nothing can be shown: no reader has it any more. Where writing failed it may be one that was looked at and not taken.
+/// No clause speaks of `last_line`. The execution is not taken apart at the end: it is for a program that ends behind it.
 pub fn debug_keeping<R: CountedLines, W: CountedWrite>(
     alloc: Global,
     reader: &mut R,

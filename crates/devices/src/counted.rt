@@ -141,14 +141,17 @@ impl<R: Read> CountedLines for Counted<BufReader<R>> {
 
     ghost asked = { λ counted. reader_inner (device counted) };
 
-    fn take_line(&mut self, line: &mut Vec<u8>) -> Result<bool, AllocError> {
+    fn look_at_line(&self, line: &mut Vec<u8>) -> Result<bool, AllocError> {
         let Some(end) = memchr(b'\n', self.device.buffer()) else {
             return Ok(false);
         };
         line.clear();
         line.extend_from_slice(&self.device.buffer()[..end])?;
-        self.device.consume(end + 1);
         Ok(true)
+    }
+
+    fn pass_line(&mut self, line: &[u8]) {
+        self.device.consume(line.len() + 1);
     }
 
     fn read_line(&mut self, line: &mut Vec<u8>) -> Result<bool, ReadFault> {

@@ -1,11 +1,11 @@
 //! What reads and writes, and counts how often it failed.
 
-ghost use Rattle.std.specs.Prelude.{◌≡◌, ◌≢◌, ◌<◌, ◌≤◌, ◌+◌, ◌-◌, ◌++◌, ◌∷◌, List, ℕ, [], length, take, Option, IfOk, OnOk, OnErr, MatchBool, MatchResult};
+ghost use Rattle.std.specs.Prelude.{◌≡◌, ◌≢◌, ◌<◌, ◌≤◌, ◌+◌, ◌-◌, ◌++◌, ◌∷◌, List, ℕ, [], length, take, Option, IfOk, OnOk, MatchBool, MatchResult};
 ghost use Rattle.std.specs.List.{All};
 ghost use Rattle.std.specs.Io.{appended_bytes};
 ghost use Rattle.std.specs.Io.KnownBytes.{Appends, Consumes, Keeps, IsAtEnd};
 ghost use Rattle.devices.specs.Counting.{after_failing, after_filling, IsNoEnd};
-ghost use Rattle.devices.specs.Taking.{TakesLine, TakesPart};
+ghost use Rattle.devices.specs.Taking.{StandsFirst, TakesLine, TakesPart};
 
 use crate::{ReadFault, WriteFailed};
 use std::alloc::AllocError;
@@ -83,14 +83,18 @@ pub trait CountedLines {
     // What it asks, as it stands: the same until it is asked.
     ghost asked: { Self → Asked };
 
-    /// Takes the next line into `line`, in place of what was there, without byte 10 at its end, where the buffer has it
-    /// whole, and tells whether it has. Nothing is asked for more.
-    fn take_line(&mut self, line: &mut Vec<u8>) -> Result<bool, AllocError>
-        ensures taken { IfOk result (λ is_whole. MatchBool is_whole
-            (All IsNoEnd line.new.items × Consumes (remaining self.old) (remaining self.new) (line.new.items ++ 10 ∷ [])
-            × (buffered self.old ≡ line.new.items ++ 10 ∷ buffered self.new) × (asked self.new ≡ asked self.old))
-            (All IsNoEnd (buffered self.old) × (self.new ≡ self.old))) }
-        ensures memory { OnErr result (self.new ≡ self.old) }
+    /// Copies the next line into `line`, in place of what was there, without byte 10 at its end, where the buffer has it
+    /// whole, and tells whether it has. The reader is as it was: it has the line still.
+    fn look_at_line(&self, line: &mut Vec<u8>) -> Result<bool, AllocError>
+        ensures { IfOk result (λ is_whole. MatchBool is_whole
+            (StandsFirst (buffered self.now) line.new.items) (All IsNoEnd (buffered self.now))) };
+
+    /// Takes the line that stands first in the buffer out of it, with its end. Nothing is asked for more.
+    fn pass_line(&mut self, line: &[u8])
+        requires { StandsFirst (buffered self.old) line.now }
+        ensures bytes { Consumes (remaining self.old) (remaining self.new) (line.now ++ 10 ∷ []) }
+        ensures buffered { buffered self.old ≡ line.now ++ 10 ∷ buffered self.new }
+        ensures asked { asked self.new ≡ asked self.old }
         ensures counted { failed self.new ≡ failed self.old };
 
     /// Takes the next line into `line`, in place of what was there, without byte 10 at its end, and tells whether that

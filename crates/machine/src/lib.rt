@@ -18,3 +18,4 @@ pub use breaks::Breaks;
 pub use fault::Fault;
 pub use laws::{answered_laws, branch_laws};
 pub use machine::{Machine, Ticket, Var};
+pub use runs::{Choice, Event, Kind, Refusal};

@@ -12,7 +12,7 @@ ghost use Rattle.rollback.specs.Rollbacks.{TakesBack, ValueFromBefore, AreDepend
 ghost use Rattle.rollback.specs.internal.Undoing.{Undone};
 
 use machine::{Machine, Ticket, Var};
-use runs::Refusal;
+pub use runs::Refusal;
 use std::alloc::AllocError;
 
 /// Takes the event of this ticket back, and all live events that depend on it, and no others; how many they were. It

@@ -10,6 +10,7 @@ mod reader;
 mod version;
 mod writer;
 
+pub use devices::{Counted, CountedRead, CountedWrite};
 pub use fault::Fault;
 pub use laws::trace_laws;
 pub use reader::{load, load_text};

@@ -48,13 +48,13 @@ impl Read for Device {
     }
 }
 
-/// Whether a writer over such a device failed at a write and at a flush, and how often the device was asked.
-fn written(is_broken: bool) -> (bool, bool, u32) {
+/// Whether a writer over such a device failed at a write of these bytes and at a flush, and how often the device was asked.
+fn written(is_broken: bool, bytes: &[u8]) -> (bool, bool, u32) {
     let mut device = Device::new(is_broken);
     let (write, flush) = {
         let mut writer = Counted::new(&mut device);
         (
-            writer.write_some(b"x").is_err(),
+            writer.write_some(bytes).is_err(),
             writer.flush_out().is_err(),
         )
     };
@@ -82,8 +82,12 @@ fn read(alloc: Global, is_broken: bool) -> Result<(bool, bool), Fail> {
 
 #[test]
 fn a_writer_fails_where_its_device_does(rt: HostRuntime) {
+    let long = [b'x'; 100_000];
     for is_broken in [false, true] {
-        assert!(rt; written(is_broken) == (is_broken, is_broken, 2));
+        for count in [1, 64, 8_192, 8_193, 100_000] {
+            let told = written(is_broken, &long[..count]);
+            assert!(rt; told == (is_broken, is_broken, 2));
+        }
     }
 }
 

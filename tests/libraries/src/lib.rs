@@ -5,6 +5,8 @@
 #[cfg(test)]
 mod addresses;
 #[cfg(test)]
+mod as_a_library;
+#[cfg(test)]
 mod by_parts;
 #[cfg(test)]
 mod counted;

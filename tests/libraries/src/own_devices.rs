@@ -25,14 +25,17 @@ impl CountedLines for Script<'_> {
 
     ghost asked = { λ _. tt };
 
-    fn take_line(&mut self, line: &mut Vec<u8>) -> Result<bool, AllocError> {
+    fn look_at_line(&self, line: &mut Vec<u8>) -> Result<bool, AllocError> {
         let Some(end) = self.rest.iter().position(|byte| *byte == b'\n') else {
             return Ok(false);
         };
         line.clear();
         line.extend_from_slice(&self.rest[..end])?;
-        self.rest = &self.rest[end + 1..];
         Ok(true)
+    }
+
+    fn pass_line(&mut self, line: &[u8]) {
+        self.rest = &self.rest[line.len() + 1..];
     }
 
     fn read_line(&mut self, line: &mut Vec<u8>) -> Result<bool, ReadFault> {
@@ -122,8 +125,8 @@ fn behind_a_failed_write_no_line_is_taken(rt: HostRuntime) -> Result<(), Fail> {
     for _ in 0..5_000 {
         lines.extend_from_slice(b"live\n")?;
     }
-    // Answers of 7 bytes each are held up to 8,192 bytes: the line behind 1,170 of them is the last that is taken.
-    for (good, taken) in [(0, 1_171), (1_000, 1_171), (8_197, 2_342)] {
+    // Answers of 7 bytes each are held up to 8,192 bytes: the line behind 1,170 of them is taken once those are out.
+    for (good, taken) in [(0, 1_170), (1_000, 1_170), (8_193, 1_171), (8_197, 2_341)] {
         let mut paper = Paper {
             taken: Vec::with_capacity(rt.alloc(), 16_384)?,
             good,
@@ -134,6 +137,47 @@ fn behind_a_failed_write_no_line_is_taken(rt: HostRuntime) -> Result<(), Fail> {
         assert!(rt; matches!(ended, Err(Fault::WriteFailed)));
         assert_eq!(rt; paper.taken.len(), good);
         assert_eq!(rt; rest.len(), lines.len() - 5 * taken);
+    }
+    Ok(())
+}
+
+#[test]
+fn behind_a_failed_write_an_empty_line_stays_too(rt: HostRuntime) -> Result<(), Fail> {
+    let mut lines = Vec::new(rt.alloc());
+    for _ in 0..1_171 {
+        lines.extend_from_slice(b"live\n")?;
+    }
+    lines.extend_from_slice(b"\nlive\n")?;
+    let mut paper = Paper {
+        taken: Vec::with_capacity(rt.alloc(), 16_384)?,
+        good: 8_193,
+        sent: 0,
+        wanted: 0,
+    };
+    let (ended, rest) = ended(rt.alloc(), lines.as_slice(), &mut paper)?;
+    assert!(rt; matches!(ended, Err(Fault::WriteFailed)));
+    assert!(rt; rest == b"\nlive\n".as_slice());
+    Ok(())
+}
+
+#[test]
+fn a_bad_line_is_taken_once_the_answers_before_it_are_out(rt: HostRuntime) -> Result<(), Fail> {
+    for (good, rest) in [(0, "no\nlive\n"), (6, "no\nlive\n"), (7, "live\n")] {
+        let mut paper = Paper {
+            taken: Vec::with_capacity(rt.alloc(), 256)?,
+            good,
+            sent: 0,
+            wanted: 0,
+        };
+        let (ended, left) = ended(rt.alloc(), b"live\nno\nlive\n", &mut paper)?;
+        let fault = if good < 7 {
+            Fault::WriteFailed
+        } else {
+            Fault::BadCommand(2)
+        };
+        assert!(rt; ended == Err(fault));
+        assert!(rt; left == rest.as_bytes());
+        assert_eq!(rt; paper.taken.len(), good);
     }
     Ok(())
 }
