@@ -1,3 +1,4 @@
 pub mod NotAsked
 pub mod OneLine
 pub mod Owing
+pub mod Telling

@@ -1,26 +1,24 @@
-ghost use Rattle.std.specs.Prelude.{◌≡◌, ◌≢◌, ◌≤◌, [], Err, MatchBool, MatchResult, OnOk, OnErr};
+ghost use Rattle.std.specs.Prelude.{◌≡◌, ◌≢◌, ◌≤◌, [], Err, MatchBool, MatchResult, OnOk, OnErr, IfErr};
 ghost use Rattle.debug_session.specs.Counting.{after_reading, after_writing};
 ghost use Rattle.debug_session.specs.Lines.{SaysSession};
 ghost use Rattle.debug_session.specs.declared.line.Line.{Line};
 ghost use Rattle.debug_session.specs.internal.OneLine.{LineStops, EndsByDevice, EndsByNoDevice, EndsHolding};
 ghost use Rattle.debug_session.specs.Holding.{EndsWriting};
 ghost use Rattle.debug_session.specs.internal.Owing.{EndsOwing, LineDone, LineFails};
+ghost use Rattle.debug_session.specs.internal.Telling.{told_text, IsBlank, HasLongReply, SaidUntold, LineUntold};
 ghost use Rattle.debug_session.specs.declared.fault.Fault.TheVariants.{WriteFailed};
 ghost use Rattle.debug_session.specs.Transcript.{SaidAnswered, LineAnswered, Ends};
 
 use crate::at_hand::{take_answered, take_behind};
 use crate::input::ask_line;
 use crate::pending::{hold, put_out};
-use crate::reply::add_answer;
 use crate::script_state::ScriptState;
+use crate::told::Answer;
 use crate::{Fault, Line, read_command};
 use devices::{CountedLines, CountedWrite};
 use line_text::add_numbered;
 use locked_execution::Command;
 use std::alloc::{AllocError, Global};
-
-/// The most bytes of memory that an answer leaves to the next.
-const MOST_KEPT: usize = 65_536;
 
 /// Answers each line of the reader. It ends where the reader is at its end, or at the first fault: then the answers of
 /// the lines before are out, and where writing failed a beginning of the answers. Before the reader asks its device for
@@ -76,7 +74,7 @@ fn hold_answers<R: CountedLines, W: CountedWrite>(
     ensures read_failures { R.failed reader.new ≡ after_reading result (R.failed reader.old) }
     ensures write_failures { W.failed writer.new ≡ after_writing result (W.failed writer.old) }
 {
-    let mut answer = Vec::new(alloc);
+    let mut answer = Answer::new(alloc);
     for number in 1..u64::MAX {
         let is_complete = answer_next(
             alloc,
@@ -106,7 +104,7 @@ fn answer_next<R: CountedLines, W: CountedWrite>(
     pending: &mut Vec<u8>,
     line: &mut Vec<u8>,
     number: u64,
-    answer: &mut Vec<u8>,
+    answer: &mut Answer,
 ) -> Result<bool, Fault>
     ensures checked { script_state.new.desk.machine.checked ≡ script_state.old.desk.machine.checked }
     ensures line { MatchResult result
@@ -141,29 +139,21 @@ fn answer_line(
     script_state: &mut ScriptState<'_>,
     line: &[u8],
     number: u64,
-    answer: &mut Vec<u8>,
+    answer: &mut Answer,
 ) -> Result<(), Fault>
     ensures checked { script_state.new.desk.machine.checked ≡ script_state.old.desk.machine.checked }
     ensures answered { MatchResult result
         (λ _.
-        LineAnswered script_state.old.desk.machine.checked script_state.old line.now answer.new.items script_state.new)
+        LineAnswered script_state.old.desk.machine.checked script_state.old line.now (told_text answer.new)
+        script_state.new)
         (λ fault. LineStops script_state.old.desk.machine.checked line.now number fault) }
+    ensures untold { IfErr result (λ fault.
+        LineUntold script_state.old.desk.machine.checked script_state.old line.now fault script_state.new) }
 {
     let said = read_command(alloc, script_state.checked(), line, number)?;
-    make_empty(alloc, answer);
+    answer.make_empty(alloc);
     answer_to(alloc, script_state, &said, answer)?;
     Ok(())
-}
-
-/// Empties the answer. Its memory is kept for the next one, unless it was a long one.
-fn make_empty(alloc: Global, answer: &mut Vec<u8>)
-    ensures { answer.new.items ≡ [] }
-{
-    if answer.capacity() > MOST_KEPT {
-        *answer = Vec::new(alloc);
-    } else {
-        answer.clear();
-    }
 }
 
 /// What is answered to a line, once the desk has performed its command.
@@ -171,40 +161,43 @@ fn answer_to(
     alloc: Global,
     script_state: &mut ScriptState<'_>,
     said: &Line,
-    answer: &mut Vec<u8>,
+    answer: &mut Answer,
 ) -> Result<(), AllocError>
     requires session { SaysSession said.now }
-    requires empty { answer.old.items ≡ [] }
+    requires blank { IsBlank answer.old }
     ensures checked { script_state.new.desk.machine.checked ≡ script_state.old.desk.machine.checked }
     ensures answered { OnOk result
-        (SaidAnswered script_state.old.desk.machine.checked script_state.old said.now answer.new.items
+        (SaidAnswered script_state.old.desk.machine.checked script_state.old said.now (told_text answer.new)
         script_state.new) }
     ensures memory { OnErr result (said.now ≢ Line.Empty) }
+    ensures untold { OnErr result (SaidUntold script_state.old said.now script_state.new) }
 {
     match said {
         Line::Asked(command) => answer_command(script_state, command, answer),
         Line::Session(session) => {
             script_state.turn_to(*session);
-            add_numbered(answer, b"session", u64::from(*session))
+            add_numbered(&mut answer.text, b"session", u64::from(*session))
         }
-        Line::View => script_state.view(alloc, answer),
-        Line::Trace => script_state.trace(alloc, answer),
+        Line::View => script_state.view(alloc, &mut answer.text),
+        Line::Trace => script_state.trace(alloc, &mut answer.text),
         Line::Empty => Ok(()),
     }
 }
 
-/// What is answered to a command, once the desk has performed it.
+/// What is answered to a command, once the desk has performed it. That it was refused for want of memory is told
+/// without any: it is an error only if there is no memory for another answer.
 fn answer_command(
     script_state: &mut ScriptState<'_>,
     command: &Command,
-    answer: &mut Vec<u8>,
+    answer: &mut Answer,
 ) -> Result<(), AllocError>
-    requires { answer.old.items ≡ [] }
+    requires { IsBlank answer.old }
     ensures checked { script_state.new.desk.machine.checked ≡ script_state.old.desk.machine.checked }
     ensures answered { OnOk result
-        (SaidAnswered script_state.old.desk.machine.checked script_state.old (Line.Asked command.now) answer.new.items
-        script_state.new) }
+        (SaidAnswered script_state.old.desk.machine.checked script_state.old (Line.Asked command.now)
+        (told_text answer.new) script_state.new) }
+    ensures untold { OnErr result (HasLongReply script_state.old command.now script_state.new) }
 {
     let reply = script_state.ask(command);
-    add_answer(answer, script_state.checked().system(), command, &reply)
+    answer.tell(script_state.checked().system(), command, &reply)
 }

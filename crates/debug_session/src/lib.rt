@@ -14,6 +14,7 @@ mod replay_live;
 mod reply;
 mod script_state;
 mod session;
+mod told;
 mod whole;
 
 pub use devices::{Counted, CountedLines, CountedWrite};
