@@ -8,7 +8,7 @@ folder=$1
 here=$(cd "$(dirname "$(readlink -f "${BASH_SOURCE[0]}")")" && pwd)
 root=$(cd "$here/../.." && pwd)
 . "$root/scripts/laid_out.sh"
-below="rows value address syntax lexer parser typed types typed_source system stimulus elaborate sharing_check front_end runs calculus dependence event_places machine rollback"
+below="rows value address syntax lexer parser types typed_source system elaborate sharing_check front_end runs calculus dependence machine rollback"
 below+=" locked_object object_workers devices trace_file locked_execution branch_workers source_view debug_session store process_tree event_inverse local_actions channel_uses allowed_events rendezvous"
 below+=" outline past waiting diagnosis refusal_pages source_places shell"
 

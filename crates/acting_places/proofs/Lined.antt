@@ -18,8 +18,8 @@ use Rattle.runs.specs.declared.event.Kind.{Kind}
 use Rattle.runs.specs.declared.event.Kind.TheVariants.{Assign, Test, Turn, Meet, Open, Close, Sync}
 use Rattle.runs.proofs.public.Lists.{every-in}
 use Rattle.runs.proofs.public.Stepping.{place-moves}
-use Rattle.event_places.specs.EventPlaces.{taken_by, line_after}
-use Rattle.event_places.specs.Laws.{TakenByTheEvent}
+use Rattle.dependence.specs.EventPlaces.{taken_by, line_after}
+use Rattle.dependence.specs.ArmLaws.{TakenByTheEvent}
 use Rattle.acting_places.specs.Lines.{HasLine, EventsHaveLines, AllowedHaveLines}
 use Rattle.acting_places.proofs.Shapes.{Shape, Keeps, parallel-shape, shape-along, local-part, local-shape}
 use Rattle.acting_places.proofs.Placed.{Acts, Fits, Knows, knows-part, local-acts, local-fits}

@@ -1,14 +1,14 @@
 -- In which branch the events of a run act.
 use Rattle.std.specs.Prelude.{◌≡◌, ℕ, ◌+◌, ◌<◌, ◌≤◌, List, Some, length}
 use Rattle.elaborate.specs.Elaboration.{system_of, IsAccepted}
-use Rattle.stimulus.specs.declared.stimulus.Entry.{Entry}
+use Rattle.elaborate.specs.declared.stimulus.Entry.{Entry}
 use Rattle.syntax.specs.Lists.{In}
 use Rattle.system.specs.declared.system.System.{System}
 use Rattle.system_places.specs.SystemBranches.{branches_of, branch_at}
 use Rattle.runs.specs.Events.{acting}
 use Rattle.runs.specs.Steps.{State, Run, opening}
 use Rattle.runs.specs.declared.event.Event.{Event}
-use Rattle.typed.specs.declared.tree.Procedure.{Procedure}
+use Rattle.types.specs.declared.tree.Procedure.{Procedure}
 
 -- how many branches a system has
 abbrev pub all_branches : System → ℕ

@@ -8,7 +8,7 @@ use Rattle.runs.specs.Events.{acting}
 use Rattle.runs.specs.Moves.{Place}
 use Rattle.runs.specs.Steps.{State, Run, Allowed, opening}
 use Rattle.runs.specs.declared.event.Event.{Event}
-use Rattle.event_places.specs.EventPlaces.{line_after}
+use Rattle.dependence.specs.EventPlaces.{line_after}
 
 -- after the events h the acting place of e is that of a command: it has a line, and on that a command begins
 abbrev pub HasLine : List Event → System → Event → Type 0

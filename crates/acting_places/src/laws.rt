@@ -29,6 +29,6 @@ pub fn events_have_lines()
     ensures taken { EventsHaveLines }
     ensures allowed { AllowedHaveLines }
 {
-    event_places::arms_are_taken_once();
+    dependence::arms_are_taken_once();
     system_places::line_law();
 }

@@ -11,8 +11,8 @@ use Rattle.runs.specs.internal.AllowedEvents.{those}
 use Rattle.runs.specs.declared.event.Event.{Event}
 use Rattle.runs.proofs.public.Lists.{in-left, in-right, in-parts}
 use Rattle.runs.proofs.public.Options.{none-some, some-injective}
-use Rattle.last_events.specs.LastEvents.{Uses, LastUse}
-use Rattle.last_events.specs.declared.uses.UseTable.{UseTable}
+use Rattle.dependence.specs.LastEvents.{Uses, LastUse}
+use Rattle.dependence.specs.declared.uses.UseTable.{UseTable}
 use Rattle.local_actions.specs.Actions.{Offered, OffersExactly}
 use Rattle.local_actions.specs.declared.action.LocalAction.{LocalAction}
 use Rattle.local_actions.specs.declared.action.ActionKind.{ActionKind}

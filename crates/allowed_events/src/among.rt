@@ -4,7 +4,7 @@ ghost use Rattle.syntax.specs.Lists.{In};
 ghost use Rattle.runs.specs.Ready.{ReadyList};
 ghost use Rattle.runs.specs.Steps.{State};
 ghost use Rattle.runs.specs.declared.event.Event as any;
-ghost use Rattle.last_events.specs.LastEvents.{Uses, LastUse};
+ghost use Rattle.dependence.specs.LastEvents.{Uses, LastUse};
 ghost use Rattle.local_actions.specs.Actions.{OffersExactly};
 ghost use Rattle.allowed_events.specs.internal.Acting.{ActedBy, ActedByOne};
 ghost use Rattle.allowed_events.specs.internal.Among.{HasPartners, IsPartner, MetFrom, partner_on};
@@ -12,7 +12,7 @@ ghost use Rattle.allowed_events.specs.internal.Among.{HasPartners, IsPartner, Me
 use crate::acting_events::{add, add_alone, channel_of};
 use crate::meet::met;
 use crate::ready::in_order;
-use last_events::UseTable;
+use dependence::UseTable;
 use local_actions::{ActionKind, LocalAction};
 use runs::Event;
 use std::alloc::{AllocError, Global};

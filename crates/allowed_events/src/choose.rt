@@ -1,11 +1,14 @@
 // The event that a choice means, found along its place and on the channels of the actions there.
-ghost use Rattle.std.specs.Prelude.{IfOk, MatchOption};
+ghost use Rattle.std.specs.Prelude.{◌≡◌, IfOk, OnErr, MatchOption};
 ghost use Rattle.runs.specs.Ready.{ChoiceAllowed, Chosen};
 ghost use Rattle.runs.specs.Steps.{State};
 ghost use Rattle.process_tree.specs.Code.{Code};
 ghost use Rattle.process_tree.specs.Tidy.{Tidy};
 ghost use Rattle.process_tree.specs.View.{tree_view};
+ghost use Rattle.local_actions.specs.Actions.{Offered, opened_arm};
 ghost use Rattle.local_actions.specs.View.{state_of};
+ghost use Rattle.local_actions.specs.Walk.{action_at as action_with};
+ghost use Rattle.local_actions.specs.declared.action.ActionKind as any_kind;
 ghost use Rattle.channel_uses.specs.StemsFrom.{StemsFrom};
 ghost use Rattle.channel_uses.specs.Table.{IsTableOf};
 ghost use Rattle.allowed_events.specs.internal.Acting.{ReadyWith};
@@ -26,7 +29,7 @@ use syntax::Items;
 /// the command whose uses of channels these are.
 ///
 /// It goes down along the place, and for the other action into what uses its channel alone. It is an error if there is
-/// no memory.
+/// no memory, and only where an action is offered at the place that opens the arm.
 pub fn event_with(
     alloc: Global,
     uses: &ChannelUses,
@@ -34,12 +37,16 @@ pub fn event_with(
     store: &Store,
     choice: &Choice,
 ) -> Result<Option<Event>, AllocError>
-    ensures { (code : Code) → IsTableOf code uses.now → StemsFrom (tree_view tree.now) code →
+    ensures found { (code : Code) → IsTableOf code uses.now → StemsFrom (tree_view tree.now) code →
         Tidy (tree_view tree.now) →
         IfOk result (λ found.
         MatchOption found
         (ChoiceAllowed (state_of tree.now store.now) choice.now →
         ⊥) (λ event. Chosen (state_of tree.now store.now) choice.now event)) }
+    ensures offered { Tidy (tree_view tree.now) →
+        OnErr result ((action : any_kind.ActionKind)
+        × Offered (state_of tree.now store.now) (action_with choice.now.place action)
+        × (opened_arm action ≡ choice.now.arm)) }
 {
     let Some(action) = action_at(alloc, tree, store, &choice.place, choice.arm)? else {
         return Ok(None);

@@ -1,5 +1,5 @@
 // The order in which events are listed.
-ghost use Rattle.std.specs.Prelude.{◌≡◌, ◌≤◌, ◌↔◌, true, cond, length, IsTrue};
+ghost use Rattle.std.specs.Prelude.{◌≡◌, ◌≤◌, ◌↔◌, true, length, IsTrue};
 ghost use Rattle.address.specs.Order.{order_of};
 ghost use Rattle.runs.specs.InOrder.{InOrder};
 ghost use Rattle.runs.specs.Ready.{other, Sooner};
@@ -47,21 +47,6 @@ pub(crate) fn order_of(one: &[Entry], two: &[Entry]) -> Ordering
     ensures { result ≡ order_of one.now two.now }
 {
     one.cmp(two)
-}
-
-/// The order of two events in a list that has the latest first.
-pub(crate) fn latest_first(one: &Event, other: &Event) -> Ordering
-    ensures { result
-        ≡ cond (is_sooner other.now one.now) Ordering.Less
-        (cond (is_sooner one.now other.now) Ordering.Greater Ordering.Equal) }
-{
-    if is_sooner(other, one) {
-        Ordering::Less
-    } else if is_sooner(one, other) {
-        Ordering::Greater
-    } else {
-        Ordering::Equal
-    }
 }
 
 /// How many of these events, where they are in order, come before the event. It looks from the last on.

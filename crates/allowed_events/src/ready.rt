@@ -19,7 +19,7 @@ ghost use Rattle.allowed_events.specs.internal.Sorting.{inserted};
 
 use crate::acting_events::acted_by;
 use crate::among::events_among;
-use crate::order::{are_in_order, latest_first, sooner_count};
+use crate::order::{are_in_order, sooner_count};
 use address::Entry;
 use channel_uses::ChannelUses;
 use local_actions::{actions_below, actions_of};
@@ -30,27 +30,19 @@ use store::Store;
 use syntax::Items;
 
 /// Exactly the events that are allowed in the state of the tree and the store: in the order of their acting addresses,
-/// then of their arms, then of their other addresses. The tree is to be tidy and to stem from the command whose uses of
-/// channels these are. It is an error if there is no memory.
+/// then of their arms, then of their other addresses. The tree is to be tidy. It is an error if there is no memory.
 ///
 /// All actions are listed first, so that partners are found among them.
-pub fn ready_events(
-    alloc: Global,
-    uses: &ChannelUses,
-    tree: &Tree,
-    store: &Store,
-) -> Result<Items<Event>, AllocError>
-    ensures { (code : Code) → IsTableOf code uses.now → StemsFrom (tree_view tree.now) code →
-        Tidy (tree_view tree.now) →
-        IfOk result (λ events. ReadyList (state_of tree.now store.now) events) }
+pub fn ready_events(alloc: Global, tree: &Tree, store: &Store) -> Result<Items<Event>, AllocError>
+    ensures { Tidy (tree_view tree.now) → IfOk result (λ events. ReadyList (state_of tree.now store.now) events) }
 {
-    let _uses = uses;
     let actions = actions_of(alloc, tree, store)?;
     events_among(alloc, actions.as_slice())
 }
 
-/// Those of them that act at the place or below it. It goes down along the place, and for each action that is found
-/// there looks at those on its channel alone. It is an error if there is no memory.
+/// Those of them that act at the place or below it. The tree is to be tidy and to stem from the command whose uses of
+/// channels these are. It goes down along the place, and for each action that is found there looks at those on its
+/// channel alone. It is an error if there is no memory.
 pub fn ready_below(
     alloc: Global,
     uses: &ChannelUses,
@@ -79,13 +71,14 @@ pub fn in_order(alloc: Global, events: Items<Event>) -> Result<Items<Event>, All
     sort(alloc, events)
 }
 
-/// The same, event by event.
+/// The same, event by event from the first on: each goes behind the last that comes before it. Where they are nearly in
+/// order each is compared with few.
 fn sort(alloc: Global, events: Items<Event>) -> Result<Items<Event>, AllocError>
     ensures { (S : State) → WellFormed S.residual → ((e : any.Event) → In e events → Allowed S e) →
         IfOk result (λ sorted. SortedOf events sorted) }
 {
     let mut left = events.into_vec();
-    left.sort_unstable_by(|one, other| latest_first(one, other));
+    left.reverse();
     let mut sorted = Vec::new(alloc);
     while let Some(event) = left.pop() {
         insert(&mut sorted, event)?;

@@ -1,8 +1,8 @@
 -- Two lists are compared event by event.
 use Rattle.std.proofs.Common.{◌≡◌, ◌⊎◌, ◌↔◌, inl, inr, ℕ, ◌<◌, ◌≤◌, List, [], ◌∷◌, ◌++◌, length, take, true, false, Option, Some, None, is_some, MatchOption, refl, sym, ap, subst, ◌∙◌, true≢false, arith, slice_get}
 use Rattle.syntax.specs.Lists.{In}
-use Rattle.last_events.specs.LastEvents as last
-use Rattle.last_events.specs.declared.uses.UseTable.{UseTable}
+use Rattle.dependence.specs.LastEvents as last
+use Rattle.dependence.specs.declared.uses.UseTable.{UseTable}
 use Rattle.runs.specs.Dependence.{OnOneVariable, Earlier}
 use Rattle.runs.specs.declared.event.Event.{Event}
 use Rattle.runs.proofs.public.Lists.{in-left, in-right, in-parts}

@@ -1,10 +1,10 @@
 // Which variables the events have used so far, and where those events stand in the other list.
 ghost use Rattle.std.specs.Prelude.{◌≡◌, ◌⊎◌, ◌↔◌, ℕ, ◌<◌, ◌≤◌, Some, IsTrue, IfOk};
 ghost use Rattle.syntax.specs.Lists.{In};
-ghost use Rattle.last_events.specs.LastEvents as last;
+ghost use Rattle.dependence.specs.LastEvents as last;
 ghost use Rattle.calculus.specs.internal.Comparing.{AllBefore, UsesPut, NoUses};
 
-use last_events::UseTable;
+use dependence::UseTable;
 use runs::Event;
 use std::alloc::{AllocError, Global};
 

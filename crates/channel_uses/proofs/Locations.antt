@@ -3,8 +3,8 @@ use Rattle.std.proofs.Common.{◌≡◌, ℕ, zero, suc, ◌+◌, ◌≤◌, Lis
 use Rattle.std.specs.Option.{option_copied}
 use Rattle.runs.proofs.public.Options.{none-some, some-injective}
 use Rattle.process_tree.specs.Code.{Code, Codes, no_code, code, code_at, in_turn, side_by_side}
-use Rattle.last_events.specs.LastEvents.{Uses}
-use Rattle.last_events.specs.declared.uses.UseTable.{UseTable}
+use Rattle.dependence.specs.LastEvents.{Uses}
+use Rattle.dependence.specs.declared.uses.UseTable.{UseTable}
 use Rattle.channel_uses.specs.Uses.{used, all_used}
 use Rattle.channel_uses.specs.Table.{IsTableOf}
 use Rattle.channel_uses.specs.declared.table.ChannelUses.{ChannelUses}

@@ -5,7 +5,7 @@ use Rattle.address.specs.declared.Entry.TheVariants.{Ordered}
 use Rattle.value.specs.Word.{Word}
 use Rattle.system.specs.Expression.{Store, Expression, Decision}
 use Rattle.runs.proofs.public.Options.{none-some, some-injective}
-use Rattle.last_events.specs.declared.uses.UseTable.{UseTable}
+use Rattle.dependence.specs.declared.uses.UseTable.{UseTable}
 use Rattle.process_tree.specs.Children.{proc_at}
 use Rattle.process_tree.specs.Code.{Code, continues, halts, moves_once, may_be_held, repeats, decides, awaits, in_turn, side_by_side, drains, Codes, no_code, code, code_at}
 use Rattle.process_tree.specs.Remaining.{Received, with_value}

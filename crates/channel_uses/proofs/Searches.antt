@@ -6,8 +6,8 @@ use Rattle.std.specs.Option.{option_copied}
 use Rattle.syntax.specs.Lists.{In}
 use Rattle.runs.proofs.public.Options.{none-some, some-injective}
 use Rattle.process_tree.specs.Code.{Codes, no_code, code, code_at}
-use Rattle.last_events.specs.LastEvents.{Uses, FirstUse}
-use Rattle.last_events.specs.declared.uses.UseTable.{UseTable}
+use Rattle.dependence.specs.LastEvents.{Uses, FirstUse}
+use Rattle.dependence.specs.declared.uses.UseTable.{UseTable}
 use Rattle.channel_uses.specs.Uses.{HoldsExactly, used, all_used}
 use Rattle.channel_uses.specs.internal.Parts.{first, end, ends_before, AreParts, EndAt, InTable, LiesIn, UnusedFrom, UnusedBetween, UsedIn}
 use Rattle.channel_uses.specs.declared.part.Part.{Part}

@@ -16,7 +16,7 @@ use crate::fresh::fresh_in_turn_on;
 use crate::leaves::{held_on, waiting_on};
 use crate::located::{next_user, none_later, only_arm, part_at, part_of_only};
 use crate::part::Part;
-use last_events::UseTable;
+use dependence::UseTable;
 use local_actions::{Cursor, body_of_turn, first_at_work, is_over};
 use process_tree::{Await, Gate, Phase, Proc, Row, Sender, Tested, Turns};
 use std::alloc::{AllocError, Global};

@@ -13,7 +13,7 @@ ghost use Rattle.channel_uses.specs.internal.Located.{AgreeFrom, LocatedCode, Lo
 use crate::leaves::waiting_on;
 use crate::located::{next_user, part_at};
 use crate::part::Part;
-use last_events::UseTable;
+use dependence::UseTable;
 use local_actions::{Cursor, starts_over};
 use process_tree::Code;
 use std::alloc::{AllocError, Global};

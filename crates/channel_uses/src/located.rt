@@ -1,13 +1,13 @@
 // The parts of children, and which child uses a channel next, where the part is known.
 ghost use Rattle.std.specs.Prelude.{◌≡◌, ℕ, ◌≤◌, ◌<◌, true, Some, length, slice_get, MatchOption, IfSome};
 ghost use Rattle.process_tree.specs.Code.{Codes, code_at};
-ghost use Rattle.last_events.specs.declared.uses.UseTable.{UseTable};
+ghost use Rattle.dependence.specs.declared.uses.UseTable.{UseTable};
 ghost use Rattle.channel_uses.specs.internal.Located.{LocatedCode, LocatedRow, NoneBetween};
 ghost use Rattle.channel_uses.specs.internal.Parts.{UnusedBetween};
 
 use crate::part::Part;
 use crate::search::next_child;
-use last_events::UseTable;
+use dependence::UseTable;
 
 /// The part of the child of this number, where it is known.
 pub(crate) fn part_at(part: Option<&Part>, child: usize) -> Option<&Part>

@@ -1,12 +1,12 @@
 // Which child uses a channel next.
 ghost use Rattle.std.specs.Prelude.{◌≡◌, ℕ, ◌≤◌, ◌<◌, ◌+◌, MatchOption, IfOk, IfSome, length};
 ghost use Rattle.process_tree.specs.Code.{Codes};
-ghost use Rattle.last_events.specs.LastEvents.{Uses, FirstUse};
+ghost use Rattle.dependence.specs.LastEvents.{Uses, FirstUse};
 ghost use Rattle.channel_uses.specs.Uses.{HoldsExactly, all_used};
 ghost use Rattle.channel_uses.specs.internal.Parts.{parts as parts_of, end as end_of, ends_before, AreParts, EndAt, InTable, UnusedFrom, UnusedBetween, UsedIn};
 
 use crate::part::Part;
-use last_events::UseTable;
+use dependence::UseTable;
 use std::alloc::{AllocError, Global};
 
 /// The uses of the channels in this list, by their numbers.

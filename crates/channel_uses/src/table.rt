@@ -14,7 +14,7 @@ ghost use Rattle.channel_uses.specs.Table.{IsTableOf};
 use crate::at_work::list_on;
 use crate::part::{Part, part_of};
 use crate::search::table_of;
-use last_events::UseTable;
+use dependence::UseTable;
 use local_actions::{Cursor, LocalAction};
 use process_tree::{Code, Tree};
 use std::alloc::{AllocError, Global};

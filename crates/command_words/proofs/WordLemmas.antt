@@ -33,7 +33,7 @@ use Rattle.command_words.specs.declared.unasked.Unasked.{Unasked}
 use Rattle.command_words.specs.Words.{AskFor, AskForSome, AskForNone, AskNothing, IsFaultOf, IsFlag, IsNumber, IsRequest, Named, TellsPage, program}
 use Rattle.command_words.specs.Words.{AskDrawing, TellsStep, drawing_of, is_on}
 use Rattle.command_words.specs.declared.crew_size.CrewSize.{CrewSize}
-use Rattle.command_words.specs.internal.Building.{AsksNoDrawing, Chooses, ChoosesNone, IsArgument, IsCommand, IsNoRequest}
+use Rattle.command_words.specs.internal.Building.{AsksNoDrawing, Chooses, ChoosesNone, IsArgument, IsCommand, IsNoRequest, rows_in}
 use Rattle.command_words.specs.internal.Building.{Finds, NamesNoFiles, NamesNoTrace, Refuses, TellsCrew, TellsError, TellsNoCrew, TellsNoPage}
 
 -- one more argument
@@ -299,6 +299,13 @@ pub none_in : (m : ArgMatches) (o : Option (Bor Text × Bor ArgMatches))
 none_in m o rows none request chosen =
     let gone : None ≡ Some chosen.0.1 =
     sym (ap (option_map (λ (x : Bor Text × Bor ArgMatches). rows_of (found_of x.1.now))) none) ∙ (rows ∙ ap (option_map (λ (x : Named). x.1)) chosen.1) in cc
+
+-- what the values ask for under a name they ask for under the same name
+pub asked_by : (words : ArgMatches) (name text : Text) (o : Option Request) → name ≡ text
+    → MatchOption o (IsNoRequest text (rows_in words)) (IsRequest text (rows_in words))
+    → MatchOption o (IsNoRequest name (rows_in words)) (IsRequest name (rows_in words))
+asked_by words name text o same asked =
+    subst (λ (n : Text). MatchOption o (IsNoRequest n (rows_in words)) (IsRequest n (rows_in words))) (sym same) asked
 
 -- the request of the subcommand that was met is the one that the matches make
 pub chosen_by : (m : ArgMatches) (name : Text) (rows : List Row) (o : Option Request) → subcommand_rows_of m ≡ Some (name, rows)

@@ -14,7 +14,7 @@ use Rattle.runs.specs.Moves.{Place}
 use Rattle.runs.specs.declared.event.Choice.{Choice}
 use Rattle.runs.specs.declared.event.Event.{Event}
 use Rattle.runs.specs.declared.event.Kind.{Kind}
-use Rattle.event_places.specs.EventPlaces.{line_after}
+use Rattle.dependence.specs.EventPlaces.{line_after}
 use Rattle.machine.specs.AtMachine.{AtMachine}
 use Rattle.locked_execution.specs.AtDesk.{AtDesk}
 use Rattle.dap_moves.specs.Led.{Led}

@@ -11,7 +11,7 @@ use Rattle.runs.specs.Ready.{ReadyList}
 use Rattle.runs.specs.Steps.{State}
 use Rattle.runs.specs.declared.event.Choice.{Choice}
 use Rattle.runs.specs.declared.event.Event.{Event}
-use Rattle.event_places.specs.EventPlaces.{line_after}
+use Rattle.dependence.specs.EventPlaces.{line_after}
 use Rattle.machine.specs.AtMachine.{AtMachine}
 use Rattle.machine.specs.Branching.{in_branch}
 use Rattle.locked_execution.specs.AtDesk.{AtDesk, execution}

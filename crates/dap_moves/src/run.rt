@@ -20,7 +20,7 @@ use crate::known::ready_events;
 use crate::parts::acts_in;
 use crate::seen::{Watched, is_seen, is_watched, keep};
 use address::Address;
-use event_places::line_after;
+use dependence::line_after;
 use locked_execution::{Command, Desk, Machine, Reply};
 use runs::{Choice, Event, Refusal};
 use std::alloc::Global;

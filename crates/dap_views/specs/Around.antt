@@ -1,6 +1,6 @@
 -- The calls around a place.
 use Rattle.std.specs.Prelude.{ℕ, zero, suc, ◌==◌, if◌then◌else◌, List, [], ◌∷◌, Option, None, Some, length, option_map, slice_get, unwrap_or}
-use Rattle.event_places.specs.EventPlaces.{taken_by}
+use Rattle.dependence.specs.EventPlaces.{taken_by}
 use Rattle.machine.specs.AtMachine.{AtMachine}
 use Rattle.runs.specs.Live.{events}
 use Rattle.runs.specs.Moves.{Place}

@@ -9,8 +9,8 @@ use dap_moves::Machine;
 use source_calls::{Call, Calls};
 use std::alloc::{AllocError, Global};
 use std::str;
-use typed::{LocalKind, Procedure};
 use typed_source::typed_source;
+use types::{LocalKind, Procedure};
 
 /// The most names that are told of those that may be meant.
 const MOST_TOLD: u64 = 10;

@@ -14,7 +14,7 @@ use crate::lines::Lines;
 use crate::words::Words;
 use address::Address;
 use dap_moves::Machine;
-use event_places::line_after;
+use dependence::line_after;
 use local_actions::{ActionKind, LocalAction};
 use runs::Event;
 use std::alloc::{AllocError, Global};

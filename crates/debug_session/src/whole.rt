@@ -15,7 +15,7 @@ use locked_execution::Machine;
 use sharing_check::Checked;
 use std::alloc::Global;
 use std::mem;
-use typed::Typed;
+use types::Typed;
 
 /// The system that the source and the stimulus describe, or the first fault of the first pass that refuses them: the
 /// source is cut, parsed and typed, then the stimulus is read, then the system is made, and then the rule on sharing is

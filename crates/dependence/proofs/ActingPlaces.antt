@@ -8,7 +8,7 @@ use Rattle.runs.proofs.public.Once.{acting-place}
 use Rattle.runs.proofs.public.Options.{none-some}
 use Rattle.runs.proofs.public.Tickets.{rising-one}
 use Rattle.syntax.specs.Lists.{In}
-use Rattle.last_events.specs.LastEvents.{ticket_at, IsAt}
+use Rattle.dependence.specs.LastEvents.{ticket_at, IsAt}
 use Rattle.dependence.specs.Acting.{ActsAlone, NoneActs}
 use Rattle.dependence.specs.declared.tables.Tables.{Tables}
 use Rattle.dependence.specs.internal.Tables.{IsRising}

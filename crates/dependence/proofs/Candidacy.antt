@@ -5,8 +5,8 @@ use Rattle.std.proofs.lemmas.Bool.{cases_lt}
 use Rattle.address.specs.Places.{Before, Apart}
 use Rattle.address.proofs.public.Places.{before-asymmetric, before-not-apart, apart-symmetric}
 use Rattle.syntax.specs.Lists.{In}
-use Rattle.last_events.specs.LastEvents.{IsAt, Uses, LastUse, PutAt, LastBefore}
-use Rattle.last_events.specs.declared.places.PlaceTable.{PlaceTable}
+use Rattle.dependence.specs.LastEvents.{IsAt, Uses, LastUse, PutAt, LastBefore}
+use Rattle.dependence.specs.declared.places.PlaceTable.{PlaceTable}
 use Rattle.runs.specs.Dependence.{SomeBefore}
 use Rattle.runs.specs.Events.{places}
 use Rattle.runs.specs.Live.{Live, Rising, LiveAt, IsLive, DependsOn, same, later, LastWriter}

@@ -3,7 +3,7 @@ use Rattle.std.proofs.Common.{◌≡◌, inl, inr, ℕ, ◌-◌, ◌<◌, ◌≤
 use Rattle.std.specs.Prelude.{slice_get, MatchOption}
 use Rattle.std.proofs.lemmas.Bool.{cases_lt}
 use Rattle.std.proofs.lemmas.Option.{slice_get_within}
-use Rattle.last_events.specs.LastEvents.{Uses, LastUse}
+use Rattle.dependence.specs.LastEvents.{Uses, LastUse}
 use Rattle.runs.specs.Live.{Live, LiveAt, LastWriter, NoWriter}
 use Rattle.runs.specs.declared.event.Event.{Event}
 use Rattle.runs.proofs.public.Tickets.{rising-one}

@@ -10,6 +10,17 @@ mod FromIndex
 mod LastWriters
 mod ListedLaws
 mod MarkEnds
+mod PlaceMarks
 mod ShownStates
 mod Sweeps
 mod Wholes
+mod BesideLaws
+mod ChildLaws
+mod CodeLaws
+mod ForkLaws
+mod LastLaws
+mod ListLaws
+mod SearchLaws
+mod SeatLaws
+mod TicketLaws
+mod WayLaws

@@ -7,3 +7,4 @@ pub mod RunOrder
 pub mod Standing
 pub mod Tabling
 pub mod Turns
+pub mod Taken

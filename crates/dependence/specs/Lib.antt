@@ -5,3 +5,6 @@ pub mod Laws
 pub mod Listing
 pub mod Shown
 pub mod internal
+pub mod LastEvents
+pub mod EventPlaces
+pub mod ArmLaws

@@ -5,3 +5,10 @@ pub mod Sweeping
 pub mod Tabled
 pub mod Tables
 pub mod Whole
+pub mod Forks
+pub mod Seats
+pub mod Sizes
+pub mod Depths
+pub mod Search
+pub mod Tickets
+pub mod Walks

@@ -1,14 +1,14 @@
 // The live event that acts at the first child of a place.
 ghost use Rattle.std.specs.Prelude.{MatchOption};
-ghost use Rattle.last_events.specs.LastEvents.{first_child};
+ghost use Rattle.dependence.specs.LastEvents.{first_child};
 ghost use Rattle.dependence.specs.Acting.{ActsAlone, NoneActs};
 ghost use Rattle.dependence.specs.internal.Tables.{IsRising};
 ghost use Rattle.dependence.specs.internal.Tabled.{TablesOf};
 
+use crate::children::is_first_child;
 use crate::live_list::LiveList;
 use crate::tables::Tables;
 use address::Entry;
-use last_events::is_first_child;
 use runs::Event;
 
 /// The live event that acts at the first child of the place. The event that stands there may act at the other of its

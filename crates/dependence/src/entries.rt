@@ -36,7 +36,7 @@ pub(crate) fn leads_of(
 {
     new.add_by_variables(found)?;
     if found.len() <= 1 {
-        return copied(alloc, found.as_slice());
+        return SmallVec::from_slice(alloc, found.as_slice());
     }
     sort(found);
     let tickets = found.as_slice();
@@ -46,15 +46,6 @@ pub(crate) fn leads_of(
     }
     let (low, high) = span(new.list, tickets);
     topmost(alloc, new.list, tickets, low, high)
-}
-
-/// The same tickets.
-fn copied(alloc: Global, tickets: &[u64]) -> Result<Leads, AllocError>
-    ensures { IfOk result (λ leads. leads.items ≡ tickets.now) }
-{
-    let mut leads = SmallVec::new(alloc);
-    leads.extend_from_slice(tickets)?;
-    Ok(leads)
 }
 
 /// Puts the tickets into ascending order.

@@ -1,5 +1,7 @@
-// The laws of followers and of a new event, each the contract of a function that does nothing.
+// The laws of followers, of a new event and of the arms that were taken, each the contract of a function that does
+// nothing.
 ghost use Rattle.dependence.specs.Laws.{LeastIsFollower, ReachedThroughFollowers, NoNewFollower, LastComesBehind};
+ghost use Rattle.dependence.specs.ArmLaws.{NoneTaken, TakenByTheEvent};
 
 /// The least of the events that depend on an event is a follower of it, that is an immediate successor in the causal
 /// order.
@@ -22,3 +24,11 @@ pub fn no_new_follower()
 pub fn last_comes_behind()
     ensures { LastComesBehind }
 {}
+
+/// The arm that a choice took is that of the one event of a run that acts there, and none where there is no such event.
+pub fn arms_are_taken_once()
+    ensures event { TakenByTheEvent }
+    ensures none { NoneTaken }
+{
+    runs::acting_once();
+}

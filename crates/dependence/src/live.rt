@@ -1,7 +1,7 @@
 ghost use Rattle.std.specs.Prelude.{◌≡◌, ◌<◌, ◌^◌, ℕ, [], length, Some, None, slice_get, MatchOption, IfErr, IfOk, OnOk};
 ghost use Rattle.runs.specs.Dependence.{Without};
 ghost use Rattle.runs.specs.Live.{LiveAt, NoneAt, NoDependent, FirstDependent, ConsequencesList, WithoutTickets, IsLive, LastWriter, NoWriter};
-ghost use Rattle.last_events.specs.LastEvents.{first_child};
+ghost use Rattle.dependence.specs.LastEvents.{first_child};
 ghost use Rattle.dependence.specs.Acting.{ActsAlone, NoneActs};
 ghost use Rattle.dependence.specs.Behind.{ComesBehind};
 ghost use Rattle.dependence.specs.Followers.{ListsFollowers, ListsLeads, CountsDirect};
@@ -12,7 +12,7 @@ use crate::consequences::consequences;
 use crate::count::count_direct;
 use crate::live_events::LiveEvents;
 use crate::live_list::LiveList;
-use crate::marks::{copy_marked, end_below, mark_and_count};
+use crate::marks::{copy_marked, mark_and_count};
 use crate::tables::Tables;
 use crate::whole::{add_event, followers_of, last_writer, leads_at, least_dependent, take_event};
 use address::Entry;
@@ -106,7 +106,7 @@ impl Live {
     {
         if index < self.list.len() as u64 {
             let place = index as usize;
-            Some((self.list.ticket_at(place), self.list.event_at(place)))
+            Some(self.list.pair_at(place))
         } else {
             None
         }
@@ -184,7 +184,7 @@ impl Live {
         ensures marked { ConsequencesList self.old.live ticket self.new.marked }
         ensures counted { result ≡ length self.new.marked }
     {
-        let count = mark_and_count(
+        let (count, end) = mark_and_count(
             &self.list,
             self.marks.as_mut_slice(),
             self.first_marked,
@@ -192,7 +192,7 @@ impl Live {
             ticket,
         );
         self.first_marked = ticket;
-        self.marked_to = end_below(self.marks.as_slice(), self.marks.len());
+        self.marked_to = end;
         count as u64
     }
 

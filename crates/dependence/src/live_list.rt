@@ -7,7 +7,7 @@ ghost use Rattle.runs.specs.InOrder.{InOrder};
 ghost use Rattle.runs.specs.Live.{LiveAt, NoneAt, IsLive, Rising};
 ghost use Rattle.runs.specs.declared.event.Event.{Event};
 ghost use Rattle.dependence.specs.declared.links.Links.{Links};
-ghost use Rattle.dependence.specs.internal.Listed.{events_kept, SameLive, LinksOf, TakenOut};
+ghost use Rattle.dependence.specs.internal.Listed.{events_kept, links_kept, SameLive, LinksOf, TakenOut};
 ghost use Rattle.dependence.specs.internal.Tables.{IsRising, StandsAt, FollowersChanged, Removed};
 
 use crate::kept::Kept;
@@ -65,6 +65,15 @@ impl LiveList {
         self.count
     }
 
+    /// The places.
+    pub(crate) fn places(&self) -> &Slots<Kept>
+        ensures live { events_kept (filled result.now.entries) ≡ self.now.live }
+        ensures links { links_kept (filled result.now.entries) ≡ self.now.links }
+        ensures rising { RiseFrom 0 result.now.entries }
+    {
+        &self.slots
+    }
+
     /// The events, one after another.
     pub(crate) fn iter(&self) -> LiveEvents<'_>
         ensures events { result ≡ self.now.live }
@@ -112,13 +121,13 @@ impl LiveList {
         ticket
     }
 
-    /// The event at an index.
-    pub(crate) fn event_at(&self, index: usize) -> &Event
+    /// The ticket and the event at an index.
+    pub(crate) fn pair_at(&self, index: usize) -> (u64, &Event)
         requires { index < length self.now.live }
-        ensures { (t : ℕ) × (slice_get self.now.live index ≡ Some (t, result.now)) }
+        ensures { slice_get self.now.live index ≡ Some (result.0, result.1.now) }
     {
-        let (_, kept) = self.kept_at(index);
-        kept.event.get()
+        let (ticket, kept) = self.kept_at(index);
+        (ticket, kept.event.get())
     }
 
     /// The links of the event at an index.
@@ -262,7 +271,7 @@ impl LiveList {
 
 /// The place of the live event of this ticket.
 #[inline(always)]
-fn place_of(slots: &Slots<Kept>, ticket: u64) -> usize
+pub(crate) fn place_of(slots: &Slots<Kept>, ticket: u64) -> usize
     requires rising { RiseFrom 0 slots.now.entries }
     requires live { IsLive (events_kept (filled slots.now.entries)) ticket }
     ensures { IsOf slots.now.entries ticket result }

@@ -10,15 +10,15 @@ ghost use Rattle.dependence.specs.internal.Marking.{MarkedAt, UnmarkedTo, Unmark
 use crate::live_list::LiveList;
 use std::alloc::{AllocError, Global};
 
-/// Marks the event of this ticket and all that depend on it, and no others; how many they are. No event of a ticket
-/// less than `first` was marked, and no mark was set from the end on.
+/// Marks the event of this ticket and all that depend on it, and no others; how many they are, and where the marks that
+/// are set end. No event of a ticket less than `first` was marked, and no mark was set from the end on.
 pub(crate) fn mark_and_count(
     list: &LiveList,
     marks: &mut [bool],
     first: u64,
     end: usize,
     ticket: u64,
-) -> usize
+) -> (usize, usize)
     requires rising { IsRising list.now.live }
     requires linked { Linked list.now.live list.now.links }
     requires live { IsLive list.now.live ticket }
@@ -27,60 +27,65 @@ pub(crate) fn mark_and_count(
     requires ended { EndsAt marks.old end }
     ensures marked { ConsequencesList list.now.live ticket (tickets_marked list.now.live marks.new) }
     ensures lower { NoneLess list.now.live marks.new ticket }
-    ensures counted { result ≡ length (tickets_marked list.now.live marks.new) }
+    ensures counted { result.0 ≡ length (tickets_marked list.now.live marks.new) }
+    ensures ended { EndsAt marks.new result.1 }
 {
     let from = first_index(list, marks, first, end);
-    clear(marks, from);
-    mark_dependents(list, 0, marks, ticket);
-    count_marked(list, marks, ticket)
+    clear(marks, from, end);
+    let behind = mark_dependents(list, marks, ticket);
+    (count_marked(list, marks, behind, ticket), behind)
 }
 
-/// Marks the event of this ticket and all that depend on it, where nothing is marked. The marks are those of the live
-/// events from the index `base` on, and the event is one of these.
-pub(crate) fn mark_dependents(list: &LiveList, base: usize, marks: &mut [bool], ticket: u64)
+/// Marks the event of this ticket and all that depend on it, where nothing is marked; where the marks then end. Behind
+/// the last mark that is set nothing is looked at, since followers of what is marked are marked too.
+fn mark_dependents(list: &LiveList, marks: &mut [bool], ticket: u64) -> usize
     requires rising { IsRising list.now.live }
     requires linked { Linked list.now.live list.now.links }
-    requires size { base + length marks.old ≡ length list.now.live }
-    requires live { IsLive (drop base list.now.live) ticket }
+    requires size { length marks.old ≡ length list.now.live }
+    requires live { IsLive list.now.live ticket }
     requires none { (i : ℕ) → slice_get marks.old i ≡ Some true → ⊥ }
-    ensures marked { ConsequencesList list.now.live ticket (tickets_marked (drop base list.now.live) marks.new) }
-    ensures lower { NoneLess (drop base list.now.live) marks.new ticket }
+    ensures marked { ConsequencesList list.now.live ticket (tickets_marked list.now.live marks.new) }
+    ensures lower { NoneLess list.now.live marks.new ticket }
+    ensures ended { EndsAt marks.new result }
 {
     // The length is what says that indexes fit.
     let _len = list.len();
-    let first = list.index_of_live(ticket) - base;
-    marks[first] = true;
-    for index in first..marks.len() {
+    let mut index = list.index_of_live(ticket);
+    marks[index] = true;
+    let mut end = index + 1;
+    while index < end {
         if marks[index] {
-            let followers = list.links_at(base + index).followers.as_slice();
-            mark_all(list, base, marks, followers);
+            let followers = list.links_at(index).followers.as_slice();
+            end = mark_all(list, marks, followers, end);
         }
+        index += 1;
     }
+    end
 }
 
-/// Takes all marks away. Below this index there are none.
-fn clear(marks: &mut [bool], from: usize)
-    requires within { from ≤ length marks.old }
+/// Takes all marks away. Below the first index there are none, nor from the end on.
+fn clear(marks: &mut [bool], from: usize, end: usize)
     requires unmarked { UnmarkedTo marks.old from }
+    requires ended { EndsAt marks.old end }
     ensures { (i : ℕ) → slice_get marks.new i ≡ Some true → ⊥ }
 {
-    for index in from..marks.len() {
+    for index in from..end {
         marks[index] = false;
     }
 }
 
 /// An index below which none is marked: that of the event of the ticket `first`, where no event of a lesser one is
-/// marked, and behind all marks where none is set. While one is set that event is live, since it is taken last.
+/// marked. While one is set that event is live, since it is taken last.
 fn first_index(list: &LiveList, marks: &[bool], first: u64, end: usize) -> usize
     requires rising { IsRising list.now.live }
     requires size { length marks.now ≡ length list.now.live }
     requires lower { NoneLess list.now.live marks.now first }
     requires ended { EndsAt marks.now end }
-    ensures within { result ≤ length marks.now }
+    ensures within { result ≤ end }
     ensures none { UnmarkedTo marks.now result }
 {
     if end == 0 {
-        return marks.len();
+        return 0;
     }
     match list.index_of(first) {
         Some(index) => index,
@@ -89,7 +94,7 @@ fn first_index(list: &LiveList, marks: &[bool], first: u64, end: usize) -> usize
 }
 
 /// Behind the last mark that is set below the end, 0 where none is. From the end on none is set.
-pub(crate) fn end_below(marks: &[bool], end: usize) -> usize
+fn end_below(marks: &[bool], end: usize) -> usize
     requires within { end ≤ length marks.now }
     requires none { UnmarkedFrom marks.now end }
     ensures { EndsAt marks.now result }
@@ -104,19 +109,27 @@ pub(crate) fn end_below(marks: &[bool], end: usize) -> usize
     0
 }
 
-/// Marks the events of these tickets beside those that are marked. The marks are those of the live events from the index
-/// `base` on.
-fn mark_all(list: &LiveList, base: usize, marks: &mut [bool], tickets: &[u64])
+/// Marks the events of these tickets beside those that are marked; where the marks then end.
+fn mark_all(list: &LiveList, marks: &mut [bool], tickets: &[u64], end: usize) -> usize
     requires rising { IsRising list.now.live }
-    requires live { (t : ℕ) → In t tickets.now → IsLive (drop base list.now.live) t }
-    requires size { base + length marks.old ≡ length list.now.live }
-    ensures { (u : ℕ) → MarkedAt (drop base list.now.live) marks.new u
-        ↔ (MarkedAt (drop base list.now.live) marks.old u ⊎ In u tickets.now) }
+    requires live { (t : ℕ) → In t tickets.now → IsLive list.now.live t }
+    requires size { length marks.old ≡ length list.now.live }
+    requires ended { EndsAt marks.old end }
+    ensures marked { (u : ℕ) → MarkedAt list.now.live marks.new u
+        ↔ (MarkedAt list.now.live marks.old u ⊎ In u tickets.now) }
+    ensures ended { EndsAt marks.new result }
 {
+    // The length is what says that indexes fit.
+    let _len = list.len();
+    let mut reached = end;
     for ticket in tickets {
-        let index = list.index_of_live(*ticket) - base;
+        let index = list.index_of_live(*ticket);
         marks[index] = true;
+        if reached <= index {
+            reached = index + 1;
+        }
     }
+    reached
 }
 
 /// Takes out the mark of the live event of this ticket; where the marks that are set then end. Where none is set behind
@@ -144,16 +157,18 @@ pub(crate) fn remove_mark(list: &LiveList, marks: &mut Vec<bool>, end: usize, ti
     left
 }
 
-/// How many events are marked. None of a ticket less than this live one is.
-fn count_marked(list: &LiveList, marks: &[bool], ticket: u64) -> usize
+/// How many events are marked. Of this ticket one is, none of a lesser one is, and no mark is set from the end on.
+fn count_marked(list: &LiveList, marks: &[bool], end: usize, ticket: u64) -> usize
     requires rising { IsRising list.now.live }
     requires size { length marks.now ≡ length list.now.live }
     requires live { IsLive list.now.live ticket }
+    requires marked { In ticket (tickets_marked list.now.live marks.now) }
     requires lower { NoneLess list.now.live marks.now ticket }
+    requires ended { EndsAt marks.now end }
     ensures { result ≡ length (tickets_marked list.now.live marks.now) }
 {
     let from = list.index_of_live(ticket);
-    marks[from..].iter().filter(|mark| **mark).count()
+    marks[from..end].iter().filter(|mark| **mark).count()
 }
 
 /// The tickets of the marked events, ascending. None is less than `first`, and no mark is set from the end on.
@@ -171,17 +186,17 @@ pub(crate) fn copy_marked(
     ensures { IfOk result (λ tickets. tickets.items ≡ tickets_marked list.now.live marks.now) }
 {
     let from = first_index(list, marks, first, end);
-    copy_each(alloc, list, from, &marks[from..])
+    copy_each(alloc, list, from, &marks[from..end])
 }
 
 /// The tickets of the marked events. The marks are those of the live events from the index `base` on.
-pub(crate) fn copy_each(
+fn copy_each(
     alloc: Global,
     list: &LiveList,
     base: usize,
     marks: &[bool],
 ) -> Result<Vec<u64>, AllocError>
-    requires { base + length marks.now ≡ length list.now.live }
+    requires { base + length marks.now ≤ length list.now.live }
     ensures { IfOk result (λ tickets. tickets.items ≡ tickets_marked (drop base list.now.live) marks.now) }
 {
     // The length is what says that indexes fit.

@@ -2,13 +2,13 @@
 ghost use Rattle.std.specs.Prelude.{◌≡◌, ℕ, Some, OnOk};
 ghost use Rattle.address.specs.Places.{Apart};
 ghost use Rattle.syntax.specs.Lists.{In};
-ghost use Rattle.last_events.specs.LastEvents.{IsAt, Uses, Orderly};
+ghost use Rattle.dependence.specs.LastEvents.{IsAt, Uses, Orderly};
 ghost use Rattle.runs.specs.Events.{places};
 ghost use Rattle.runs.specs.Moves.{Place};
 ghost use Rattle.dependence.specs.internal.Found.{FoundByPlace};
 ghost use Rattle.dependence.specs.internal.Tabled.{MorePlaces, MoreUses, FewerPlaces, FewerUses, written_of};
 
-use last_events::{PlaceTable, UseTable};
+use crate::{PlaceTable, UseTable};
 use runs::Event;
 use std::alloc::AllocError;
 

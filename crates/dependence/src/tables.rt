@@ -1,11 +1,11 @@
 // Which live event stands at which place, and which of them write and read which variable.
 ghost use Rattle.std.specs.Prelude.{◌≡◌, ℕ, [], OnOk};
 ghost use Rattle.syntax.specs.Lists.{In};
-ghost use Rattle.last_events.specs.LastEvents.{Uses};
+ghost use Rattle.dependence.specs.LastEvents.{Uses};
 ghost use Rattle.dependence.specs.internal.Tabled.{TablesOf, MoreUses, FewerTables, written_of};
 
 use crate::puts::{put_reads, put_written, remove_places, remove_reads, remove_written};
-use last_events::{PlaceTable, UseTable};
+use crate::{PlaceTable, UseTable};
 use runs::Event;
 use std::alloc::{AllocError, Global};
 

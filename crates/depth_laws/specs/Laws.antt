@@ -12,7 +12,7 @@ use Rattle.runs.specs.Ready.{ReadyList}
 use Rattle.runs.specs.Steps.{State, Run, opening}
 use Rattle.runs.specs.declared.event.Event.{Event}
 use Rattle.dependence.specs.Followers.{DirectDependent, Follower}
-use Rattle.event_places.specs.EventPlaces.{line_after}
+use Rattle.dependence.specs.EventPlaces.{line_after}
 use Rattle.run_depths.specs.Depths.{AreDepths, StandsAt}
 use Rattle.run_depths.specs.Races.{AreRaces}
 use Rattle.run_depths.specs.declared.races.Race.{Race}

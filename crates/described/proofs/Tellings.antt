@@ -2,7 +2,7 @@
 use Rattle.std.proofs.Common.{◌≡◌, ℕ, zero, suc, ◌+◌, ◌<◌, ◌≤◌, List, [], ◌∷◌, ◌++◌, Option, None, Some, length, take, refl, ap, sym, ◌∙◌, arith, length-append, get_or, reverse, slice_get}
 use Rattle.std.proofs.lemmas.List.{get_or_push, get_or_append_left, get_or_past, reverse-append}
 use Rattle.std.proofs.lemmas.Option.{slice_get_within}
-use Rattle.typed.specs.declared.tree.Procedure.{Procedure}
+use Rattle.types.specs.declared.tree.Procedure.{Procedure}
 use Rattle.described.specs.Telling.{Found, Telling, missing, told_by, entered_by, with_call, tell_calls, tell_body, telling_of, tellings_onto, tellings}
 use Rattle.described.specs.declared.body_calls.BodyCall.{BodyCall}
 use Rattle.described.specs.declared.walk.Entered.{Entered}

@@ -4,7 +4,7 @@ use Rattle.lexer.specs.Tokens.{AreTokens}
 use Rattle.lexer.specs.declared.token.Token.{Token}
 use Rattle.system.specs.declared.system.Channel.{Channel}
 use Rattle.system.specs.declared.system.System.{System}
-use Rattle.typed.specs.declared.tree.Procedure.{Procedure}
+use Rattle.types.specs.declared.tree.Procedure.{Procedure}
 use Rattle.described.specs.Enumerations.{enumerations_of}
 use Rattle.described.specs.Lines.{lines_at}
 use Rattle.described.specs.Telling.{found_in}

@@ -3,10 +3,10 @@
 use Rattle.std.specs.Prelude.{ℕ, ◌+◌, ◌-◌, nat_lt, cond, List, [], ◌∷◌, ◌++◌, Option, None, Some, length, slice_get, slice_index_or, take}
 use Rattle.address.specs.declared.Entry.TheVariants.{Branch}
 use Rattle.system.specs.Named.{prefix_of_call}
-use Rattle.typed.specs.declared.tree.Local.{Local}
-use Rattle.typed.specs.declared.tree.LocalKind.{LocalKind}
-use Rattle.typed.specs.declared.tree.LocalKind.TheVariants as local
-use Rattle.typed.specs.declared.tree.Procedure.{Procedure}
+use Rattle.types.specs.declared.tree.Local.{Local}
+use Rattle.types.specs.declared.tree.LocalKind.{LocalKind}
+use Rattle.types.specs.declared.tree.LocalKind.TheVariants as local
+use Rattle.types.specs.declared.tree.Procedure.{Procedure}
 use Rattle.described.specs.Calls.{calls_in}
 use Rattle.described.specs.declared.body_calls.BodyCall.{BodyCall}
 use Rattle.described.specs.declared.found.Found as found

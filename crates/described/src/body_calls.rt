@@ -7,7 +7,7 @@ ghost use Rattle.described.specs.internal.CallParts as parts;
 use address::{Address, Entry};
 use std::alloc::{AllocError, Global};
 use syntax::Items;
-use typed::{Action, Arm, Command, Guarded, Labelled};
+use types::{Action, Arm, Command, Guarded, Labelled};
 
 /// A call as it stands in a body.
 #[derive(Drop)]

@@ -7,7 +7,7 @@ use crate::walk::Entered;
 use std::alloc::{AllocError, Global};
 use syntax::Items;
 use system::QualifiedName;
-use typed::{Local, LocalKind, Procedure};
+use types::{Local, LocalKind, Procedure};
 
 /// A call in as many calls as these is counted alone: its name would be as long as they are many.
 const MOST_CALLS: u64 = 64;

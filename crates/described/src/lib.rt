@@ -21,7 +21,7 @@ use lines::{line_starts, lines_of};
 use std::alloc::{AllocError, Global};
 use syntax::Items;
 use system::{Channel, System};
-use typed::Procedure;
+use types::Procedure;
 use walk::walk;
 
 /// What the source tells of a description.

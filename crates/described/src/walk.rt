@@ -2,7 +2,7 @@
 // called one where its call stands. So the calls come in the order in which their copies are made.
 ghost use Rattle.std.specs.Prelude.{◌≡◌, ◌∷◌, List, reverse, slice_get, take, IfOk, OnOk};
 ghost use Rattle.std.specs.Option.{option_copied};
-ghost use Rattle.typed.specs.declared.tree.Procedure as typed_procedure;
+ghost use Rattle.types.specs.declared.tree.Procedure as typed_procedure;
 ghost use Rattle.described.specs.Telling as model;
 ghost use Rattle.described.specs.internal.Pendings.{leads, pending_of};
 
@@ -12,7 +12,7 @@ use address::{Address, Entry};
 use std::alloc::{AllocError, Global};
 use syntax::Items;
 use system::Prefix;
-use typed::Procedure;
+use types::Procedure;
 
 /// How a body is entered.
 #[derive(Drop)]

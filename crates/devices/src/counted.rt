@@ -9,7 +9,8 @@ ghost use Rattle.std.specs.Io.Buffered.{reader_buffer, reader_inner, reader_rema
 ghost use Rattle.devices.specs.Counting.{device, failures, patience, unsent, wanted, one_more, CountsIf};
 ghost use Rattle.devices.specs.declared.failure.ReadFault.TheVariants.{Memory, Failed};
 
-use crate::{CountedLines, CountedRead, CountedWrite, ReadFault, WriteFailed};
+use crate::asked::{Failure, Failures};
+use crate::{CountedLines, CountedRead, CountedWrite, ReadFault, WriteFailed, asked};
 use memchr::memchr;
 use std::alloc::AllocError;
 use std::io;
@@ -23,8 +24,8 @@ use std::io::{BufRead, BufReader, Error, ErrorKind, Read, Write};
 #[derive(Drop)]
 pub struct Counted<D> {
     device: D,
-    /// modulo 2^64
-    failures: u64,
+    /// for each of them the device was asked
+    failures: Failures<D>,
     /// how many more interruptions are borne
     patience: u64,
     /// how many of the bytes that it took last are not sent on yet, 2^64 - 1 at most
@@ -43,26 +44,15 @@ impl<D> Counted<D> {
     {
         Counted {
             device: inner,
-            failures: 0,
+            failures: Failures::none(),
             patience: u64::MAX,
             unsent: 0,
             wanted: 0,
         }
     }
 
-    /// Counts a failure.
-    fn count(&mut self)
-        ensures device { device self.new ≡ device self.old }
-        ensures failures { failures self.new ≡ one_more (failures self.old) }
-        ensures patience { patience self.new ≡ patience self.old }
-        ensures unsent { unsent self.new ≡ unsent self.old }
-        ensures wanted { wanted self.new ≡ wanted self.old }
-    {
-        self.failures = self.failures.wrapping_add(1);
-    }
-
     /// Counts a failed write, where it was not interrupted or interruptions are borne no more, and gives the error on.
-    fn seen(&mut self, error: Error) -> Error
+    fn seen(&mut self, error: Error, failed: Failure<D>) -> Error
         ensures device { device self.new ≡ device self.old }
         ensures counted { ((error_kind result ≡ ErrorKind.Interrupted) × (error_kind error ≡ ErrorKind.Interrupted)
             × (failures self.new ≡ failures self.old) × (patience self.new < patience self.old))
@@ -72,11 +62,11 @@ impl<D> Counted<D> {
         ensures wanted { wanted self.new ≡ wanted self.old }
     {
         if error.kind() != ErrorKind::Interrupted {
-            self.count();
+            self.failures.count(failed);
             return error;
         }
         if self.patience == 0 {
-            self.count();
+            self.failures.count(failed);
             return ErrorKind::TimedOut.into();
         }
         self.patience -= 1;
@@ -90,12 +80,12 @@ impl<R: Read> CountedRead for Counted<R> {
     ghost failed = { failures };
 
     fn fill(&mut self, bytes: &mut Vec<u8>) -> Result<(), ReadFault> {
-        match self.device.read_to_end(bytes) {
-            Ok(_) => Ok(()),
-            Err(error) => {
+        match asked::read_to_end(&mut self.device, bytes) {
+            Ok(()) => Ok(()),
+            Err((error, failed)) => {
                 let fault = fault_of(&error);
                 if fault == ReadFault::Failed {
-                    self.count();
+                    self.failures.count(failed);
                 }
                 Err(fault)
             }
@@ -120,13 +110,15 @@ impl<R: BufRead> Counted<R> {
             (failures self.old) (failures self.new)) }
         ensures patience { patience self.new ≡ patience self.old }
     {
-        let read = self.device.read_until(b'\n', line);
-        if let Err(error) = &read {
-            if error.kind() != ErrorKind::OutOfMemory && !ends_line(line.as_slice()) {
-                self.count();
+        match asked::read_through(&mut self.device, line) {
+            Ok(count) => Ok(count),
+            Err((error, failed)) => {
+                if error.kind() != ErrorKind::OutOfMemory && !ends_line(line.as_slice()) {
+                    self.failures.count(failed);
+                }
+                Err(error)
             }
         }
-        read
     }
 }
 
@@ -182,15 +174,15 @@ impl<W: Write> Write for Counted<W> {
             (λ _. unsent self.new ≡ unsent self.old) }
         ensures wanted { wanted self.new ≡ wanted self.old }
     {
-        match self.device.write(buf) {
-            Ok(count) => {
-                if count == 0 && !buf.is_empty() {
-                    self.count();
+        match asked::write(&mut self.device, buf) {
+            Ok((count, took_none)) => {
+                if let Some(failed) = took_none {
+                    self.failures.count(failed);
                 }
                 self.unsent = self.unsent.saturating_add(count);
                 Ok(count)
             }
-            Err(error) => Err(self.seen(error)),
+            Err((error, failed)) => Err(self.seen(error, failed)),
         }
     }
 
@@ -201,13 +193,16 @@ impl<W: Write> Write for Counted<W> {
         ensures sent { MatchResult result (λ _. unsent self.new ≡ 0) (λ _. unsent self.new ≡ unsent self.old) }
         ensures wanted { wanted self.new ≡ wanted self.old }
     {
-        let flushed = self.device.flush();
-        if flushed.is_err() {
-            self.count();
-        } else {
-            self.unsent = 0;
+        match asked::flush(&mut self.device) {
+            Ok(()) => {
+                self.unsent = 0;
+                Ok(())
+            }
+            Err((error, failed)) => {
+                self.failures.count(failed);
+                Err(error)
+            }
         }
-        flushed
     }
 }
 

@@ -1,6 +1,7 @@
 //! Readers and writers that count how often they failed, so that who says that they did can be held to it.
 #![tactic(auto)]
 
+mod asked;
 mod counted;
 mod failure;
 mod input;

@@ -5,9 +5,9 @@ use Rattle.clash_places.specs.declared.pairs.OtherUse.{OtherUse}
 use Rattle.elaborate.specs.Elaboration as elaboration
 use Rattle.refusals.specs.declared.elaborate.Fault as elaborate
 use Rattle.refusals.specs.declared.elaborate.Fault.TheVariants as no_system
-use Rattle.stimulus.specs.declared.stimulus.Entry.{Entry}
+use Rattle.elaborate.specs.declared.stimulus.Entry.{Entry}
 use Rattle.system.specs.declared.system.System.{System}
-use Rattle.typed.specs.declared.tree.Procedure.{Procedure}
+use Rattle.types.specs.declared.tree.Procedure.{Procedure}
 use Rattle.typed_source.specs.Source as typed_source
 use Rattle.typed_source.specs.Source.{IsTyped}
 use Rattle.typed_source.specs.declared.fault.Fault as typing

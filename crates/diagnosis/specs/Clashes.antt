@@ -7,7 +7,7 @@ use Rattle.findings.specs.MarkedPlaces.{marked_at}
 use Rattle.findings.specs.declared.finding.Finding.{Finding}
 use Rattle.refusals.specs.declared.elaborate.Fault as elaborate
 use Rattle.system.specs.declared.system.System.{System}
-use Rattle.typed.specs.declared.tree.Procedure.{Procedure}
+use Rattle.types.specs.declared.tree.Procedure.{Procedure}
 use Rattle.typed_source.specs.Source as typed_source
 use Rattle.typed_source.specs.Source.{IsTyped}
 use Rattle.typed_source.specs.declared.fault.Fault as typing

@@ -9,8 +9,8 @@ use elaborate::{Fault, Stimulus, elaborate};
 use std::alloc::{AllocError, Global};
 use syntax::Items;
 use system::System;
-use typed::Typed;
 use typed_source::typed_source;
+use types::Typed;
 
 /// The first use that clashes, by the rule on sharing, with one whose name stands at the offset, in the system that the
 /// source makes. None where it makes none, or no use there clashes. It is an error if there is no memory.

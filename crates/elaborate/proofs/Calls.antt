@@ -11,11 +11,11 @@ use Rattle.system.specs.declared.command.Arm as tree_arm
 use Rattle.system.specs.declared.command.Command as tree_command
 use Rattle.system.specs.declared.command.Guarded as tree_guarded
 use Rattle.system.specs.declared.command.Labelled as tree_labelled
-use Rattle.typed.specs.declared.tree.Action.{Action, Call}
-use Rattle.typed.specs.declared.tree.ChannelUse.{ChannelUse}
-use Rattle.typed.specs.declared.tree.Command.{Command}
-use Rattle.typed.specs.declared.tree.Procedure.{Procedure}
-use Rattle.typed.specs.declared.tree.Action.TheFolds.{fold-Action, the_lemmas}
+use Rattle.types.specs.declared.tree.Action.{Action, Call}
+use Rattle.types.specs.declared.tree.ChannelUse.{ChannelUse}
+use Rattle.types.specs.declared.tree.Command.{Command}
+use Rattle.types.specs.declared.tree.Procedure.{Procedure}
+use Rattle.types.specs.declared.tree.Action.TheFolds.{fold-Action, the_lemmas}
 
 -- elements of a list with more behind it
 at_front : {X : Type 0} (xs ys : List X) (j : ℕ) (d : X) → j < length xs → get_or (xs ++ ys) j d ≡ get_or xs j d

@@ -8,12 +8,12 @@ use Rattle.elaborate.specs.internal.Making.{Numbered, number_for, with_channel, 
 use Rattle.syntax.specs.Texts.{Text}
 use Rattle.system.specs.declared.system.Channel.{Channel}
 use Rattle.system.specs.declared.system.Variable.{Variable}
-use Rattle.typed.specs.declared.tree.Local.{Local}
-use Rattle.typed.specs.declared.tree.LocalKind.{LocalKind}
-use Rattle.typed.specs.declared.tree.LocalKind.TheVariants as local
-use Rattle.typed.specs.declared.tree.Port.{Port}
-use Rattle.typed.specs.declared.tree.PortKind.{PortKind}
-use Rattle.typed.specs.declared.tree.PortKind.TheVariants as port
+use Rattle.types.specs.declared.tree.Local.{Local}
+use Rattle.types.specs.declared.tree.LocalKind.{LocalKind}
+use Rattle.types.specs.declared.tree.LocalKind.TheVariants as local
+use Rattle.types.specs.declared.tree.Port.{Port}
+use Rattle.types.specs.declared.tree.PortKind.{PortKind}
+use Rattle.types.specs.declared.tree.PortKind.TheVariants as port
 
 -- what is made where these are the copies
 abbrev pub made_of : List Local → ℕ → Made

@@ -18,18 +18,18 @@ use Rattle.system.specs.declared.command.Arm as tree_arm
 use Rattle.system.specs.declared.command.Command as tree_command
 use Rattle.system.specs.declared.command.Guarded as tree_guarded
 use Rattle.system.specs.declared.command.Labelled as tree_labelled
-use Rattle.typed.specs.declared.tree.Action.{Action}
-use Rattle.typed.specs.declared.tree.Arm.{Arm}
-use Rattle.typed.specs.declared.tree.Command.{Command}
-use Rattle.typed.specs.declared.tree.Guarded.{Guarded}
-use Rattle.typed.specs.declared.tree.Labelled.{Labelled}
-use Rattle.typed.specs.declared.tree.Expression.{Expression}
-use Rattle.typed.specs.declared.tree.Expression.TheOpen.{Expression-F}
-use Rattle.typed.specs.declared.tree.Expression.TheFolds.{map-Expression, fold-roll-Expression, ind-Expression}
-use Rattle.typed.specs.declared.tree.Expression.TheViews.{roll-Expression}
-use Rattle.typed.specs.declared.tree.Action.TheOpen.{Action-F}
-use Rattle.typed.specs.declared.tree.Action.TheFolds.{map-Action, fold-Action, fold-roll-Action, fold-roll-Arm, fold-roll-Command, fold-roll-Guarded, fold-roll-Labelled, ind-Command}
-use Rattle.typed.specs.declared.tree.Action.TheViews.{roll-Action, roll-Arm, roll-Command, roll-Guarded, roll-Labelled}
+use Rattle.types.specs.declared.tree.Action.{Action}
+use Rattle.types.specs.declared.tree.Arm.{Arm}
+use Rattle.types.specs.declared.tree.Command.{Command}
+use Rattle.types.specs.declared.tree.Guarded.{Guarded}
+use Rattle.types.specs.declared.tree.Labelled.{Labelled}
+use Rattle.types.specs.declared.tree.Expression.{Expression}
+use Rattle.types.specs.declared.tree.Expression.TheOpen.{Expression-F}
+use Rattle.types.specs.declared.tree.Expression.TheFolds.{map-Expression, fold-roll-Expression, ind-Expression}
+use Rattle.types.specs.declared.tree.Expression.TheViews.{roll-Expression}
+use Rattle.types.specs.declared.tree.Action.TheOpen.{Action-F}
+use Rattle.types.specs.declared.tree.Action.TheFolds.{map-Action, fold-Action, fold-roll-Action, fold-roll-Arm, fold-roll-Command, fold-roll-Guarded, fold-roll-Labelled, ind-Command}
+use Rattle.types.specs.declared.tree.Action.TheViews.{roll-Action, roll-Arm, roll-Command, roll-Guarded, roll-Labelled}
 use Rattle.system.specs.declared.expression.Expression as named
 
 abbrev pub Bodies : Type 0

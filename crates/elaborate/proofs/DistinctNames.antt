@@ -11,17 +11,17 @@ use Rattle.elaborate.proofs.Counted.{total_of, nodes_of}
 use Rattle.elaborate.proofs.Expanded.{one_behind, bodies_length, body_bounds}
 use Rattle.elaborate.proofs.NameLemmas.{in_left, in_right, in_either, every_in, every_append, every_right, every_more, distinct_append, distinct_right, distinct_between, Begins, OfCall, of_this_call, of_later_call, begins_so, calls_apart, own_apart}
 use Rattle.elaborate.proofs.RootLemmas.{root_is, root_ports_are, own_copied}
-use Rattle.stimulus.specs.declared.stimulus.Entry.{Entry}
+use Rattle.elaborate.specs.declared.stimulus.Entry.{Entry}
 use Rattle.syntax.specs.Lists.{In, Every}
 use Rattle.syntax.specs.Texts.{Text}
 use Rattle.system.specs.Named.{prefix_of_call}
 use Rattle.system.specs.declared.system.Channel.{Channel}
 use Rattle.system.specs.declared.system.Variable.{Variable}
-use Rattle.typed.specs.declared.tree.Local.{Local}
-use Rattle.typed.specs.declared.tree.LocalKind.{LocalKind}
-use Rattle.typed.specs.declared.tree.LocalKind.TheVariants as local
-use Rattle.typed.specs.declared.tree.Port.{Port}
-use Rattle.typed.specs.declared.tree.Procedure.{Procedure}
+use Rattle.types.specs.declared.tree.Local.{Local}
+use Rattle.types.specs.declared.tree.LocalKind.{LocalKind}
+use Rattle.types.specs.declared.tree.LocalKind.TheVariants as local
+use Rattle.types.specs.declared.tree.Port.{Port}
+use Rattle.types.specs.declared.tree.Procedure.{Procedure}
 
 abbrev names_of : List Local → List Text
 names_of ls = map (λ l. l.name) ls

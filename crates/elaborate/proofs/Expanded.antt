@@ -27,16 +27,16 @@ use Rattle.elaborate.proofs.Factored.{Bodies, all_made, one_made, in_front, fact
 use Rattle.elaborate.proofs.SystemNodes.{nodes_beside_main, nodes_beside}
 use Rattle.elaborate.proofs.Counted.{total_of, nodes_of, own_number, more, none_more, same_sized, Matches, counts}
 use Rattle.elaborate.proofs.TreeSizes.{some_node, size_continue}
-use Rattle.stimulus.specs.declared.stimulus.Entry.{Entry}
+use Rattle.elaborate.specs.declared.stimulus.Entry.{Entry}
 use Rattle.syntax.specs.Texts.{Text}
 use Rattle.system.specs.Named.{prefix_of_call}
 use Rattle.system.specs.declared.command.Command as tree_command
 use Rattle.system.specs.declared.system.Branch.{Branch}
 use Rattle.system.specs.declared.system.System.{System}
-use Rattle.typed.specs.declared.tree.Command.{Command}
-use Rattle.typed.specs.declared.tree.Local.{Local}
-use Rattle.typed.specs.declared.tree.Port.{Port}
-use Rattle.typed.specs.declared.tree.Procedure.{Procedure}
+use Rattle.types.specs.declared.tree.Command.{Command}
+use Rattle.types.specs.declared.tree.Local.{Local}
+use Rattle.types.specs.declared.tree.Port.{Port}
+use Rattle.types.specs.declared.tree.Procedure.{Procedure}
 
 -- ---- lists in step
 

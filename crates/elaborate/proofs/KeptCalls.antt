@@ -13,13 +13,13 @@ use Rattle.system.specs.Named.{prefix_of_call}
 use Rattle.system.specs.declared.system.Channel.{Channel}
 use Rattle.system.specs.declared.system.System.{System}
 use Rattle.system.specs.declared.system.Variable.{Variable}
-use Rattle.typed.specs.declared.tree.Action.TheOpen.{Action-F}
-use Rattle.typed.specs.declared.tree.Action.TheViews.{roll-Action, roll-Command}
-use Rattle.typed.specs.declared.tree.Binding.{Binding}
-use Rattle.typed.specs.declared.tree.Binding.TheVariants as binding
-use Rattle.typed.specs.declared.tree.Command.{Command}
-use Rattle.typed.specs.declared.tree.Local.{Local}
-use Rattle.typed.specs.declared.tree.Procedure.{Procedure}
+use Rattle.types.specs.declared.tree.Action.TheOpen.{Action-F}
+use Rattle.types.specs.declared.tree.Action.TheViews.{roll-Action, roll-Command}
+use Rattle.types.specs.declared.tree.Binding.{Binding}
+use Rattle.types.specs.declared.tree.Binding.TheVariants as binding
+use Rattle.types.specs.declared.tree.Command.{Command}
+use Rattle.types.specs.declared.tree.Local.{Local}
+use Rattle.types.specs.declared.tree.Procedure.{Procedure}
 
 -- a number that is there
 number_got : (ns : List ℕ) (place n : ℕ) → slice_get ns place ≡ Some n → number_at ns place ≡ n

@@ -10,12 +10,12 @@ use Rattle.elaborate.specs.SameShape.{Standing, SameCommand, HasLocals, IsPort, 
 use Rattle.elaborate.proofs.KeptNames.{port_channel, ports_numbered}
 use Rattle.elaborate.proofs.KeptCalls.{root_shown}
 use Rattle.elaborate.proofs.RootLemmas.{root_is, root_ports_are}
-use Rattle.stimulus.specs.declared.stimulus.Entry.{Entry}
+use Rattle.elaborate.specs.declared.stimulus.Entry.{Entry}
 use Rattle.system.specs.declared.command.Command as tree_command
 use Rattle.system.specs.declared.system.System.{System}
-use Rattle.typed.specs.declared.tree.Local.{Local}
-use Rattle.typed.specs.declared.tree.Port.{Port}
-use Rattle.typed.specs.declared.tree.Procedure.{Procedure}
+use Rattle.types.specs.declared.tree.Local.{Local}
+use Rattle.types.specs.declared.tree.Port.{Port}
+use Rattle.types.specs.declared.tree.Procedure.{Procedure}
 
 module _ (earlier : List Procedure) (p : Procedure) (entries : List Entry) where
   abbrev ps : List Procedure

@@ -21,3 +21,10 @@ mod KeptNames
 mod KeptShape
 mod KeptCalls
 mod KeptRoot
+mod Cuts
+mod Numbers
+mod Readings
+mod Entries
+mod Lines
+mod Fronts
+mod Fewness

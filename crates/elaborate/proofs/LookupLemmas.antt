@@ -4,9 +4,9 @@ use Rattle.std.proofs.lemmas.Bool.{ltb-true, ltb-false, lt-ltb, le-ltb}
 use Rattle.std.specs.Cmp.Lexicographic.{pointwise}
 use Rattle.elaborate.specs.Fit.{kind_named, entry_named}
 use Rattle.elaborate.specs.internal.NamePositions.{Positions, position_at, positions_of}
-use Rattle.stimulus.specs.declared.stimulus.Entry.{Entry}
+use Rattle.elaborate.specs.declared.stimulus.Entry.{Entry}
 use Rattle.elaborate.proofs.PlaceLemmas.{first_from, place_at-places_of}
-use Rattle.typed.specs.declared.tree.Port.{Port}
+use Rattle.types.specs.declared.tree.Port.{Port}
 
 -- the position counted from one position earlier
 pub first-shift : (k : ℕ) (ns : List (List ℕ)) (name : List ℕ) → first_from (k + 1) ns name ≡ option_map suc (first_from k ns name)

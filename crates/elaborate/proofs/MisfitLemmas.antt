@@ -1,8 +1,8 @@
 -- The first entry that does not fit is the same one with more entries behind it.
 use Rattle.std.proofs.Common.{◌≡◌, ℕ, List, [], ◌∷◌, ◌++◌, Bool, true, false, Some, None, refl}
 use Rattle.elaborate.specs.Fit.{entry_fits, first_misfit}
-use Rattle.stimulus.specs.declared.stimulus.Entry.{Entry}
-use Rattle.typed.specs.declared.tree.Port.{Port}
+use Rattle.elaborate.specs.declared.stimulus.Entry.{Entry}
+use Rattle.types.specs.declared.tree.Port.{Port}
 
 pub misfit_stands : (ports : List Port) (before entries later : List Entry) (line : ℕ) → first_misfit ports before entries ≡ Some line
     → first_misfit ports before (entries ++ later) ≡ Some line

@@ -15,15 +15,15 @@ use Rattle.system.specs.declared.command.Guarded as tree_guarded
 use Rattle.system.specs.declared.command.Labelled as tree_labelled
 use Rattle.system.specs.declared.expression.Expression as tree_expression
 use Rattle.system.specs.declared.expression.Use.{Use}
-use Rattle.typed.specs.declared.tree.Action.TheVariants as typed
-use Rattle.typed.specs.declared.tree.Arm.{Arm}
-use Rattle.typed.specs.declared.tree.ChannelUse.{ChannelUse}
-use Rattle.typed.specs.declared.tree.Command.{Command}
-use Rattle.typed.specs.declared.tree.Expression.{Expression}
-use Rattle.typed.specs.declared.tree.Guarded.{Guarded}
-use Rattle.typed.specs.declared.tree.Labelled.{Labelled}
-use Rattle.typed.specs.declared.tree.VariableUse.{VariableUse}
-use Rattle.typed.specs.declared.tree.Action.TheFolds.{the_lemmas}
+use Rattle.types.specs.declared.tree.Action.TheVariants as typed
+use Rattle.types.specs.declared.tree.Arm.{Arm}
+use Rattle.types.specs.declared.tree.ChannelUse.{ChannelUse}
+use Rattle.types.specs.declared.tree.Command.{Command}
+use Rattle.types.specs.declared.tree.Expression.{Expression}
+use Rattle.types.specs.declared.tree.Guarded.{Guarded}
+use Rattle.types.specs.declared.tree.Labelled.{Labelled}
+use Rattle.types.specs.declared.tree.VariableUse.{VariableUse}
+use Rattle.types.specs.declared.tree.Action.TheFolds.{the_lemmas}
 use Rattle.value.specs.declared.width.Width.{Width}
 
 -- ---- lists

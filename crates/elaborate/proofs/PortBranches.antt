@@ -5,12 +5,12 @@ use Rattle.elaborate.specs.Elaboration.{root_ports, port_channels, root_copies, 
 use Rattle.elaborate.specs.Environment.{branch_on, branches_from}
 use Rattle.elaborate.specs.Fit.{entry_named}
 use Rattle.elaborate.specs.Laws.{BranchesAreInPortOrder}
-use Rattle.stimulus.specs.declared.stimulus.Entry.{Entry}
+use Rattle.elaborate.specs.declared.stimulus.Entry.{Entry}
 use Rattle.system.specs.Named.{channel_name_at}
-use Rattle.typed.specs.declared.tree.Local.{Local}
-use Rattle.typed.specs.declared.tree.Port.{Port}
-use Rattle.typed.specs.declared.tree.PortKind.{PortKind}
-use Rattle.typed.specs.declared.tree.PortKind.TheVariants as port
+use Rattle.types.specs.declared.tree.Local.{Local}
+use Rattle.types.specs.declared.tree.Port.{Port}
+use Rattle.types.specs.declared.tree.PortKind.{PortKind}
+use Rattle.types.specs.declared.tree.PortKind.TheVariants as port
 
 pub branches_length : (entries : List Entry) (place : ℕ) (ports : List Port) → length (branches_from entries place ports) ≡ length ports
 branches_length entries place [] = refl

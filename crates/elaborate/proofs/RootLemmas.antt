@@ -9,8 +9,8 @@ use Rattle.elaborate.specs.Laws.{WithoutCallsIsItself}
 use Rattle.elaborate.specs.Naming.{Names}
 use Rattle.std.proofs.lemmas.List.{append-nil}
 use Rattle.system.specs.declared.command.Command as tree_command
-use Rattle.typed.specs.declared.tree.Local.{Local}
-use Rattle.typed.specs.declared.tree.Procedure.{Procedure}
+use Rattle.types.specs.declared.tree.Local.{Local}
+use Rattle.types.specs.declared.tree.Procedure.{Procedure}
 
 expansions_push : (es : List Expansion) (ps : List Procedure) (p : Procedure)
     → expansions_onto es (ps ++ p ∷ []) ≡ expansions_onto es ps ++ expansion_of (expansions_onto es ps) p ∷ []

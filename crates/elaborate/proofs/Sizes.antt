@@ -6,19 +6,19 @@ use Rattle.elaborate.specs.SourceSize.{Cut, whole, plain_nodes, beside, around, 
 use Rattle.elaborate.specs.internal.Limited.{limited}
 use Rattle.elaborate.specs.internal.SizeParts.{size_of_guarded, size_of_labelled, size_of_arm}
 use Rattle.elaborate.specs.declared.count.Size.{Size}
-use Rattle.typed.specs.declared.tree.Procedure.{Procedure}
-use Rattle.typed.specs.declared.tree.Expression.{Expression}
-use Rattle.typed.specs.declared.tree.Expression.TheOpen.{Expression-F}
-use Rattle.typed.specs.declared.tree.Expression.TheFolds.{map-Expression, fold-roll-Expression, ind-Expression}
-use Rattle.typed.specs.declared.tree.Expression.TheViews.{roll-Expression}
-use Rattle.typed.specs.declared.tree.Action.{Action}
-use Rattle.typed.specs.declared.tree.Arm.{Arm}
-use Rattle.typed.specs.declared.tree.Command.{Command}
-use Rattle.typed.specs.declared.tree.Guarded.{Guarded}
-use Rattle.typed.specs.declared.tree.Labelled.{Labelled}
-use Rattle.typed.specs.declared.tree.Action.TheOpen.{Action-F}
-use Rattle.typed.specs.declared.tree.Action.TheFolds.{map-Action, fold-Action, fold-roll-Action, fold-roll-Arm, fold-roll-Command, fold-roll-Guarded, fold-roll-Labelled, ind-Command}
-use Rattle.typed.specs.declared.tree.Action.TheViews.{roll-Action, roll-Arm, roll-Command, roll-Guarded, roll-Labelled}
+use Rattle.types.specs.declared.tree.Procedure.{Procedure}
+use Rattle.types.specs.declared.tree.Expression.{Expression}
+use Rattle.types.specs.declared.tree.Expression.TheOpen.{Expression-F}
+use Rattle.types.specs.declared.tree.Expression.TheFolds.{map-Expression, fold-roll-Expression, ind-Expression}
+use Rattle.types.specs.declared.tree.Expression.TheViews.{roll-Expression}
+use Rattle.types.specs.declared.tree.Action.{Action}
+use Rattle.types.specs.declared.tree.Arm.{Arm}
+use Rattle.types.specs.declared.tree.Command.{Command}
+use Rattle.types.specs.declared.tree.Guarded.{Guarded}
+use Rattle.types.specs.declared.tree.Labelled.{Labelled}
+use Rattle.types.specs.declared.tree.Action.TheOpen.{Action-F}
+use Rattle.types.specs.declared.tree.Action.TheFolds.{map-Action, fold-Action, fold-roll-Action, fold-roll-Arm, fold-roll-Command, fold-roll-Guarded, fold-roll-Labelled, ind-Command}
+use Rattle.types.specs.declared.tree.Action.TheViews.{roll-Action, roll-Arm, roll-Command, roll-Guarded, roll-Labelled}
 
 -- one procedure more
 pub sizes_more : (ps : List Procedure) (i : ℕ) (p : Procedure) (sizes : List Size) (s : Size) → i < length ps → p ≡ get_or ps i p

@@ -9,13 +9,13 @@ use Rattle.elaborate.specs.Size.{values_sent, all_values_sent}
 use Rattle.elaborate.specs.SourceSize.{sent, sent_on}
 use Rattle.elaborate.proofs.CopyLemmas.{sorted}
 use Rattle.elaborate.proofs.PortBranches.{branches_length}
-use Rattle.stimulus.specs.declared.stimulus.Entry.{Entry}
+use Rattle.elaborate.specs.declared.stimulus.Entry.{Entry}
 use Rattle.system.specs.declared.system.System.{System}
-use Rattle.typed.specs.declared.tree.Local.{Local}
-use Rattle.typed.specs.declared.tree.Port.{Port}
-use Rattle.typed.specs.declared.tree.PortKind.{PortKind}
-use Rattle.typed.specs.declared.tree.PortKind.TheVariants as kind
-use Rattle.typed.specs.declared.tree.Procedure.{Procedure}
+use Rattle.types.specs.declared.tree.Local.{Local}
+use Rattle.types.specs.declared.tree.Port.{Port}
+use Rattle.types.specs.declared.tree.PortKind.{PortKind}
+use Rattle.types.specs.declared.tree.PortKind.TheVariants as kind
+use Rattle.types.specs.declared.tree.Procedure.{Procedure}
 
 -- ---- what is sent on each port
 

@@ -1,12 +1,12 @@
 -- How much there is to do before a command is made, its calls included: what each recursion has less of.
 use Rattle.std.proofs.Common.{ℕ, ◌+◌, ◌≤◌, ◌<◌, ◌≡◌, suc, zero, List, [], ◌∷◌, Option, Some, None, map, take, length, get_or, arith, rules, ap}
-use Rattle.typed.specs.declared.tree.Command.{Command}
-use Rattle.typed.specs.declared.tree.Guarded.{Guarded}
-use Rattle.typed.specs.declared.tree.Labelled.{Labelled}
-use Rattle.typed.specs.declared.tree.Arm.{Arm}
-use Rattle.typed.specs.declared.tree.Procedure.{Procedure}
-use Rattle.typed.specs.declared.tree.Action.TheOpen.{Action-F, Arm-F, Command-F, Guarded-F, Labelled-F}
-use Rattle.typed.specs.declared.tree.Action.TheFolds.{fold-Command, fold-Guarded, fold-Labelled, fold-Arm, the_lemmas}
+use Rattle.types.specs.declared.tree.Command.{Command}
+use Rattle.types.specs.declared.tree.Guarded.{Guarded}
+use Rattle.types.specs.declared.tree.Labelled.{Labelled}
+use Rattle.types.specs.declared.tree.Arm.{Arm}
+use Rattle.types.specs.declared.tree.Procedure.{Procedure}
+use Rattle.types.specs.declared.tree.Action.TheOpen.{Action-F, Arm-F, Command-F, Guarded-F, Labelled-F}
+use Rattle.types.specs.declared.tree.Action.TheFolds.{fold-Command, fold-Guarded, fold-Labelled, fold-Arm, the_lemmas}
 
 -- all numbers together
 abbrev pub total : List ℕ → ℕ

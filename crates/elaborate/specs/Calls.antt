@@ -6,8 +6,8 @@ use Rattle.elaborate.specs.Naming.{Names, channels_of}
 use Rattle.syntax.specs.Texts.{Text}
 use Rattle.system.specs.Named.{prefix_of_call}
 use Rattle.system.specs.declared.command.Command as tree_command
-use Rattle.typed.specs.declared.tree.Local.{Local}
-use Rattle.typed.specs.declared.tree.Procedure.{Procedure}
+use Rattle.types.specs.declared.tree.Local.{Local}
+use Rattle.types.specs.declared.tree.Procedure.{Procedure}
 
 -- how a procedure is entered: what stands before the names of its copies, the copies that come before them, and the
 -- channel that stands for each of its ports

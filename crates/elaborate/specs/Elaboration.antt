@@ -8,11 +8,11 @@ use Rattle.elaborate.specs.Size.{system_size, IsSmall}
 use Rattle.system.specs.declared.command.Command as tree_command
 use Rattle.refusals.specs.declared.elaborate.Fault.{Fault}
 use Rattle.refusals.specs.declared.elaborate.Fault.TheVariants.{Memory, TooManyNodes, BadStimulus}
-use Rattle.stimulus.specs.declared.stimulus.Entry.{Entry}
+use Rattle.elaborate.specs.declared.stimulus.Entry.{Entry}
 use Rattle.system.specs.declared.system.System.{System}
-use Rattle.typed.specs.declared.tree.Local.{Local}
-use Rattle.typed.specs.declared.tree.Procedure.{Procedure}
-use Rattle.typed.specs.declared.tree.Port.{Port}
+use Rattle.types.specs.declared.tree.Local.{Local}
+use Rattle.types.specs.declared.tree.Procedure.{Procedure}
+use Rattle.types.specs.declared.tree.Port.{Port}
 
 -- the ports of a procedure, none where there is none
 abbrev pub ports_of : Option Procedure → List Port

@@ -3,14 +3,14 @@ use Rattle.std.specs.Prelude.{ℕ, ◌+◌, List, [], ◌∷◌, Option, Some, N
 use Rattle.value.specs.Word.{Word, most_bits, resized}
 use Rattle.system.specs.Expression.{word}
 use Rattle.elaborate.specs.Fit.{entry_named}
-use Rattle.stimulus.specs.declared.stimulus.Given.{Given}
-use Rattle.stimulus.specs.declared.stimulus.Given.TheVariants.{Values, Syncs}
-use Rattle.stimulus.specs.declared.stimulus.Entry.{Entry}
+use Rattle.elaborate.specs.declared.stimulus.Given.{Given}
+use Rattle.elaborate.specs.declared.stimulus.Given.TheVariants.{Values, Syncs}
+use Rattle.elaborate.specs.declared.stimulus.Entry.{Entry}
 use Rattle.system.specs.declared.system.Branch.{Branch}
 use Rattle.system.specs.declared.system.Branch.TheVariants as branch
-use Rattle.typed.specs.declared.tree.Port.{Port}
-use Rattle.typed.specs.declared.tree.PortKind.{PortKind}
-use Rattle.typed.specs.declared.tree.PortKind.TheVariants as kind
+use Rattle.types.specs.declared.tree.Port.{Port}
+use Rattle.types.specs.declared.tree.PortKind.{PortKind}
+use Rattle.types.specs.declared.tree.PortKind.TheVariants as kind
 
 -- numbers as values of a width, which holds them where the stimulus fits
 abbrev pub at_width : ℕ → List ℕ → List Word

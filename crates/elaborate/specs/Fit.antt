@@ -2,12 +2,12 @@
 use Rattle.std.specs.Prelude.{ℕ, ◌+◌, ◌^◌, nat_lt, nat_eq, Bool, true, false, ◌&&◌, not, is_some, if◌then◌else◌, List, [], ◌∷◌, ◌++◌, Option, Some, None}
 use Rattle.std.specs.Cmp.Lexicographic.{pointwise}
 use Rattle.syntax.specs.Texts.{Text}
-use Rattle.stimulus.specs.declared.stimulus.Given.{Given}
-use Rattle.stimulus.specs.declared.stimulus.Given.TheVariants.{Values, Syncs}
-use Rattle.stimulus.specs.declared.stimulus.Entry.{Entry}
-use Rattle.typed.specs.declared.tree.Port.{Port}
-use Rattle.typed.specs.declared.tree.PortKind.{PortKind}
-use Rattle.typed.specs.declared.tree.PortKind.TheVariants as kind
+use Rattle.elaborate.specs.declared.stimulus.Given.{Given}
+use Rattle.elaborate.specs.declared.stimulus.Given.TheVariants.{Values, Syncs}
+use Rattle.elaborate.specs.declared.stimulus.Entry.{Entry}
+use Rattle.types.specs.declared.tree.Port.{Port}
+use Rattle.types.specs.declared.tree.PortKind.{PortKind}
+use Rattle.types.specs.declared.tree.PortKind.TheVariants as kind
 
 -- the kind of the port of this name
 abbrev pub kind_named : List Port → Text → Option PortKind

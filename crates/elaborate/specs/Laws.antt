@@ -10,13 +10,13 @@ use Rattle.elaborate.specs.SameShape.{Standing, SameCommand, HasLocals, IsPort, 
 use Rattle.elaborate.specs.Size.{system_size}
 use Rattle.elaborate.specs.SourcePlaces.{root_places}
 use Rattle.elaborate.specs.SourceSize.{source_size}
-use Rattle.stimulus.specs.declared.stimulus.Entry.{Entry}
+use Rattle.elaborate.specs.declared.stimulus.Entry.{Entry}
 use Rattle.syntax.specs.Lists.{In, Every}
 use Rattle.syntax.specs.Texts.{Text}
 use Rattle.system.specs.Named.{channel_name_at}
 use Rattle.system.specs.declared.system.System.{System}
-use Rattle.typed.specs.declared.tree.Port.{Port}
-use Rattle.typed.specs.declared.tree.Procedure.{Procedure}
+use Rattle.types.specs.declared.tree.Port.{Port}
+use Rattle.types.specs.declared.tree.Procedure.{Procedure}
 
 -- no two of the names are equal
 abbrev pub Distinct : List Text → Type 0

@@ -12,3 +12,4 @@ pub mod SourceSize
 pub mod SameShape
 pub mod Laws
 pub mod internal
+pub mod StimulusText

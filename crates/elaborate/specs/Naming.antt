@@ -1,12 +1,12 @@
 -- What the names of a body stand for.
 use Rattle.std.specs.Prelude.{ℕ, List, map, slice_index_or}
-use Rattle.typed.specs.declared.tree.Binding.{Binding}
-use Rattle.typed.specs.declared.tree.Binding.TheVariants as binding
-use Rattle.typed.specs.declared.tree.ChannelUse.{ChannelUse}
-use Rattle.typed.specs.declared.tree.VariableUse.{VariableUse}
-use Rattle.typed.specs.declared.tree.Expression.{Expression}
-use Rattle.typed.specs.declared.tree.Expression.TheOpen.{Expression-F}
-use Rattle.typed.specs.declared.tree.Expression.TheFolds.{fold-Expression}
+use Rattle.types.specs.declared.tree.Binding.{Binding}
+use Rattle.types.specs.declared.tree.Binding.TheVariants as binding
+use Rattle.types.specs.declared.tree.ChannelUse.{ChannelUse}
+use Rattle.types.specs.declared.tree.VariableUse.{VariableUse}
+use Rattle.types.specs.declared.tree.Expression.{Expression}
+use Rattle.types.specs.declared.tree.Expression.TheOpen.{Expression-F}
+use Rattle.types.specs.declared.tree.Expression.TheFolds.{fold-Expression}
 use Rattle.system.specs.declared.expression.Use.{Use}
 use Rattle.system.specs.declared.expression.Expression as named
 use Rattle.system.specs.declared.expression.Expression.TheViews as expression

@@ -1,10 +1,10 @@
 -- The places of the commands of a source, where the body of a procedure stands at the place of its call.
 use Rattle.std.specs.Prelude.{ℕ, ◌-◌, List, [], ◌∷◌, ◌++◌, length, slice_index_or}
 use Rattle.elaborate.specs.Places.{Places, with_children, and_last}
-use Rattle.typed.specs.declared.tree.Command.{Command}
-use Rattle.typed.specs.declared.tree.Procedure.{Procedure}
-use Rattle.typed.specs.declared.tree.Action.TheOpen.{Action-F, Arm-F, Command-F, Guarded-F, Labelled-F}
-use Rattle.typed.specs.declared.tree.Action.TheFolds.{fold-Command}
+use Rattle.types.specs.declared.tree.Command.{Command}
+use Rattle.types.specs.declared.tree.Procedure.{Procedure}
+use Rattle.types.specs.declared.tree.Action.TheOpen.{Action-F, Arm-F, Command-F, Guarded-F, Labelled-F}
+use Rattle.types.specs.declared.tree.Action.TheFolds.{fold-Command}
 
 -- one layer of a command, where these are the places of the bodies of procedures
 abbrev pub source_layer : List Places → Action-F Places Places Places Places Places → Places

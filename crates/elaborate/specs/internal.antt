@@ -6,3 +6,5 @@ pub mod Making
 pub mod NamePositions
 pub mod SizeParts
 pub mod Walked
+pub mod CutAt
+pub mod LineParts

@@ -15,13 +15,13 @@ use crate::made::Made;
 use std::alloc::{AllocError, Global};
 use syntax::Items;
 use system::{Action, Arm, Command, Guarded, Labelled};
-use typed::{ChannelUse, Procedure};
+use types::{ChannelUse, Procedure};
 
 /// The command with numbers for its names and bodies for its calls. `earlier` has the procedures that it may call.
 #[cycle(body)]
 fn command_of(
     alloc: Global,
-    command: &typed::Command,
+    command: &types::Command,
     instance: &Instance,
     earlier: &[Procedure],
     made: &mut Made,
@@ -33,52 +33,52 @@ fn command_of(
 {
     let line = command.line;
     match command.action.get() {
-        typed::Action::Call(procedure, arguments) => {
+        types::Action::Call(procedure, arguments) => {
             let call = made.calls.saturating_add(1);
             let entrance = instance.entrance(alloc, arguments.as_slice(), call)?;
             let body = called_body(alloc, *procedure as usize, entrance, earlier, made)?;
             made.calls = call;
             Ok(body)
         }
-        typed::Action::Loop(body) => loop_of(alloc, body, line, instance, earlier, made),
-        typed::Action::While(guard, body) => {
+        types::Action::Loop(body) => loop_of(alloc, body, line, instance, earlier, made),
+        types::Action::While(guard, body) => {
             while_of(alloc, body, line, guard, instance, earlier, made)
         }
-        typed::Action::If(arms, last) => {
+        types::Action::If(arms, last) => {
             if_of(alloc, arms.as_slice(), last, line, instance, earlier, made)
         }
-        typed::Action::Case(subject, arms, last) => {
+        types::Action::Case(subject, arms, last) => {
             let arms = arms.as_slice();
             let subject = subject.get();
             case_of(alloc, arms, last, line, subject, instance, earlier, made)
         }
-        typed::Action::Input(channel, body) => {
+        types::Action::Input(channel, body) => {
             input_of(alloc, body, line, *channel, instance, earlier, made)
         }
-        typed::Action::Select(arms) => {
+        types::Action::Select(arms) => {
             select_of(alloc, arms.as_slice(), line, instance, earlier, made)
         }
-        typed::Action::Arbitrate(arms) => {
+        types::Action::Arbitrate(arms) => {
             arbitrate_of(alloc, arms.as_slice(), line, instance, earlier, made)
         }
-        typed::Action::Sequence(children) => {
+        types::Action::Sequence(children) => {
             sequence_of(alloc, children.as_slice(), line, instance, earlier, made)
         }
-        typed::Action::Parallel(children) => {
+        types::Action::Parallel(children) => {
             parallel_of(alloc, children.as_slice(), line, instance, earlier, made)
         }
-        typed::Action::Continue => continue_command(alloc, line),
-        typed::Action::Halt => halt_command(alloc, line),
-        typed::Action::Assign(variable, width, value) => {
+        types::Action::Continue => continue_command(alloc, line),
+        types::Action::Halt => halt_command(alloc, line),
+        types::Action::Assign(variable, width, value) => {
             instance.assign_command(alloc, line, *variable, *width, value)
         }
-        typed::Action::Send(channel, width, value) => {
+        types::Action::Send(channel, width, value) => {
             instance.send_command(alloc, line, *channel, *width, value)
         }
-        typed::Action::Receive(channel, variable) => {
+        types::Action::Receive(channel, variable) => {
             instance.receive_command(alloc, line, *channel, *variable)
         }
-        typed::Action::Sync(channel) => instance.sync_command(alloc, line, *channel),
+        types::Action::Sync(channel) => instance.sync_command(alloc, line, *channel),
     }
 }
 
@@ -88,7 +88,7 @@ fn command_of(
 #[inline(never)]
 fn loop_of(
     alloc: Global,
-    inside: &typed::Command,
+    inside: &types::Command,
     line: u64,
     instance: &Instance,
     earlier: &[Procedure],
@@ -109,9 +109,9 @@ fn loop_of(
 #[inline(never)]
 fn while_of(
     alloc: Global,
-    inside: &typed::Command,
+    inside: &types::Command,
     line: u64,
-    guard: &typed::Expression,
+    guard: &types::Expression,
     instance: &Instance,
     earlier: &[Procedure],
     made: &mut Made,
@@ -132,8 +132,8 @@ fn while_of(
 #[inline(never)]
 fn if_of(
     alloc: Global,
-    arms: &[typed::Guarded],
-    last: &Option<typed::Command>,
+    arms: &[types::Guarded],
+    last: &Option<types::Command>,
     line: u64,
     instance: &Instance,
     earlier: &[Procedure],
@@ -158,10 +158,10 @@ fn if_of(
 #[inline(never)]
 fn case_of(
     alloc: Global,
-    arms: &[typed::Labelled],
-    last: &Option<typed::Command>,
+    arms: &[types::Labelled],
+    last: &Option<types::Command>,
     line: u64,
-    subject: &typed::Expression,
+    subject: &types::Expression,
     instance: &Instance,
     earlier: &[Procedure],
     made: &mut Made,
@@ -185,7 +185,7 @@ fn case_of(
 #[inline(never)]
 fn input_of(
     alloc: Global,
-    inside: &typed::Command,
+    inside: &types::Command,
     line: u64,
     channel: ChannelUse,
     instance: &Instance,
@@ -208,7 +208,7 @@ fn input_of(
 #[inline(never)]
 fn select_of(
     alloc: Global,
-    arms: &[typed::Arm],
+    arms: &[types::Arm],
     line: u64,
     instance: &Instance,
     earlier: &[Procedure],
@@ -230,7 +230,7 @@ fn select_of(
 #[inline(never)]
 fn arbitrate_of(
     alloc: Global,
-    arms: &[typed::Arm],
+    arms: &[types::Arm],
     line: u64,
     instance: &Instance,
     earlier: &[Procedure],
@@ -252,7 +252,7 @@ fn arbitrate_of(
 #[inline(never)]
 fn sequence_of(
     alloc: Global,
-    children: &[typed::Command],
+    children: &[types::Command],
     line: u64,
     instance: &Instance,
     earlier: &[Procedure],
@@ -274,7 +274,7 @@ fn sequence_of(
 #[inline(never)]
 fn parallel_of(
     alloc: Global,
-    children: &[typed::Command],
+    children: &[types::Command],
     line: u64,
     instance: &Instance,
     earlier: &[Procedure],
@@ -295,7 +295,7 @@ fn parallel_of(
 #[cycle(body)]
 fn commands_of(
     alloc: Global,
-    commands: &[typed::Command],
+    commands: &[types::Command],
     instance: &Instance,
     earlier: &[Procedure],
     made: &mut Made,
@@ -317,7 +317,7 @@ fn commands_of(
 #[cycle(body)]
 fn guarded_of(
     alloc: Global,
-    arms: &[typed::Guarded],
+    arms: &[types::Guarded],
     instance: &Instance,
     earlier: &[Procedure],
     made: &mut Made,
@@ -340,7 +340,7 @@ fn guarded_of(
 #[cycle(body)]
 fn labelled_of(
     alloc: Global,
-    arms: &[typed::Labelled],
+    arms: &[types::Labelled],
     instance: &Instance,
     earlier: &[Procedure],
     made: &mut Made,
@@ -364,7 +364,7 @@ fn labelled_of(
 #[cycle(body)]
 fn arms_of(
     alloc: Global,
-    arms: &[typed::Arm],
+    arms: &[types::Arm],
     instance: &Instance,
     earlier: &[Procedure],
     made: &mut Made,
@@ -387,7 +387,7 @@ fn arms_of(
 #[cycle(body)]
 fn last_of(
     alloc: Global,
-    last: &Option<typed::Command>,
+    last: &Option<types::Command>,
     instance: &Instance,
     earlier: &[Procedure],
     made: &mut Made,
@@ -425,7 +425,7 @@ pub fn called_body(
         earlier = &earlier[..called];
         let instance = made.instance(alloc, entrance, procedure.locals.as_slice())?;
         match procedure.body.action.get() {
-            typed::Action::Call(next, arguments) => {
+            types::Action::Call(next, arguments) => {
                 called = *next as usize;
                 entrance = instance.into_entrance(alloc, arguments.as_slice())?;
             }

@@ -7,7 +7,7 @@ ghost use Rattle.elaborate.specs.internal.Limited.{limited};
 ghost use Rattle.elaborate.specs.internal.SizeParts.{size_of_guarded, size_of_labelled, size_of_arm};
 
 use std::alloc::{AllocError, Global};
-use typed::{Action, Arm, Command, Expression, Guarded, Labelled, Procedure};
+use types::{Action, Arm, Command, Expression, Guarded, Labelled, Procedure};
 
 /// The most nodes of a system.
 const MOST_NODES: u32 = 16384;

@@ -8,11 +8,11 @@ ghost use Rattle.elaborate.specs.internal.Walked.{walked_branches};
 
 use crate::lookups::NamedEntries;
 use crate::made::capped_number;
+use crate::{Entry, Given};
 use std::alloc::{AllocError, Global};
-use stimulus::{Entry, Given};
 use syntax::Items;
 use system::Branch;
-use typed::{Port, PortKind};
+use types::{Port, PortKind};
 use value::{MOST_BITS, Value, Width};
 
 /// The branch of the environment for each port.

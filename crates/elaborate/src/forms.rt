@@ -6,7 +6,7 @@ use crate::instance::Instance;
 use std::alloc::{AllocError, Global};
 use syntax::Items;
 use system::{Action, Arm, Command, Guarded, Labelled};
-use typed::{ChannelUse, VariableUse};
+use types::{ChannelUse, VariableUse};
 use value::Width;
 
 /// `continue`.
@@ -95,7 +95,7 @@ impl Instance {
         &self,
         alloc: Global,
         line: u64,
-        guard: &typed::Expression,
+        guard: &types::Expression,
         body: Command,
     ) -> Result<Command, AllocError>
         ensures { IfOk result (λ made.
@@ -111,7 +111,7 @@ impl Instance {
         &self,
         alloc: Global,
         line: u64,
-        subject: &typed::Expression,
+        subject: &types::Expression,
         arms: Items<Labelled>,
         last: Option<Command>,
     ) -> Result<Command, AllocError>
@@ -146,7 +146,7 @@ impl Instance {
         line: u64,
         variable: VariableUse,
         width: Width,
-        value: &typed::Expression,
+        value: &types::Expression,
     ) -> Result<Command, AllocError>
         ensures { IfOk result (λ made.
             made
@@ -173,7 +173,7 @@ impl Instance {
         line: u64,
         channel: ChannelUse,
         width: Width,
-        value: &typed::Expression,
+        value: &types::Expression,
     ) -> Result<Command, AllocError>
         ensures { IfOk result (λ made.
             made

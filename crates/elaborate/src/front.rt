@@ -2,7 +2,7 @@
 ghost use Rattle.std.specs.Prelude.{◌≡◌, ◌⊎◌, List, [], ◌++◌, None, IfErr, OnOk};
 ghost use Rattle.elaborate.specs.Elaboration as model;
 ghost use Rattle.elaborate.specs.Fit as fit;
-ghost use Rattle.stimulus.specs.declared.stimulus.Entry.{Entry};
+ghost use Rattle.elaborate.specs.declared.stimulus.Entry.{Entry};
 ghost use Rattle.refusals.specs.declared.elaborate.Fault.TheVariants.{Memory};
 
 use crate::lookups::{NamedEntries, NamedPorts};
@@ -10,7 +10,7 @@ use crate::pass::root_ports;
 use crate::ports::misfit;
 use crate::{Fault, Stimulus};
 use std::alloc::Global;
-use typed::Typed;
+use types::Typed;
 
 /// Refuses a stimulus that begins with the entries of `front`, where one of them does not fit the ports of the root, as
 /// `elaborate` says: it refuses that line, whatever entries stand behind.

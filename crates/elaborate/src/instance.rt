@@ -5,7 +5,7 @@ ghost use Rattle.elaborate.specs.Naming.{operator_of, number_at};
 use std::alloc::{AllocError, Global};
 use syntax::{Boxed, Items};
 use system::{Expression, Operator, Prefix, Use};
-use typed::{Binding, ChannelUse, VariableUse};
+use types::{Binding, ChannelUse, VariableUse};
 use value::Comparison;
 
 /// What the names of a procedure stand for where it is called.
@@ -120,27 +120,27 @@ impl Instance {
     pub fn expression(
         &self,
         alloc: Global,
-        expression: &typed::Expression,
+        expression: &types::Expression,
     ) -> Result<Expression, AllocError>
         ensures { IfOk result (λ made. made ≡ instances.expression_in self.now expression.now) }
     {
         Ok(match expression {
-            typed::Expression::Constant(value) => Expression::Constant(*value),
-            typed::Expression::Variable(named, width) => {
+            types::Expression::Constant(value) => Expression::Constant(*value),
+            types::Expression::Variable(named, width) => {
                 Expression::Variable(self.variable_use(*named), *width)
             }
-            typed::Expression::Received(binding, width) => {
+            types::Expression::Received(binding, width) => {
                 Expression::Received(self.channel(*binding), *width)
             }
-            typed::Expression::Binary(operator, left, right) => {
+            types::Expression::Binary(operator, left, right) => {
                 let left = Boxed::new(alloc, self.expression(alloc, left.get())?)?;
                 let right = Boxed::new(alloc, self.expression(alloc, right.get())?)?;
                 Expression::Binary(operator_of(*operator), left, right)
             }
-            typed::Expression::Not(operand) => {
+            types::Expression::Not(operand) => {
                 Expression::Not(Boxed::new(alloc, self.expression(alloc, operand.get())?)?)
             }
-            typed::Expression::Cast(operand, width) => {
+            types::Expression::Cast(operand, width) => {
                 let operand = self.expression(alloc, operand.get())?;
                 Expression::Cast(Boxed::new(alloc, operand)?, *width)
             }

@@ -3,11 +3,11 @@ ghost use Rattle.std.specs.Prelude.{◌≡◌, is_some, option_map, slice_get, t
 ghost use Rattle.std.specs.Option.{option_copied};
 ghost use Rattle.elaborate.specs.Fit as fit;
 
+use crate::Entry;
 use crate::names::Places;
 use std::alloc::{AllocError, Global};
 use std::marker::Model;
-use stimulus::Entry;
-use typed::{Port, PortKind};
+use types::{Port, PortKind};
 
 /// Ports by name, which contracts see as their list.
 #[derive(Drop)]
@@ -18,7 +18,7 @@ pub struct NamedPorts<'a> {
 
 impl<'a> Model for NamedPorts<'a> {
     ghost use Rattle.std.specs.Prelude.{◌≡◌, List, map};
-    ghost use Rattle.typed.specs.declared.tree.Port.{Port};
+    ghost use Rattle.types.specs.declared.tree.Port.{Port};
 
     ghost Value = { List Port };
 
@@ -71,7 +71,7 @@ pub struct NamedEntries<'a> {
 
 impl<'a> Model for NamedEntries<'a> {
     ghost use Rattle.std.specs.Prelude.{◌≡◌, List, map};
-    ghost use Rattle.stimulus.specs.declared.stimulus.Entry.{Entry};
+    ghost use Rattle.elaborate.specs.declared.stimulus.Entry.{Entry};
 
     ghost Value = { List Entry };
 

@@ -6,7 +6,7 @@ use crate::instance::{Entrance, Instance};
 use std::alloc::{AllocError, Global};
 use syntax::Items;
 use system::{Channel, ChannelKind, Prefix, QualifiedName, Variable};
-use typed::{Local, LocalKind, Port, PortKind};
+use types::{Local, LocalKind, Port, PortKind};
 use value::Width;
 
 /// What is made so far.

@@ -11,11 +11,10 @@ use crate::instance::Entrance;
 use crate::lookups::{NamedEntries, NamedPorts};
 use crate::made::Made;
 use crate::ports::{misfit, value_count};
-use crate::{Fault, Stimulus};
+use crate::{Entry, Fault, Stimulus};
 use std::alloc::{AllocError, Global};
-use stimulus::Entry;
 use system::{Prefix, System, VariableTable};
-use typed::{Port, Procedure, Typed};
+use types::{Port, Procedure, Typed};
 
 /// The one system that the description and the stimulus give: its last procedure is the root, whose body is the main
 /// part, and the environment has a branch for each port of it.

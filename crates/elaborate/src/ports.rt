@@ -6,8 +6,8 @@ ghost use Rattle.elaborate.specs.Fit as fit;
 ghost use Rattle.elaborate.specs.SourceSize as source;
 
 use crate::lookups::{NamedEntries, NamedPorts};
-use stimulus::{Entry, Given};
-use typed::{Port, PortKind};
+use crate::{Entry, Given};
+use types::{Port, PortKind};
 use value::{Value, Width};
 
 /// The line of the first entry that does not fit the ports, if there is one.

@@ -9,7 +9,7 @@ use crate::files::{Files, Source};
 use crate::texts::{Names, Part, Texts};
 use debug_session::{Fault, accept, accept_leaving};
 use sharing_check::Checked;
-use typed::Typed;
+use types::Typed;
 
 /// Keeps what the description of this name holds.
 fn read_source<F: Files>(from: &Source<'_, F>, file: &str, texts: &mut Texts) -> Result<(), Fault>

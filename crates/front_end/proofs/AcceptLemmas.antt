@@ -7,7 +7,7 @@ use Rattle.system.specs.declared.system.System.{System}
 use Rattle.sharing_check.specs.Refusal as sharing
 use Rattle.refusals.specs.declared.sharing_check.Fault as sharing_check
 use Rattle.refusals.specs.declared.sharing_check.Fault.TheVariants as not_shared
-use Rattle.typed.specs.declared.tree.Procedure.{Procedure}
+use Rattle.types.specs.declared.tree.Procedure.{Procedure}
 use Rattle.typed_source.specs.Source as typed_source
 use Rattle.typed_source.specs.Source.{IsTyped}
 use Rattle.typed_source.specs.declared.fault.Fault as typed_source_fault

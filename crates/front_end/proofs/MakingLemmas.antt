@@ -4,12 +4,12 @@ use Rattle.std.specs.Result.{IfOk, OnOk, IfErr}
 use Rattle.std.proofs.lemmas.List.{append-nil}
 use Rattle.elaborate.specs.Elaboration as elaboration
 use Rattle.syntax.specs.Texts.{lines}
-use Rattle.stimulus.specs.StimulusText.{AreEntries, FirstOther}
+use Rattle.elaborate.specs.StimulusText.{AreEntries, FirstOther}
 use Rattle.refusals.specs.declared.elaborate.Fault as elaborate
 use Rattle.refusals.specs.declared.elaborate.Fault.TheVariants as no_system
-use Rattle.stimulus.specs.declared.stimulus.Entry.{Entry}
+use Rattle.elaborate.specs.declared.stimulus.Entry.{Entry}
 use Rattle.system.specs.declared.system.System.{System}
-use Rattle.typed.specs.declared.tree.Procedure.{Procedure}
+use Rattle.types.specs.declared.tree.Procedure.{Procedure}
 use Rattle.front_end.specs.Accepting.{MakesOne, MakesNone}
 
 -- the stimulus has a line of another form

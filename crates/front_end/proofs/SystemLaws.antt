@@ -4,7 +4,7 @@ use Rattle.elaborate.specs.Laws as elaborate
 use Rattle.elaborate.specs.Size.{IsSmall, system_size}
 use Rattle.syntax.specs.Lists.{Every}
 use Rattle.syntax.specs.Texts.{Text}
-use Rattle.typed.specs.declared.tree.Procedure.{Procedure}
+use Rattle.types.specs.declared.tree.Procedure.{Procedure}
 use Rattle.typed_source.specs.Laws.{HasOwnNames, NamesAreOwn}
 use Rattle.types.specs.Laws as types
 use Rattle.front_end.specs.Laws.{NamesAreDistinct, SystemIsSmall}

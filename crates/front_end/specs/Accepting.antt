@@ -2,14 +2,14 @@
 use Rattle.std.specs.Prelude.{◌≡◌, ◌≢◌, ◌⊎◌, ℕ, List}
 use Rattle.elaborate.specs.Elaboration as elaboration
 use Rattle.syntax.specs.Texts.{lines}
-use Rattle.stimulus.specs.StimulusText.{AreEntries, FirstOther}
+use Rattle.elaborate.specs.StimulusText.{AreEntries, FirstOther}
 use Rattle.refusals.specs.declared.elaborate.Fault as elaborate
 use Rattle.refusals.specs.declared.elaborate.Fault.TheVariants as no_system
-use Rattle.stimulus.specs.declared.stimulus.Entry.{Entry}
+use Rattle.elaborate.specs.declared.stimulus.Entry.{Entry}
 use Rattle.system.specs.declared.system.System.{System}
 use Rattle.sharing_check.specs.Refusal as sharing
 use Rattle.refusals.specs.declared.sharing_check.Fault.TheVariants as not_shared
-use Rattle.typed.specs.declared.tree.Procedure.{Procedure}
+use Rattle.types.specs.declared.tree.Procedure.{Procedure}
 use Rattle.typed_source.specs.Source as typed_source
 use Rattle.typed_source.specs.Source.{IsTyped}
 use Rattle.typed_source.specs.declared.fault.Fault.TheVariants as not_typed

@@ -6,8 +6,8 @@ use crate::Fault;
 use crate::make::make_system;
 use sharing_check::{Checked, check_sharing};
 use std::alloc::Global;
-use typed::Typed;
 use typed_source::typed_source;
+use types::Typed;
 
 /// The system that a typed source and the stimulus describe, or why they describe none. (It only borrows the typed
 /// source, whose nodes are dropped when all else is made: what is freed before makes each large block dear.)

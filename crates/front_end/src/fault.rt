@@ -1,5 +1,5 @@
 ghost use Rattle.std.specs.Prelude.{◌≡◌};
-ghost use Rattle.front_end.specs.FaultNumbers.{source_number, source_offset, fault_number, fault_field};
+ghost use Rattle.front_end.specs.FaultNumbers.{fault_number, fault_field};
 ghost use Rattle.front_end.specs.Wrapping.{of_source, of_elaborate, of_sharing};
 
 use thiserror::Error;
@@ -27,7 +27,7 @@ impl Fault {
     {
         match self {
             Fault::Memory => 1,
-            Fault::Source(fault) => number_of_source(fault),
+            Fault::Source(fault) => fault.number(),
             Fault::Elaborate(fault) => fault.number(),
             Fault::Sharing(fault) => fault.number(),
         }
@@ -39,34 +39,10 @@ impl Fault {
     {
         match self {
             Fault::Memory => None,
-            Fault::Source(fault) => offset_in_source(fault),
+            Fault::Source(fault) => fault.offset(),
             Fault::Elaborate(fault) => fault.line(),
             Fault::Sharing(fault) => fault.offset(),
         }
-    }
-}
-
-/// The number that stands for a refusal of the source.
-fn number_of_source(fault: &typed_source::Fault) -> u32
-    ensures { result ≡ source_number fault.now }
-{
-    match fault {
-        typed_source::Fault::Memory => 1,
-        typed_source::Fault::Lexer(fault) => fault.number(),
-        typed_source::Fault::Parser(fault) => fault.number(),
-        typed_source::Fault::Types(fault) => fault.number(),
-    }
-}
-
-/// Where a fault of the source is.
-fn offset_in_source(fault: &typed_source::Fault) -> Option<u64>
-    ensures { result ≡ source_offset fault.now }
-{
-    match fault {
-        typed_source::Fault::Memory => None,
-        typed_source::Fault::Lexer(fault) => fault.offset(),
-        typed_source::Fault::Parser(fault) => fault.offset(),
-        typed_source::Fault::Types(fault) => fault.offset(),
     }
 }
 

@@ -1,14 +1,14 @@
 //! The system of a description and a stimulus. A long stimulus that does not fit is refused by its first entries.
 ghost use Rattle.std.specs.Prelude.{◌≡◌, ◌⊎◌, IfOk, IfErr};
 ghost use Rattle.front_end.specs.Accepting.{MakesNone, MakesOne};
-ghost use Rattle.stimulus.specs.StimulusText.{AreEntries};
+ghost use Rattle.elaborate.specs.StimulusText.{AreEntries};
 ghost use Rattle.syntax.specs.Texts.{lines};
 ghost use Rattle.refusals.specs.declared.elaborate.Fault.TheVariants.{Memory};
 
 use elaborate::{Fault, Front, Stimulus, elaborate, refuse_front};
 use std::alloc::Global;
 use system::System;
-use typed::Typed;
+use types::Typed;
 
 /// How many entries of a stimulus are made before it is asked whether they fit the ports of the root.
 const FIRST_ENTRIES: usize = 65_536;

@@ -1,9 +1,10 @@
 // What was received in the arms around a place of a tree.
 ghost use Rattle.std.specs.Prelude.{◌≡◌, [], false, IfOk, OnOk};
 ghost use Rattle.system.specs.Translation.{expression_of, decision_of};
-ghost use Rattle.process_tree.specs.Remaining.{with_value};
+ghost use Rattle.process_tree.specs.Remaining.{Received, with_value};
 ghost use Rattle.process_tree.specs.internal.Received.{puts_value, puts_decision};
 ghost use Rattle.local_actions.specs.Walk.{outside};
+ghost use Rattle.local_actions.specs.internal.At.{IsKept};
 ghost use Rattle.local_actions.specs.internal.Walk.{put_each, put_each_decision};
 
 use std::alloc::{AllocError, Global};
@@ -94,6 +95,55 @@ impl Around {
         ensures { IfOk result (λ made. decision_of made ≡ puts_decision self.now (decision_of decision.now)) }
     {
         put_in_decision(alloc, decision, self.arrived.as_slice())
+    }
+}
+
+/// What a walk down along a place has received in the arms on its way. It is lost where there was no memory for it.
+#[derive(Drop)]
+pub struct OnWay {
+    pub around: Around,
+    pub is_lost: bool,
+}
+
+impl OnWay {
+    /// Nothing, before the first arm.
+    pub(crate) fn new(alloc: Global) -> OnWay
+        ensures { IsKept result [] }
+    {
+        OnWay {
+            around: Around::new(alloc),
+            is_lost: false,
+        }
+    }
+
+    /// What was received. It is an error if there was no memory for it.
+    pub(crate) fn around(&self) -> Result<&Around, AllocError>
+        ensures { IfOk result (λ around. (env : Received) → IsKept self.now env → around.now ≡ env) }
+    {
+        if self.is_lost {
+            return Err(AllocError);
+        }
+        Ok(&self.around)
+    }
+
+    /// The same, where the walk is at its end.
+    pub(crate) fn into_around(self) -> Result<Around, AllocError>
+        ensures { IfOk result (λ around. (env : Received) → IsKept self env → around ≡ env) }
+    {
+        let OnWay { around, is_lost } = self;
+        if is_lost {
+            return Err(AllocError);
+        }
+        Ok(around)
+    }
+
+    /// Goes into one more arm that opened on the channel, and received this if anything.
+    pub(crate) fn receive(&mut self, channel: u32, value: Option<Value>)
+        ensures { (env : Received) → IsKept self.old env → IsKept self.new (with_value channel value env) }
+    {
+        if self.around.receive(channel, value).is_err() {
+            self.is_lost = true;
+        }
     }
 }
 

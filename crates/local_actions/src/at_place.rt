@@ -1,5 +1,5 @@
 // The actions at one place of a tree, and those below it.
-ghost use Rattle.std.specs.Prelude.{◌≡◌, ◌↔◌, Some, IfOk};
+ghost use Rattle.std.specs.Prelude.{◌≡◌, ◌↔◌, Some, IfOk, OnErr};
 ghost use Rattle.syntax.specs.Lists.{In};
 ghost use Rattle.process_tree.specs.Tidy.{Tidy};
 ghost use Rattle.process_tree.specs.View.{tree_view};
@@ -10,7 +10,7 @@ ghost use Rattle.local_actions.specs.declared.action.ActionKind as any_kind;
 ghost use Rattle.local_actions.specs.declared.action.LocalAction as any;
 
 use crate::action::{ActionKind, LocalAction};
-use crate::around::Around;
+use crate::around::OnWay;
 use crate::cursor::Cursor;
 use crate::down::down;
 use crate::site::{chosen, list_site};
@@ -23,7 +23,7 @@ use syntax::Items;
 /// Exactly the action that the tree offers at this place and that opens this arm, 0 where it opens none, over the values
 /// of the store, where the tree is tidy, as each is that stands for a run; there is one at most. It goes down along the
 /// place, and into no branch beside it but to see whether what comes first is finished. It is an error if there is no
-/// memory.
+/// memory, and only where there is such an action.
 pub fn action_at(
     alloc: Global,
     tree: &Tree,
@@ -31,14 +31,17 @@ pub fn action_at(
     place: &Address,
     arm: u32,
 ) -> Result<Option<ActionKind>, AllocError>
-    ensures { Tidy (tree_view tree.now) →
+    ensures found { Tidy (tree_view tree.now) →
         IfOk result (λ found. (action : any_kind.ActionKind) →
         (found ≡ Some action)
         ↔ (Offered (state_of tree.now store.now) (action_at place.now action) × (opened_arm action ≡ arm))) }
+    ensures offered { Tidy (tree_view tree.now) →
+        OnErr result ((action : any_kind.ActionKind)
+        × Offered (state_of tree.now store.now) (action_at place.now action) × (opened_arm action ≡ arm)) }
 {
-    let mut around = Around::new(alloc);
-    let site = down(tree.root(), place.entries(), &mut around)?;
-    chosen(alloc, site, arm, store.as_slice(), &around)
+    let mut way = OnWay::new(alloc);
+    let site = down(tree.root(), place.entries(), &mut way);
+    chosen(alloc, site, arm, store.as_slice(), &way)
 }
 
 /// Exactly the actions that the tree offers at this place and below it over the values of the store, where the tree is
@@ -54,9 +57,9 @@ pub fn actions_below(
         IfOk result (λ actions. (x : any.LocalAction) →
         In x actions ↔ (Offered (state_of tree.now store.now) x × Under place.now x.place)) }
 {
-    let mut around = Around::new(alloc);
-    let site = down(tree.root(), place, &mut around)?;
-    let mut cursor = Cursor::at(alloc, place, around)?;
+    let mut way = OnWay::new(alloc);
+    let site = down(tree.root(), place, &mut way);
+    let mut cursor = Cursor::at(alloc, place, way.into_around()?)?;
     list_site(alloc, site, store.as_slice(), &mut cursor)?;
     Ok(cursor.into_found())
 }

@@ -1,5 +1,5 @@
 // The walk down along a place, to what offers actions there.
-ghost use Rattle.std.specs.Prelude.{◌≡◌, ◌<◌, ℕ, [], ◌∷◌, List, length, map, IfOk};
+ghost use Rattle.std.specs.Prelude.{◌≡◌, ◌<◌, ◌+◌, ◌*◌, ℕ, [], ◌∷◌, List, length, map};
 ghost use Rattle.address.specs.declared.Entry.TheVariants.{Ordered as IsOrdered};
 ghost use Rattle.system.specs.Expression as model_expression;
 ghost use Rattle.process_tree.specs.Code as model_code;
@@ -10,43 +10,38 @@ ghost use Rattle.process_tree.specs.Translation.{row_of};
 ghost use Rattle.process_tree.specs.View.{code_view, sender_view, phase_view, proc_view, procs_of, begun_of, row_view, repeat_view, decide_view, await_view, turn_of, opened_of};
 ghost use Rattle.process_tree.specs.internal.Parts.{turns_view, tested_view, gate_view};
 ghost use Rattle.local_actions.specs.Walk.{action_at, below};
-ghost use Rattle.local_actions.specs.internal.At.{Leads, at_site, only_kind, under};
+ghost use Rattle.local_actions.specs.internal.At.{Leads, LeadsOn, at_site, only_kind, under};
 ghost use Rattle.local_actions.specs.internal.Listed.{open_actions};
+ghost use Rattle.local_actions.specs.declared.site.Only.TheVariants.{Again};
 
-use crate::around::Around;
-use crate::leaves::act_of_turn;
-use crate::list::{body_of_turn, next_turn};
+use crate::around::OnWay;
 use crate::over::{first_start_over, is_over, is_reached};
-use crate::place::{below_child, branch_step, is_act, ordered_step};
+use crate::place::{below_body, below_child, branch_step, is_act, is_act_behind, ordered_step};
 use crate::site::{Only, Site};
 use address::Entry;
 use process_tree::{Await, Code, Decide, Gate, Phase, Proc, Repeat, Row, Sender, Tested, Turns};
-use std::alloc::AllocError;
 use value::Value;
 
 /// Goes down along the place from the process, and into no branch beside it but to see whether what comes first is
-/// finished.
+/// finished. What was received on the way may be lost.
 #[cycle(down)]
-pub(crate) fn down<'t>(
-    proc: &'t Proc,
-    place: &[Entry],
-    around: &mut Around,
-) -> Result<Site<'t>, AllocError>
-    ensures { IfOk result (λ site. Leads (proc_view proc.now) place.now around.old around.new site) }
+pub(crate) fn down<'t>(proc: &'t Proc, place: &[Entry], way: &mut OnWay) -> Site<'t>
+    ensures { LeadsOn (proc_view proc.now) place.now way.old way.new result }
 {
     if place.is_empty() {
-        return Ok(Site::Begun(proc));
+        return Site::Begun(proc);
     }
     match proc {
-        Proc::Idle | Proc::Stopped => Ok(Site::Nothing),
-        Proc::Once(_, _) => Ok(Site::Nothing),
-        Proc::Sender(sender, phase) => Ok(phase_down(sender.get(), *phase, place)),
-        Proc::Loop(repeat, turns) => loop_down(turns, repeat.get(), place, around),
-        Proc::Test(decide, tested) => test_down(tested, decide.get(), place, around),
-        Proc::Arms(waiting, gate) => arms_down(gate, waiting.get(), place, around),
-        Proc::Sequence(row, begun) => sequence_down(begun.as_slice(), row.get(), place, around),
-        Proc::Parallel(procs) => parallel_down(procs.as_slice(), place, around),
-        Proc::Drained(channel, count) => Ok(act_down(place, *count, Only::Drain(*channel))),
+        Proc::Idle => Site::Nothing,
+        Proc::Stopped => Site::Nothing,
+        Proc::Once(_, _) => Site::Nothing,
+        Proc::Sender(sender, phase) => phase_down(sender.get(), *phase, place),
+        Proc::Loop(repeat, turns) => loop_down(turns, repeat.get(), place, way),
+        Proc::Test(decide, tested) => test_down(tested, decide.get(), place, way),
+        Proc::Arms(waiting, gate) => arms_down(gate, waiting.get(), place, way),
+        Proc::Sequence(row, begun) => sequence_down(begun.as_slice(), row.get(), place, way),
+        Proc::Parallel(procs) => parallel_down(procs.as_slice(), place, way),
+        Proc::Drained(channel, count) => act_down(place, *count, Only::Drain(*channel)),
     }
 }
 
@@ -78,21 +73,15 @@ fn phase_down<'t>(sender: &'t Sender, phase: Phase, place: &[Entry]) -> Site<'t>
 
 /// Goes down in a loop.
 #[cycle(down)]
-fn loop_down<'t>(
-    turns: &'t Turns,
-    repeat: &'t Repeat,
-    place: &[Entry],
-    around: &mut Around,
-) -> Result<Site<'t>, AllocError>
+fn loop_down<'t>(turns: &'t Turns, repeat: &'t Repeat, place: &[Entry], way: &mut OnWay) -> Site<'t>
     requires { 0 < length place.now }
-    ensures { IfOk result (λ site.
-        Leads (turns_view turns.now (repeat_view repeat.now).0 (repeat_view repeat.now).1) place.now around.old
-        around.new site) }
+    ensures { LeadsOn (turns_view turns.now (repeat_view repeat.now).0 (repeat_view repeat.now).1)
+        place.now way.old way.new result }
 {
     match turns {
-        Turns::Fresh => Ok(act_down(place, 0, Only::Again(repeat))),
-        Turns::EndedAtOnce => Ok(Site::Nothing),
-        Turns::Turn(turn, over, body) => turn_down(body, *turn, *over, repeat, place, around),
+        Turns::Fresh => act_down(place, 0, Only::Again(repeat)),
+        Turns::EndedAtOnce => Site::Nothing,
+        Turns::Turn(turn, over, body) => turn_down(body, *turn, *over, repeat, place, way),
     }
 }
 
@@ -104,24 +93,35 @@ fn turn_down<'t>(
     over: bool,
     repeat: &'t Repeat,
     place: &[Entry],
-    around: &mut Around,
-) -> Result<Site<'t>, AllocError>
+    way: &mut OnWay,
+) -> Site<'t>
     requires { 0 < length place.now }
-    ensures { IfOk result (λ site.
-        Leads (turn_of over (repeat_view repeat.now).0 (repeat_view repeat.now).1 turn (proc_view body.now)) place.now
-        around.old around.new site) }
+    ensures { LeadsOn (turn_of over (repeat_view repeat.now).0 (repeat_view repeat.now).1 turn (proc_view body.now))
+        place.now way.old way.new result }
 {
     if over {
-        return Ok(Site::Nothing);
+        return Site::Nothing;
     }
-    if let Some(below) = below_child(place, body_of_turn(turn)?) {
-        return down(body, below, around);
+    if let Some(below) = below_body(place, turn) {
+        return down(body, below, way);
     }
     if !is_over(body) {
-        return Ok(Site::Nothing);
+        return Site::Nothing;
     }
-    let act = act_of_turn(next_turn(turn)?)?;
-    Ok(act_down(place, act, Only::Again(repeat)))
+    behind_turn_down(repeat, turn, place)
+}
+
+/// To what a loop offers behind this turn, if that is the place.
+fn behind_turn_down<'t>(repeat: &'t Repeat, turn: u64, place: &[Entry]) -> Site<'t>
+    requires { 0 < length place.now }
+    ensures { (s : model_expression.Store) (env : Received) →
+        under place.now (action_at (IsOrdered (2 * (turn + 1)) ∷ []) (only_kind s env (Again repeat.entry)) ∷ [])
+        ≡ below place.now (at_site s env result) }
+{
+    if is_act_behind(place, turn) {
+        return Site::Only(Only::Again(repeat));
+    }
+    Site::Nothing
 }
 
 /// Goes down in an `if` or `case`.
@@ -130,40 +130,33 @@ fn test_down<'t>(
     tested: &'t Tested,
     decide: &'t Decide,
     place: &[Entry],
-    around: &mut Around,
-) -> Result<Site<'t>, AllocError>
+    way: &mut OnWay,
+) -> Site<'t>
     requires { 0 < length place.now }
-    ensures { IfOk result (λ site.
-        Leads (tested_view tested.now (decide_view decide.now).0 (decide_view decide.now).1) place.now around.old
-        around.new site) }
+    ensures { LeadsOn (tested_view tested.now (decide_view decide.now).0 (decide_view decide.now).1)
+        place.now way.old way.new result }
 {
     match tested {
-        Tested::Untested => Ok(act_down(place, 0, Only::Test(decide))),
-        Tested::Skipped => Ok(Site::Nothing),
+        Tested::Untested => act_down(place, 0, Only::Test(decide)),
+        Tested::Skipped => Site::Nothing,
         Tested::Took(_, body) => match below_child(place, 1) {
-            Some(below) => down(body, below, around),
-            None => Ok(Site::Nothing),
+            Some(below) => down(body, below, way),
+            None => Site::Nothing,
         },
     }
 }
 
 /// Goes down in arms that wait, or in the one that opened.
 #[cycle(down)]
-fn arms_down<'t>(
-    gate: &'t Gate,
-    waiting: &'t Await,
-    place: &[Entry],
-    around: &mut Around,
-) -> Result<Site<'t>, AllocError>
+fn arms_down<'t>(gate: &'t Gate, waiting: &'t Await, place: &[Entry], way: &mut OnWay) -> Site<'t>
     requires { 0 < length place.now }
-    ensures { IfOk result (λ site.
-        Leads (gate_view gate.now (await_view waiting.now).0 (await_view waiting.now).1) place.now around.old
-        around.new site) }
+    ensures { LeadsOn (gate_view gate.now (await_view waiting.now).0 (await_view waiting.now).1)
+        place.now way.old way.new result }
 {
     match gate {
-        Gate::Unopened => Ok(opens_down(waiting, place)),
+        Gate::Unopened => opens_down(waiting, place),
         Gate::Opened(channel, value, over, body) => {
-            opened_down(body, *channel, *value, *over, place, around)
+            opened_down(body, *channel, *value, *over, place, way)
         }
     }
 }
@@ -188,74 +181,62 @@ fn opened_down<'t>(
     value: Option<Value>,
     over: bool,
     place: &[Entry],
-    around: &mut Around,
-) -> Result<Site<'t>, AllocError>
+    way: &mut OnWay,
+) -> Site<'t>
     requires { 0 < length place.now }
     ensures { (ds : List ℕ) (cs : model_code.Codes) →
-        IfOk result (λ site.
-        Leads (opened_of over ds cs channel value (proc_view body.now)) place.now around.old around.new site) }
+        LeadsOn (opened_of over ds cs channel value (proc_view body.now)) place.now way.old way.new result }
 {
     if over {
-        return Ok(Site::Nothing);
+        return Site::Nothing;
     }
     if let Some(below) = below_child(place, 1) {
-        around.receive(channel, value)?;
-        return down(body, below, around);
+        way.receive(channel, value);
+        return down(body, below, way);
     }
     if !is_over(body) {
-        return Ok(Site::Nothing);
+        return Site::Nothing;
     }
-    Ok(act_down(place, 2, Only::Close(channel)))
+    act_down(place, 2, Only::Close(channel))
 }
 
 /// Goes down in a sequence, if its work has come to the child.
 #[cycle(down)]
-fn sequence_down<'t>(
-    begun: &'t [Proc],
-    row: &'t Row,
-    place: &[Entry],
-    around: &mut Around,
-) -> Result<Site<'t>, AllocError>
+fn sequence_down<'t>(begun: &'t [Proc], row: &'t Row, place: &[Entry], way: &mut OnWay) -> Site<'t>
     requires { 0 < length place.now }
-    ensures { IfOk result (λ site.
-        Leads (model.sequence (begun_of (map proc_view begun.now) (row_view row.now))) place.now around.old around.new
-        site) }
+    ensures { LeadsOn (model.sequence (begun_of (map proc_view begun.now) (row_view row.now)))
+        place.now way.old way.new result }
 {
     let Some((number, below)) = ordered_step(place) else {
-        return Ok(Site::Nothing);
+        return Site::Nothing;
     };
     let child = number as usize;
     if !is_reached(begun, row, child) {
-        return Ok(Site::Nothing);
+        return Site::Nothing;
     }
     if child < begun.len().min(row.codes.len()) {
-        return down(&begun[child], below, around);
+        return down(&begun[child], below, way);
     }
     match row.codes.get(child) {
-        Some(code) => Ok(fresh_down(code, below)),
-        None => Ok(Site::Nothing),
+        Some(code) => fresh_down(code, below),
+        None => Site::Nothing,
     }
 }
 
 /// Goes down in a branch of a parallel.
 #[cycle(down)]
-fn parallel_down<'t>(
-    procs: &'t [Proc],
-    place: &[Entry],
-    around: &mut Around,
-) -> Result<Site<'t>, AllocError>
+fn parallel_down<'t>(procs: &'t [Proc], place: &[Entry], way: &mut OnWay) -> Site<'t>
     requires { 0 < length place.now }
-    ensures { IfOk result (λ site.
-        Leads (model.parallel (procs_of (map proc_view procs.now))) place.now around.old around.new site) }
+    ensures { LeadsOn (model.parallel (procs_of (map proc_view procs.now))) place.now way.old way.new result }
 {
     let Some((number, below)) = branch_step(place) else {
-        return Ok(Site::Nothing);
+        return Site::Nothing;
     };
     let branch = number as usize;
     if branch >= procs.len() {
-        return Ok(Site::Nothing);
+        return Site::Nothing;
     }
-    down(&procs[branch], below, around)
+    down(&procs[branch], below, way)
 }
 
 /// Goes down in a command that has made no move.

@@ -1,15 +1,16 @@
 // Where a walk down along a place ends, and what is offered there.
-ghost use Rattle.std.specs.Prelude.{◌≡◌, ℕ, [], IfOk, OnOk};
+ghost use Rattle.std.specs.Prelude.{◌≡◌, ℕ, [], IfOk, IsSome, OnOk, OnErr};
 ghost use Rattle.system.specs.Expression as model;
 ghost use Rattle.process_tree.specs.Proc.{started};
 ghost use Rattle.process_tree.specs.Remaining.{Received};
-ghost use Rattle.process_tree.specs.View.{code_view, proc_view};
+ghost use Rattle.process_tree.specs.View.{code_view, once_view, proc_view};
+ghost use Rattle.process_tree.specs.internal.Received.{puts_once};
 ghost use Rattle.local_actions.specs.Walk.{added};
-ghost use Rattle.local_actions.specs.internal.At.{at_site, chosen, once_chosen, only_kind, opens_here};
+ghost use Rattle.local_actions.specs.internal.At.{IsKept, at_site, chosen, once_chosen, once_kind, only_kind, opens_here};
 ghost use Rattle.local_actions.specs.internal.Listed.{listed};
 
 use crate::action::ActionKind;
-use crate::around::Around;
+use crate::around::{Around, OnWay};
 use crate::cursor::{Cursor, small};
 use crate::fresh::list_fresh;
 use crate::kinds::{kind_of_again, kind_of_held, kind_of_once, kind_of_sender, kind_of_test};
@@ -96,22 +97,39 @@ pub(crate) fn chosen(
     site: Site<'_>,
     arm: u32,
     values: &[Value],
-    around: &Around,
+    way: &OnWay,
 ) -> Result<Option<ActionKind>, AllocError>
-    ensures { IfOk result (λ found. found ≡ chosen [] arm (at_site values.now around.now site.entry)) }
+    ensures found { (env : Received) → IsKept way.now env →
+        IfOk result (λ found. found ≡ chosen [] arm (at_site values.now env site.entry)) }
+    ensures offered { (env : Received) → OnErr result (IsSome (chosen [] arm (at_site values.now env site.entry))) }
 {
     match site {
-        Site::Begun(proc) => chosen_once(alloc, once_at(proc), arm, values, around),
-        Site::Fresh(code) => chosen_once(alloc, fresh_once(code), arm, values, around),
+        Site::Begun(proc) => chosen_once(alloc, once_at(proc), arm, values, way),
+        Site::Fresh(code) => chosen_once(alloc, fresh_once(code), arm, values, way),
         Site::Arms(waiting) => Ok(opening(&waiting.channels, arm)),
         Site::Only(only) => {
             if arm > 0 {
                 return Ok(None);
             }
-            Ok(Some(kind_of(alloc, only, values, around)?))
+            match kind_on_way(alloc, only, values, way) {
+                Ok(kind) => Ok(Some(kind)),
+                Err(error) => Err(error),
+            }
         }
         Site::Nothing => Ok(None),
     }
+}
+
+/// The action of what offers one alone, behind the arms on the way.
+fn kind_on_way(
+    alloc: Global,
+    only: Only<'_>,
+    values: &[Value],
+    way: &OnWay,
+) -> Result<ActionKind, AllocError>
+    ensures { (env : Received) → IsKept way.now env → IfOk result (λ kind. kind ≡ only_kind values.now env only.entry) }
+{
+    kind_of(alloc, only, values, way.around()?)
 }
 
 /// The action of what offers one alone.
@@ -140,9 +158,11 @@ fn chosen_once(
     once: Option<&Once>,
     arm: u32,
     values: &[Value],
-    around: &Around,
+    way: &OnWay,
 ) -> Result<Option<ActionKind>, AllocError>
-    ensures { IfOk result (λ found. found ≡ once_chosen values.now around.now arm once.entry) }
+    ensures found { (env : Received) → IsKept way.now env →
+        IfOk result (λ found. found ≡ once_chosen values.now env arm once.entry) }
+    ensures offered { (env : Received) → OnErr result (IsSome (once_chosen values.now env arm once.entry)) }
 {
     match once {
         None => Ok(None),
@@ -150,9 +170,25 @@ fn chosen_once(
             if arm > 0 {
                 return Ok(None);
             }
-            Ok(Some(kind_of_once(alloc, once, values, around)?))
+            match once_on_way(alloc, once, values, way) {
+                Ok(kind) => Ok(Some(kind)),
+                Err(error) => Err(error),
+            }
         }
     }
+}
+
+/// The action of what makes one move, behind the arms on the way.
+fn once_on_way(
+    alloc: Global,
+    once: &Once,
+    values: &[Value],
+    way: &OnWay,
+) -> Result<ActionKind, AllocError>
+    ensures { (env : Received) → IsKept way.now env →
+        IfOk result (λ kind. kind ≡ once_kind values.now (puts_once env (once_view once.now))) }
+{
+    kind_of_once(alloc, once, values, way.around()?)
 }
 
 /// What the process offers at its own place, where it makes one move.

@@ -3,9 +3,8 @@ use Rattle.std.proofs.Common.{inl, [], ◌∷◌, map, refl}
 use Rattle.runs.proofs.public.ObjectLaws.{stays-over-lists}
 use Rattle.machine.proofs.public.HeadlineLaws.{headline}
 use Rattle.locked_execution.specs.AtDesk.{execution}
-use Rattle.locked_execution.specs.Bridge.{commands_of}
 use Rattle.locked_execution.specs.Histories.{HistoryIsAnswered, HistoryKeepsHeadline}
-use Rattle.locked_execution.proofs.public.BridgeLaws.{are-on-execution}
+use Rattle.locked_execution.proofs.public.BridgeLaws.{commands_of, are-on-execution}
 
 pub history-is-answered : HistoryIsAnswered
 history-is-answered d d' [] is = (refl, is)

@@ -1,5 +1,6 @@
 pub mod public
 mod BranchReplies
+mod BranchSteps
 mod CallCounts
 mod CrewLaws
 mod Crossing
@@ -9,6 +10,7 @@ mod HistoryLaws
 mod LineLaws
 mod MachineCrossing
 mod OneReplies
+mod SessionLists
 mod SomeReplies
 mod SystemCrossing
 mod TreeCrossing

@@ -9,14 +9,14 @@ use Rattle.address.proofs.Entry.TheSendSync as entryCrosses
 use Rattle.dependence.proofs.kept.Kept.TheSendSync as keptCrosses
 use Rattle.dependence.proofs.links.Links.TheSendSync as linksCrosses
 use Rattle.dependence.specs.contracts.live.Live as live
-use Rattle.last_events.proofs.branch.BranchEvents.TheLaws.TheKnot as branchKnot
+use Rattle.dependence.proofs.branch.BranchEvents.TheLaws.TheKnot as branchKnot
 use Rattle.runs.proofs.event.Event.TheSendSync as eventCrosses
 use Rattle.runs.proofs.event.Kind.TheSendSync as kindCrosses
 use Rattle.system.proofs.variables.Variables.TheSendSync as variablesCrosses
 use Rattle.store.proofs.Store.TheSendSync as storeSend
 use Rattle.channel_uses.specs.contracts.ChannelUses as uses
 use Rattle.machine.specs.contracts.machine.Machine as machine
-use Rattle.last_events.proofs.uses.UseTable.TheSendSync as useTableCrosses
+use Rattle.dependence.proofs.uses.UseTable.TheSendSync as useTableCrosses
 use Rattle.std.below.std_collections.proofs.btree.node.Node.TheSendSync as nodeCrosses
 use Rattle.std.below.std_collections.proofs.btree.node.root.Root.TheSendSync as rootCrosses
 use Rattle.std.below.std_collections.proofs.btree.tree.Tree.TheSendSync as treeCrosses

@@ -1,8 +1,7 @@
 -- What workers did, of the passes that they were given.
-use Rattle.std.proofs.Common.{◌≡◌, ℕ, zero, suc, ◌≤◌, ◌+◌, ◌*◌, Bool, List, [], ◌∷◌, ◌++◌, length, Some, None, refl, sym, ap, ◌∙◌, subst, arith}
+use Rattle.std.proofs.Common.{◌≡◌, ℕ, suc, ◌≤◌, ◌+◌, ◌*◌, Bool, List, [], ◌∷◌, ◌++◌, length, Some, refl, sym, ap, ◌∙◌, subst, arith}
 use Rattle.std.specs.Prelude.{slice_get}
 use Rattle.std.proofs.Math.Nat.{mul_comm}
-use Rattle.std.proofs.lemmas.Option.{none-some}
 use Rattle.atomic_table.specs.Seated.{TableId}
 use Rattle.recorded_calls.specs.declared.entry.Entry.{Entry}
 use Rattle.recorded_calls.specs.History.{calls_by}
@@ -20,16 +19,6 @@ use Rattle.locked_execution.specs.Sharing.{History, is_step}
 use Rattle.locked_execution.specs.declared.command.Command.{Command}
 use Rattle.locked_execution.specs.declared.command.Reply.{Reply}
 use Rattle.locked_execution.specs.Working.{unstepped, HasAllOf, CountsLive, Worked}
-
--- where there is no element the list has ended
-past : {X : Type 0} (xs : List X) (i : ℕ) → slice_get xs i ≡ None → length xs ≤ i
-past [] i e = omega arith
-past (x ∷ xs) zero e = absurd (none-some x (sym e))
-past (x ∷ xs) (suc i) e = let h = past xs i e in omega arith
-
--- and where each place before it has one, they are as many
-pub counted_at : {X : Type 0} (xs : List X) (n : ℕ) → n ≤ length xs → slice_get xs n ≡ None → n ≡ length xs
-counted_at xs n within none = let h = past xs n none in omega arith
 
 -- a list of no length has no elements
 pub none_left : {X : Type 0} (xs : List X) → length xs ≡ 0 → xs ≡ []

@@ -1,6 +1,5 @@
 pub mod Answered
 pub mod AtDesk
-pub mod Bridge
 pub mod Calls
 pub mod Frames
 pub mod GoingBack

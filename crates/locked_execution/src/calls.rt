@@ -4,7 +4,6 @@ ghost use mathlib.Core.List.{IsPrefix};
 ghost use Rattle.machine.specs.Headline.{Headline};
 ghost use Rattle.recorded_calls.specs.History.{NoCallsFrom};
 ghost use Rattle.object_workers.specs.Runs.{WorkersRan, AllSawLegal};
-ghost use Rattle.locked_object.specs.Keepers.{IsKeeperOf, passes_made};
 ghost use Rattle.locked_object.specs.Passes.{number, seen_history, own, told_history};
 ghost use Rattle.locked_object.specs.Sharing.{NewPasses};
 ghost use Rattle.locked_execution.specs.AtDesk.{execution, new_desk};
@@ -13,8 +12,7 @@ ghost use Rattle.locked_execution.specs.Calls.{IsPassOf, ArePassesOf, Answered, 
 ghost use Rattle.locked_execution.specs.declared.command.Command as any;
 ghost use Rattle.system_places.specs.SystemBranches.{branch_count};
 
-use crate::shared::Kept;
-use crate::{Board, Command, Desk, Fault, Pass, Reply, Shared};
+use crate::{Command, Desk, Fault, Pass, Reply, Shared};
 use locked_object::NotRecorded;
 use machine::Machine;
 use object_workers::{Gate, Ran, run_workers};
@@ -143,14 +141,5 @@ impl Shared {
         let (board, mut keeper) = self.object.close(rt);
         keeper.show(&board, pass);
         keeper.into_object().into_machine()
-    }
-
-    /// The word of recorded calls and the keeper, once no pass calls it any more.
-    pub(crate) fn close<W: Wait>(self, rt: &W) -> (Board, Kept)
-        ensures board { result.0 ≡ self.object.board }
-        ensures keeper { IsKeeperOf Keeps result.0.table.shared.table_id result.0.table.shared.key result.1 }
-        ensures passes { passes_made result.1 ≡ passes_of self }
-    {
-        self.object.close(rt)
     }
 }

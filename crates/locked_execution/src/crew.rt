@@ -1,15 +1,14 @@
 // Workers in threads of their own over a system: how many steps they took, and what is live in the end.
 ghost use Rattle.std.specs.Prelude.{◌≡◌, ◌≤◌, ◌<◌, ◌⊎◌, length, IfOk, MatchOption};
 ghost use Rattle.object_workers.specs.Runs.{PassesFit};
-ghost use Rattle.locked_object.specs.Keepers.{IsKeeperOf, passes_made};
+ghost use Rattle.locked_object.specs.Keepers.{IsKeeperOf, history, passes_made};
 ghost use Rattle.locked_execution.specs.Sharing.{Keeps};
-ghost use Rattle.locked_execution.specs.Working.{Worked, CountsLive};
+ghost use Rattle.locked_execution.specs.Working.{Worked, CountsLive, HasAllOf};
 
 use crate::shared::Kept;
 use crate::{Board, Pass, Shared};
 use machine::Machine;
 use object_workers::Gate;
-use runs::MOST_LIVE_EVENTS;
 use sharing_check::Checked;
 use std::alloc::{AllocError, Global};
 use std::sync::Wait;
@@ -75,7 +74,7 @@ impl Crew {
         let (execution, passes) = Shared::new(alloc, machine, self.workers)?;
         match execution.run_workers(rt, alloc, passes, &Open, self.turns) {
             Ok(ran) => {
-                let (board, keeper) = execution.close(rt);
+                let (board, keeper) = execution.object.close(rt);
                 Ok(Tally {
                     stepped: ran.stepped,
                     live: live_behind(&board, keeper, ran.passes),
@@ -93,22 +92,20 @@ fn live_behind(board: &Board, mut keeper: Kept, passes: Vec<Pass>) -> u64
     requires passes { PassesFit board.now.table.shared.table_id board.now.table.shared.key passes.items }
     ensures { CountsLive board.now.table.shared.key passes.items result }
 {
+    show_all(board, &mut keeper, passes);
+    let machine = keeper.into_object().into_machine();
+    machine.live_events().len() as u64
+}
+
+/// Shows the recorded history to the passes: it has all their calls.
+fn show_all(board: &Board, keeper: &mut Kept, passes: Vec<Pass>)
+    requires keeper { IsKeeperOf Keeps board.now.table.shared.table_id board.now.table.shared.key keeper.old }
+    requires passes { PassesFit board.now.table.shared.table_id board.now.table.shared.key passes.items }
+    ensures keeper { IsKeeperOf Keeps board.now.table.shared.table_id board.now.table.shared.key keeper.new }
+    ensures count { passes_made keeper.new ≡ passes_made keeper.old }
+    ensures all { HasAllOf (history keeper.new) passes.items }
+{
     for mut pass in passes {
         keeper.show(board, &mut pass);
     }
-    let machine = keeper.into_object().into_machine();
-    live_count(&machine)
-}
-
-/// How many events of the machine are live.
-fn live_count(machine: &Machine) -> u64
-    ensures { result ≡ length machine.now.live }
-{
-    machine.is_sound();
-    for index in 0..MOST_LIVE_EVENTS {
-        let Some(_) = machine.live_at(index) else {
-            return index;
-        };
-    }
-    MOST_LIVE_EVENTS
 }

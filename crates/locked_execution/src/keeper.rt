@@ -56,7 +56,7 @@ impl Shared {
         ensures keeper { IsKeeperOf Keeps result.0.table.shared.table_id result.0.table.shared.key result.1.kept }
         ensures passes { passes_made result.1.kept ≡ passes_of self }
     {
-        let (board, kept) = self.close(rt);
+        let (board, kept) = self.object.close(rt);
         (board, Keeper { kept })
     }
 }

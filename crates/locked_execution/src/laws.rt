@@ -1,17 +1,9 @@
 // Laws of the desk, each the contract of a function that does nothing.
-ghost use Rattle.locked_execution.specs.Bridge.{IsOnExecution, AreOnExecution};
 ghost use Rattle.locked_execution.specs.Frames.{OnlyBreaksAndClears, OthersKeepTheirs, OthersKeepTheirsOverLists, BreakLeavesExecution, ClearLeavesExecution, RefusalLeavesAll, BreakSets, ClearClears};
 ghost use Rattle.locked_execution.specs.GoingBack.{NoneTakeLess, RollTakesNoOthers, ConsequencesTellRoll, ValueFromBefore, AllAmountToBackAndForth};
 ghost use Rattle.locked_execution.specs.Histories.{HistoryIsAnswered, HistoryKeepsHeadline};
-ghost use Rattle.locked_execution.specs.Replies.{OneReply, SomeReply, AnsweredJoins};
+ghost use Rattle.locked_execution.specs.Replies.{OneReply, SomeReply, BranchIsStep, AnsweredJoins, SessionsKeepSound, SessionsGrow};
 ghost use Rattle.locked_execution.specs.Working.{LiveAreStepped};
-
-/// What sessions are answered is what their execution answers to its own commands, a step in a branch being the step
-/// of the event that it took. So each law on lists of commands of an execution holds of those of sessions.
-pub fn execution_laws()
-    ensures one { IsOnExecution }
-    ensures lists { AreOnExecution }
-{}
 
 /// Breakpoints change by the breaks and the clears of their session alone, as it asks, and these leave the execution.
 /// A refusal leaves everything.
@@ -26,12 +18,16 @@ pub fn breakpoint_laws()
     ensures clears { ClearClears }
 {}
 
-/// Each command of a session has exactly one reply, which determines the execution and all breakpoints after it.
-/// Lists of commands that are answered one after the other are answered as one.
+/// Each command of a session has exactly one reply, which determines the execution and all breakpoints after it. A step
+/// in a branch is the step of the event that it took. Lists of commands that are answered one after the other are
+/// answered as one, leave a sound execution sound, and use no ticket again.
 pub fn reply_laws()
     ensures one { OneReply }
     ensures some { SomeReply }
+    ensures branch { BranchIsStep }
     ensures joins { AnsweredJoins }
+    ensures sound { SessionsKeepSound }
+    ensures grows { SessionsGrow }
 {}
 
 /// What depends on an event goes with it, whatever sessions ask; a rollback takes that and no more, and the

@@ -20,9 +20,7 @@ pub use crew::{Crew, MOST_TURNS, MOST_WORKERS, Tally};
 pub use desk::Desk;
 pub use fault::Fault;
 pub use keeper::Keeper;
-pub use laws::{
-    breakpoint_laws, crew_laws, execution_laws, history_laws, reply_laws, rollback_laws,
-};
+pub use laws::{breakpoint_laws, crew_laws, history_laws, reply_laws, rollback_laws};
 pub use machine::{Breaks, Machine, Ticket, Var};
 pub use object_workers::{Gate, Ran};
 pub use runs::{Choice, Event, Kind, Refusal};

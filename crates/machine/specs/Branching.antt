@@ -13,7 +13,7 @@ use Rattle.runs.specs.Does.{Steps, Does, RefusesStep}
 use Rattle.runs.specs.declared.event.Event.{Event}
 use Rattle.runs.specs.Commands.{Command, Reply}
 use Rattle.runs.specs.declared.command.Refusal.TheVariants.{Memory}
-use Rattle.event_places.specs.EventPlaces.{line_after}
+use Rattle.dependence.specs.EventPlaces.{line_after}
 use Rattle.machine.specs.AtMachine.{AtMachine, object}
 use Rattle.machine.specs.declared.branch.BranchReply.{BranchReply}
 use Rattle.machine.specs.declared.branch.BranchReply.TheVariants.{Stepped, Stopped, Idle, Refused}

@@ -18,7 +18,7 @@ use crate::history::History;
 use address::Entry;
 use allowed_events::ready_below;
 use channel_uses::ChannelUses;
-use event_places::line_after;
+use dependence::line_after;
 use runs::{Event, Refusal};
 use sharing_check::Checked;
 use std::alloc::{AllocError, Global};

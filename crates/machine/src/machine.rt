@@ -10,7 +10,7 @@ ghost use Rattle.process_tree.specs.Tidy.{Tidy};
 ghost use Rattle.process_tree.specs.View.{tree_view};
 ghost use Rattle.local_actions.specs.Actions.{OffersExactly, Precedes};
 ghost use Rattle.local_actions.specs.View.{state_of};
-ghost use Rattle.event_places.specs.EventPlaces.{line_after, is_open_after};
+ghost use Rattle.dependence.specs.EventPlaces.{line_after, is_open_after};
 ghost use Rattle.dependence.specs.Shown.{Greatest};
 ghost use Rattle.machine.specs.Branching.{AnswersBranch};
 ghost use Rattle.machine.specs.AtMachine.{object};
@@ -25,8 +25,7 @@ use crate::reply::or_no_memory;
 use crate::{Breaks, Fault};
 use address::Address;
 use channel_uses::ChannelUses;
-use dependence::Live;
-use event_places::{line_after, select_after};
+use dependence::{Live, line_after, select_after};
 use local_actions::LocalAction;
 use process_tree::{Tree, system_code};
 use runs::{Choice, Event, Refusal};
@@ -224,7 +223,7 @@ impl Machine {
         ensures answers { Answers (object self.now) Command.Ready (ready_reply result) (object self.now) }
         ensures events { IfOk result (λ events. (T : State) × Reaches (object self.now) T × ReadyList T events.items) }
     {
-        or_no_memory(self.history.ready(self.alloc, &self.uses))
+        or_no_memory(self.history.ready(self.alloc))
     }
 
     /// The actions that the state offers, each once, in order of place, at one place of their arms: those of the events

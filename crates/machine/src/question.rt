@@ -1,5 +1,5 @@
 // Questions, which change nothing.
-ghost use Rattle.std.specs.Prelude.{◌≡◌, Ok, IfOk};
+ghost use Rattle.std.specs.Prelude.{◌≡◌, ◌∷◌, ◌++◌, [], Ok, IfOk, OnOk};
 ghost use Rattle.sharing_check.specs.declared.checked.Checked.{Checked};
 ghost use Rattle.runs.specs.Does.{Does};
 ghost use Rattle.runs.specs.Commands.{Command};
@@ -42,7 +42,19 @@ fn copy_live(alloc: Global, live: &Live) -> Result<Items<(u64, Event)>, AllocErr
 {
     let mut copies = Items::with_capacity(alloc, live.len())?;
     for (ticket, event) in live.iter() {
-        copies.push((ticket, event.copy(alloc)?))?;
+        add_copy(alloc, &mut copies, ticket, event)?;
     }
     Ok(copies)
+}
+
+/// Adds a copy of the event of this ticket.
+fn add_copy(
+    alloc: Global,
+    copies: &mut Items<(u64, Event)>,
+    ticket: u64,
+    event: &Event,
+) -> Result<(), AllocError>
+    ensures { OnOk result (copies.new ≡ copies.old ++ (ticket, event.now) ∷ []) }
+{
+    copies.push((ticket, event.copy(alloc)?))
 }

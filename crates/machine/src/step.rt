@@ -188,12 +188,12 @@ impl History {
     }
 
     /// The events that are allowed now, in order.
-    pub(crate) fn ready(&self, alloc: Global, uses: &ChannelUses) -> Result<Vec<Event>, AllocError>
-        ensures { (system : Checked) → Holds system self.now → KnowsUses system uses.now → IfOk result (λ events.
+    pub(crate) fn ready(&self, alloc: Global) -> Result<Vec<Event>, AllocError>
+        ensures { (system : Checked) → Holds system self.now → IfOk result (λ events.
             Reaches (execution system self.now) (state_of_tree (tree_of self.now))
             × ReadyList (state_of_tree (tree_of self.now)) events.items) }
     {
-        in_vec(ready_events(alloc, uses, &self.tree, &self.store))
+        in_vec(ready_events(alloc, &self.tree, &self.store))
     }
 
     /// The actions that are offered now, in order of place.

@@ -6,8 +6,7 @@ ghost use Rattle.past.specs.PastText as model;
 
 use crate::held::{Held, note, zeros};
 use crate::past::{Past, PastEvent};
-use dependence::Live;
-use event_places::line_after;
+use dependence::{Live, line_after};
 use runs::{Event, Kind};
 use sharing_check::Checked;
 use std::alloc::{AllocError, Global};

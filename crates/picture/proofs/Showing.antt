@@ -6,7 +6,7 @@ use Rattle.std.specs.Result.{IsErrAnd}
 use Rattle.json_text.specs.Strings.{IsPlain}
 use Rattle.runs.specs.Live.{Live}
 use Rattle.machine.specs.AtMachine.{AtMachine}
-use Rattle.typed.specs.declared.tree.Procedure.{Procedure}
+use Rattle.types.specs.declared.tree.Procedure.{Procedure}
 use Rattle.typed_source.specs.Source.{IsTyped}
 use Rattle.picture_data.specs.Shown.{Shows}
 use Rattle.picture_data.specs.declared.picture.Picture.{Picture}

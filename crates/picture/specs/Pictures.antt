@@ -6,7 +6,7 @@ use Rattle.std.specs.List.{All}
 use Rattle.std.specs.Io.KnownBytes.{Appends}
 use Rattle.system.specs.declared.system.System.{System}
 use Rattle.runs.specs.Live.{Live}
-use Rattle.typed.specs.declared.tree.Procedure.{Procedure}
+use Rattle.types.specs.declared.tree.Procedure.{Procedure}
 use Rattle.typed_source.specs.Source.{IsTyped}
 use Rattle.machine.specs.AtMachine.{AtMachine}
 use Rattle.devices.specs.Counting.{IsBeginning}

@@ -1,7 +1,7 @@
 -- The whole picture.
 use Rattle.std.proofs.Common.{◌≡◌, ◌∙◌, ℕ, List, [], ap, subst, sym}
 use Rattle.system.specs.declared.system.System.{System}
-use Rattle.typed.specs.declared.tree.Procedure.{Procedure}
+use Rattle.types.specs.declared.tree.Procedure.{Procedure}
 use Rattle.machine.specs.AtMachine.{AtMachine}
 use Rattle.picture_lanes.specs.Ground.{IsGround, found_in, lanes_of, uses_of, with_feeds}
 use Rattle.picture_lanes.specs.declared.ground.Ground.{Ground}

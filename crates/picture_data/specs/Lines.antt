@@ -4,7 +4,7 @@ use Rattle.address.specs.declared.Entry.{Entry}
 use Rattle.branch_lanes.specs.Lanes.{lane_of}
 use Rattle.runs.specs.Live.{events}
 use Rattle.runs.specs.Moves.{Place}
-use Rattle.event_places.specs.EventPlaces.{line_after}
+use Rattle.dependence.specs.EventPlaces.{line_after}
 use Rattle.machine.specs.AtMachine.{AtMachine}
 use Rattle.picture_lanes.specs.Lanes.{lane_index}
 use Rattle.picture_lanes.specs.declared.lane.Lane.{Lane}

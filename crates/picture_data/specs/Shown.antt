@@ -10,7 +10,7 @@ use Rattle.runs.specs.declared.event.Event.{Event}
 use Rattle.run_depths.specs.Depths.{AreAhead, AreBelow, AreDepths}
 use Rattle.run_depths.specs.Races.{AreRaces}
 use Rattle.run_depths.specs.Since.{AreSince}
-use Rattle.typed.specs.declared.tree.Procedure.{Procedure}
+use Rattle.types.specs.declared.tree.Procedure.{Procedure}
 use Rattle.machine.specs.AtMachine.{AtMachine, object}
 use Rattle.waiting.specs.Lacking.{LacksInput}
 use Rattle.waiting.specs.Progress.{StandsLike}

@@ -7,7 +7,7 @@ use crate::steps::{Steps, steps_of};
 use machine::Machine;
 use picture_lanes::{Feed, Ground, Instance, Lane, ground_of};
 use std::alloc::{AllocError, Global};
-use typed::Procedure;
+use types::Procedure;
 
 /// What the picture of a run shows.
 #[derive(Drop)]

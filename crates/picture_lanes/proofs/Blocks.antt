@@ -2,11 +2,11 @@
 use Rattle.std.proofs.Common.{◌≡◌, ℕ, suc, ◌+◌, ◌-◌, ◌<◌, ◌≤◌, List, [], ◌∷◌, ◌++◌, length, get_or, Option, Some, None, refl, sym, ◌∙◌, ap, arith, rules, length-append}
 use Rattle.std.specs.Prelude.{slice_get}
 use Rattle.std.proofs.lemmas.Option.{slice_get_past, slice_get_read}
-use Rattle.typed.specs.declared.tree.Action.{Action, Call, out-Action}
-use Rattle.typed.specs.declared.tree.Action.TheFolds.{the_lemmas}
-use Rattle.typed.specs.declared.tree.ChannelUse.{ChannelUse}
-use Rattle.typed.specs.declared.tree.Command.{Command, out-Command}
-use Rattle.typed.specs.declared.tree.Procedure.{Procedure}
+use Rattle.types.specs.declared.tree.Action.{Action, Call, out-Action}
+use Rattle.types.specs.declared.tree.Action.TheFolds.{the_lemmas}
+use Rattle.types.specs.declared.tree.ChannelUse.{ChannelUse}
+use Rattle.types.specs.declared.tree.Command.{Command, out-Command}
+use Rattle.types.specs.declared.tree.Procedure.{Procedure}
 use Rattle.picture_lanes.specs.Calls.{At, behind_calls, call_at, called_at, entered, instance_of, onward}
 use Rattle.picture_lanes.specs.declared.lane.Instance.{Instance}
 

@@ -2,8 +2,8 @@
 use Rattle.std.specs.Prelude.{◌≡◌, ℕ, ◌+◌, ◌-◌, List, [], ◌∷◌, ◌++◌, length, Option, None, Some, slice_get}
 use Rattle.system.specs.declared.system.Branch.{Branch}
 use Rattle.system.specs.declared.system.System.{System}
-use Rattle.typed.specs.declared.tree.Command.{out-Command}
-use Rattle.typed.specs.declared.tree.Procedure.{Procedure}
+use Rattle.types.specs.declared.tree.Command.{out-Command}
+use Rattle.types.specs.declared.tree.Procedure.{Procedure}
 use Rattle.picture_lanes.specs.Lanes.{lane_index, table_lanes}
 use Rattle.picture_lanes.specs.Ports.{fed_count, port_path, port_use}
 use Rattle.picture_lanes.specs.Walk.{walked}

@@ -6,8 +6,8 @@ use Rattle.branch_lanes.specs.Lanes as lanes
 use Rattle.system.specs.declared.command.Command.{Command}
 use Rattle.system.specs.declared.command.Action.TheOpen.{Action-F, Arm-F, Command-F, Guarded-F, Labelled-F}
 use Rattle.system.specs.declared.command.Action.TheFolds.{fold-Command}
-use Rattle.typed.specs.declared.tree.Command as typed
-use Rattle.typed.specs.declared.tree.Procedure.{Procedure}
+use Rattle.types.specs.declared.tree.Command as typed
+use Rattle.types.specs.declared.tree.Procedure.{Procedure}
 use Rattle.picture_lanes.specs.Calls.{At, behind_calls}
 use Rattle.picture_lanes.specs.Written.{last_part, part}
 use Rattle.picture_lanes.specs.declared.walk.Found.{Found}

@@ -1,12 +1,12 @@
 -- The parts of a command as it is written.
 use Rattle.std.specs.Prelude.{ℕ, zero, suc, Option, None, Some, slice_get}
 use Rattle.std.specs.Option.{option_map}
-use Rattle.typed.specs.declared.tree.Action.{Action, out-Action}
-use Rattle.typed.specs.declared.tree.Action.TheOpen.{Action-F}
-use Rattle.typed.specs.declared.tree.Arm.{Arm, out-Arm}
-use Rattle.typed.specs.declared.tree.Command.{Command, out-Command}
-use Rattle.typed.specs.declared.tree.Guarded.{Guarded, out-Guarded}
-use Rattle.typed.specs.declared.tree.Labelled.{Labelled, out-Labelled}
+use Rattle.types.specs.declared.tree.Action.{Action, out-Action}
+use Rattle.types.specs.declared.tree.Action.TheOpen.{Action-F}
+use Rattle.types.specs.declared.tree.Arm.{Arm, out-Arm}
+use Rattle.types.specs.declared.tree.Command.{Command, out-Command}
+use Rattle.types.specs.declared.tree.Guarded.{Guarded, out-Guarded}
+use Rattle.types.specs.declared.tree.Labelled.{Labelled, out-Labelled}
 
 -- the one part, which has the number 0
 abbrev pub only : Command → ℕ → Option Command

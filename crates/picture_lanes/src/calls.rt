@@ -7,7 +7,7 @@ use crate::lane::Instance;
 use itoa::Buffer;
 use std::alloc::{AllocError, Global};
 use syntax::Items;
-use typed::{Action, Binding, ChannelUse, Command, Procedure};
+use types::{Action, Binding, ChannelUse, Command, Procedure};
 
 /// What a command stands for behind all calls, and in which block: where it is a call, that of the body that is called,
 /// which is a block of its own.

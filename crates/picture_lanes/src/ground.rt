@@ -11,7 +11,7 @@ use crate::walk::{ChannelUse, Found, walk};
 use std::alloc::{AllocError, Global};
 use syntax::Items;
 use system::{Branch, System};
-use typed::Procedure;
+use types::Procedure;
 
 /// What is drawn on.
 #[derive(Drop)]

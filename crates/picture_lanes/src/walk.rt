@@ -11,7 +11,7 @@ use branch_lanes::trim;
 use std::alloc::{AllocError, Global};
 use syntax::Items;
 use system::{Action, Arm, Command, Guarded, Labelled};
-use typed::Procedure;
+use types::Procedure;
 
 /// How a command uses a channel.
 #[derive(Clone, Copy, Debug, PartialEq, Eq)]
@@ -52,7 +52,7 @@ pub(crate) fn walk(
     made: &Command,
     alloc: Global,
     procedures: &[Procedure],
-    written: &typed::Command,
+    written: &types::Command,
     path: &[u32],
     block: usize,
     found: &mut Found,
@@ -188,7 +188,7 @@ fn walk_if_written(
     made: &Command,
     alloc: Global,
     procedures: &[Procedure],
-    written: Option<&typed::Command>,
+    written: Option<&types::Command>,
     path: &[u32],
     block: usize,
     found: &mut Found,
@@ -208,7 +208,7 @@ fn walk_last(
     made: &Option<Command>,
     alloc: Global,
     procedures: &[Procedure],
-    written: Option<&typed::Command>,
+    written: Option<&types::Command>,
     path: &[u32],
     block: usize,
     found: &mut Found,
@@ -229,7 +229,7 @@ fn walk_guarded(
     made: &[Guarded],
     alloc: Global,
     procedures: &[Procedure],
-    written: &typed::Command,
+    written: &types::Command,
     path: &[u32],
     block: usize,
     found: &mut Found,
@@ -257,7 +257,7 @@ fn walk_labelled(
     made: &[Labelled],
     alloc: Global,
     procedures: &[Procedure],
-    written: &typed::Command,
+    written: &types::Command,
     path: &[u32],
     block: usize,
     found: &mut Found,
@@ -285,7 +285,7 @@ fn walk_arms(
     made: &[Arm],
     alloc: Global,
     procedures: &[Procedure],
-    written: &typed::Command,
+    written: &types::Command,
     path: &[u32],
     block: usize,
     found: &mut Found,
@@ -314,7 +314,7 @@ fn walk_children(
     made: &[Command],
     alloc: Global,
     procedures: &[Procedure],
-    written: &typed::Command,
+    written: &types::Command,
     path: &[u32],
     block: usize,
     found: &mut Found,
@@ -342,7 +342,7 @@ fn walk_branches(
     made: &[Command],
     alloc: Global,
     procedures: &[Procedure],
-    written: &typed::Command,
+    written: &types::Command,
     path: &[u32],
     block: usize,
     found: &mut Found,

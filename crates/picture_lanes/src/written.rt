@@ -3,7 +3,7 @@ ghost use Rattle.std.specs.Prelude.{◌≡◌, ◌∷◌, []};
 ghost use Rattle.std.specs.Option.{option_copied};
 ghost use Rattle.picture_lanes.specs.Written as model;
 
-use typed::{Action, Command};
+use types::{Action, Command};
 
 /// The part of the command that has this number, from 0: the body of a loop or an input, an arm's body, or a child.
 pub(crate) fn part(written: &Command, number: usize) -> Option<&Command>

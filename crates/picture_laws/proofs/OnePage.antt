@@ -9,9 +9,9 @@ use Rattle.system.specs.declared.system.System.{System}
 use Rattle.runs.specs.Live.{Live, events}
 use Rattle.runs.specs.declared.event.Event.{Event}
 use Rattle.line_text.specs.EventText.{event_text}
-use Rattle.canonical_order.proofs.public.Canonicals.{orders-agree}
+use Rattle.trace_file.proofs.public.Canonicals.{orders-agree}
 use Rattle.depth_laws.specs.Laws.{AreEqualRuns}
-use Rattle.typed.specs.declared.tree.Procedure.{Procedure}
+use Rattle.types.specs.declared.tree.Procedure.{Procedure}
 use Rattle.machine.specs.AtMachine.{AtMachine}
 use Rattle.run_depths.specs.declared.races.Race.{Race}
 use Rattle.waiting.specs.Told.{OneRing}

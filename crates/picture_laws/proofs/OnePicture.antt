@@ -6,7 +6,7 @@ use Rattle.runs.specs.Object.{Reaches}
 use Rattle.runs.specs.Steps.{State}
 use Rattle.runs.specs.declared.event.Event.{Event}
 use Rattle.depth_laws.specs.Laws.{AreEqualRuns}
-use Rattle.typed.specs.declared.tree.Procedure.{Procedure}
+use Rattle.types.specs.declared.tree.Procedure.{Procedure}
 use Rattle.machine.specs.AtMachine.{AtMachine, object}
 use Rattle.waiting.specs.Told.{OneRing}
 use Rattle.waiting.specs.Waits.{OneList}

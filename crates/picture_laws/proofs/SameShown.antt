@@ -13,13 +13,13 @@ use Rattle.runs.proofs.public.FromOpening.{one_state, respecting_orders}
 use Rattle.runs.proofs.public.Options.{none-some}
 use Rattle.dependence.specs.Followers.{Follower}
 use Rattle.dependence.proofs.public.ListPlaces.{in-at}
-use Rattle.event_places.specs.EventPlaces.{line_after}
+use Rattle.dependence.specs.EventPlaces.{line_after}
 use Rattle.run_depths.proofs.public.Deepening.{one-place}
 use Rattle.depth_laws.specs.Laws.{AreEqualRuns}
 use Rattle.depth_laws.proofs.public.EqualRaces.{races-agree, same-event}
 use Rattle.depth_laws.proofs.public.EqualRuns.{depths-agree, followers-agree}
 use Rattle.depth_laws.proofs.public.OneState.{lines-agree, ready-agree}
-use Rattle.typed.specs.declared.tree.Procedure.{Procedure}
+use Rattle.types.specs.declared.tree.Procedure.{Procedure}
 use Rattle.machine.specs.AtMachine.{AtMachine, object}
 use Rattle.local_actions.specs.declared.action.LocalAction.{LocalAction}
 use Rattle.rings.specs.Partners.{partner_in}

@@ -1,9 +1,9 @@
 -- The pages of equal runs whose events stand in the canonical order, as a saved trace has them.
 use Rattle.std.specs.Prelude.{◌≡◌, ℕ, suc, List, [], ◌∷◌, length}
 use Rattle.runs.specs.Live.{Live, events}
-use Rattle.canonical_order.specs.Canonical.{IsCanonicalOrder}
+use Rattle.trace_file.specs.Canonical.{IsCanonicalOrder}
 use Rattle.depth_laws.specs.Laws.{AreEqualRuns}
-use Rattle.typed.specs.declared.tree.Procedure.{Procedure}
+use Rattle.types.specs.declared.tree.Procedure.{Procedure}
 use Rattle.machine.specs.AtMachine.{AtMachine}
 use Rattle.picture_data.specs.Shown.{Shows}
 use Rattle.picture_data.specs.declared.picture.Picture.{Picture}

@@ -5,7 +5,7 @@ use Rattle.runs.specs.Live.{Rising}
 use Rattle.runs.specs.declared.event.Event.{Event}
 use Rattle.run_depths.specs.declared.races.Race.{Race}
 use Rattle.depth_laws.specs.Laws.{AreEqualRuns}
-use Rattle.typed.specs.declared.tree.Procedure.{Procedure}
+use Rattle.types.specs.declared.tree.Procedure.{Procedure}
 use Rattle.machine.specs.AtMachine.{AtMachine}
 use Rattle.picture_data.specs.Shown.{Shows}
 use Rattle.picture_data.specs.Spots.{spot_of}

@@ -3,7 +3,7 @@ use Rattle.std.specs.Prelude.{◌≡◌, ◌⊎◌, ℕ, ◌<◌, List, Some, sl
 use Rattle.runs.specs.Live.{Rising}
 use Rattle.runs.specs.declared.event.Event.{Event}
 use Rattle.dependence.specs.Followers.{DirectDependent}
-use Rattle.typed.specs.declared.tree.Procedure.{Procedure}
+use Rattle.types.specs.declared.tree.Procedure.{Procedure}
 use Rattle.machine.specs.AtMachine.{AtMachine}
 use Rattle.picture_data.specs.Shown.{Shows}
 use Rattle.picture_data.specs.declared.actions.Actions.{Actions}

@@ -123,12 +123,12 @@ mutual
       (λ z d. ap (proc (started c)) (stay-together cs (n + 1) (Branch j ∷ a) out z d)))
 
 -- a child that has not begun
-started-at : (cs : Codes) (i : ℕ) (p : Proc) → proc_at (all_started cs) i ≡ Some p → (c : Code) × (p ≡ started c)
+pub started-at : (cs : Codes) (i : ℕ) (p : Proc) → proc_at (all_started cs) i ≡ Some p → (c : Code) × (p ≡ started c)
 started-at no_code i p h = none-some p h
 started-at (code c cs) zero p h = (c, sym (some-injective (started c) p h))
 started-at (code c cs) (suc i) p h = started-at cs i p h
 
-unbegun : (xs : List made.Proc) (cs : Codes) (i : ℕ) (p : Proc) → length xs ≤ i → proc_at (begun_of (map proc_view xs) cs) i ≡ Some p → (c : Code) × (p ≡ started c)
+pub unbegun : (xs : List made.Proc) (cs : Codes) (i : ℕ) (p : Proc) → length xs ≤ i → proc_at (begun_of (map proc_view xs) cs) i ≡ Some p → (c : Code) × (p ≡ started c)
 unbegun [] cs i p l h = started-at cs i p h
 unbegun (x ∷ xs) no_code i p l h = none-some p h
 unbegun (x ∷ xs) (code c cs) zero p l h = absurd (omega (arith, l))

@@ -4,6 +4,7 @@ mod Children
 mod CommandCodes
 mod Exactly
 mod Finding
+mod Lent
 mod OneByOne
 mod OneMore
 mod Passing

@@ -2,6 +2,7 @@ pub mod Advanced
 pub mod Children
 pub mod Code
 pub mod Laws
+pub mod Lent
 pub mod Offers
 pub mod Places
 pub mod Proc

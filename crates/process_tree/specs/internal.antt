@@ -1,4 +1,5 @@
 pub mod Arms
+pub mod Lending
 pub mod Listed
 pub mod Parts
 pub mod Received

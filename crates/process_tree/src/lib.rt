@@ -10,6 +10,7 @@ mod leaf_offers;
 mod list;
 mod list_fresh;
 mod offer;
+mod part;
 mod place;
 mod proc;
 mod retreat;

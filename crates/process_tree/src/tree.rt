@@ -1,7 +1,9 @@
-ghost use Rattle.std.specs.Prelude.{◌≡◌, [], Some, IsSome, IfOk, OnErr};
+ghost use Rattle.std.specs.Prelude.{◌≡◌, [], Some, IsSome, IfSome, IfNone, IfOk, OnErr};
 ghost use Rattle.runs.specs.InOrder.{InOrder};
 ghost use Rattle.process_tree.specs.Advanced.{advanced};
+ghost use Rattle.process_tree.specs.Code as model_code;
 ghost use Rattle.process_tree.specs.Laws.{ByLocalMove};
+ghost use Rattle.process_tree.specs.Lent.{NotBegunAt, part_at};
 ghost use Rattle.process_tree.specs.Offers.{AreOffers, PrecedesOffer};
 ghost use Rattle.process_tree.specs.Proc as model;
 ghost use Rattle.process_tree.specs.Proc.{started};
@@ -15,9 +17,10 @@ use crate::environment::system_code;
 use crate::finder::Finder;
 use crate::list::list;
 use crate::offer::Offer;
+use crate::part::child_mut;
 use crate::proc::{Proc, start};
 use crate::retreat::retreat;
-use address::Entry;
+use address::{Address, Entry};
 use runs::Ask;
 use std::alloc::{AllocError, Global};
 use syntax::Items;
@@ -45,6 +48,26 @@ impl Tree {
         ensures { proc_view result.now ≡ tree_view self.now }
     {
         &self.proc
+    }
+
+    /// Lends the part of the tree at the place, which may then be written. The entry below a sequence or a parallel is the
+    /// number of the child; below a loop it is 2k + 1 for the body of turn k, from 0 on, until the next turn begins; below
+    /// an `if`, a `case` or arms that wait on channels it is 1, for the arm that was taken.
+    ///
+    /// `None` where no such part is there, or where it is in a child of a sequence that has made no move, which may have no
+    /// node yet. It takes no memory, and costs the depth of the place.
+    ///
+    /// No clause tells what a write leaves. It may be any tree, and the other clauses of `Tree` hold of it as of any other.
+    pub fn at_mut(&mut self, place: &Address) -> Option<&mut Proc>
+        ensures lent { IfSome result (λ part. part_at place.now (tree_view self.old) ≡ Some (proc_view part.now)) }
+        ensures none { IfNone result ((part : model.Proc) → part_at place.now (tree_view self.old) ≡ Some part →
+            NotBegunAt place.now (tree_view self.old) × ((code : model_code.Code) × (part ≡ started code))) }
+    {
+        let mut target = &mut self.proc;
+        for entry in place.entries() {
+            target = child_mut(target, *entry)?;
+        }
+        Some(target)
     }
 
     /// What the tree offers: exactly the moves that are possible, in the order of their places, at one place of their

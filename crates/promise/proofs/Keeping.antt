@@ -6,11 +6,10 @@ use Rattle.runs.proofs.public.ObjectLaws.{begins-sound, stays-over-lists}
 use Rattle.machine.proofs.public.HeadlineLaws.{headline}
 use Rattle.locked_execution.specs.AtDesk.{AtDesk, execution}
 use Rattle.locked_execution.specs.Answered.{Answered}
-use Rattle.locked_execution.specs.Bridge.{commands_of}
 use Rattle.locked_execution.specs.declared.command.Command.{Command}
 use Rattle.locked_execution.specs.declared.command.Reply.{Reply}
 use Rattle.locked_execution.proofs.public.AskedLists.{answered-joins}
-use Rattle.locked_execution.proofs.public.BridgeLaws.{are-on-execution}
+use Rattle.locked_execution.proofs.public.BridgeLaws.{commands_of, are-on-execution}
 use Rattle.debug_session.specs.Accepting.{AcceptedAs}
 use Rattle.debug_session.specs.AtLine.{AtLine, first_line}
 use Rattle.debug_session.specs.Transcript.{Debugged, Completed, SaidAnswered, Transcript}

@@ -19,7 +19,7 @@ use Rattle.outline.specs.declared.outline.Outline.{Outline}
 use Rattle.waiting.specs.Told.{TellsWaits}
 use Rattle.waiting.specs.WaitingText.{waiting_text}
 use Rattle.waiting.specs.declared.waiting.Waiting.{Waiting}
-use Rattle.typed.specs.declared.tree.Procedure.{Procedure}
+use Rattle.types.specs.declared.tree.Procedure.{Procedure}
 use Rattle.typed_source.specs.Source.{IsRefused, IsTyped}
 use Rattle.typed_source.specs.declared.fault.Fault as typing
 use Rattle.typed_source.specs.declared.fault.Fault.TheVariants as not_typed

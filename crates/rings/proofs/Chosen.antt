@@ -14,8 +14,8 @@ use Rattle.process_tree.specs.declared.tree.Tree.{Tree}
 use Rattle.local_actions.specs.Actions.{Offered}
 use Rattle.local_actions.specs.View.{state_of}
 use Rattle.local_actions.specs.declared.action.LocalAction.{LocalAction}
-use Rattle.last_events.specs.LastEvents.{Uses, LastUse}
-use Rattle.last_events.specs.declared.uses.UseTable.{UseTable}
+use Rattle.dependence.specs.LastEvents.{Uses, LastUse}
+use Rattle.dependence.specs.declared.uses.UseTable.{UseTable}
 use Rattle.rings.specs.Partners.{Standing, sought_by, partner_standing, partner_of, partner_in}
 use Rattle.rings.specs.declared.partner.Partner.{Partner}
 use Rattle.rings.specs.declared.partner.Partner.TheVariants.{Behind, Gone, Open}

@@ -5,7 +5,7 @@ use Rattle.std.proofs.lemmas.Option.{slice_get-map, slice_get_within}
 use Rattle.runs.proofs.public.Options.{none-some, some-injective}
 use Rattle.runs.specs.Moves.{Place}
 use Rattle.runs.proofs.public.Lists.{in-parts}
-use Rattle.last_events.specs.LastEvents.{Uses}
+use Rattle.dependence.specs.LastEvents.{Uses}
 use Rattle.runs.specs.Tests.{same_place}
 use Rattle.syntax.specs.Lists.{In}
 use Rattle.system.specs.Residual.{Residual}

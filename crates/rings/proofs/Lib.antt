@@ -1,3 +1,4 @@
+mod Added
 mod Chosen
 mod Counted
 mod Left
@@ -6,6 +7,7 @@ mod Ringed
 mod Marked
 mod Places
 mod Holding
+mod Standings
 mod Summed
 mod PlaceRows
 mod Edging

@@ -10,7 +10,7 @@ use Rattle.address.specs.contracts.EntryOrd.TheImpl.{cmp-value}
 use Rattle.address.specs.Order.{order_of}
 use Rattle.address.proofs.public.Entries.{entries_cmp-is}
 use Rattle.address.proofs.public.Total.{order-ties, order-itself}
-use Rattle.last_events.specs.LastEvents.{Uses}
+use Rattle.dependence.specs.LastEvents.{Uses}
 use Rattle.runs.proofs.public.Options.{none-some, some-injective}
 use Rattle.runs.specs.Moves.{Place}
 use Rattle.rings.specs.declared.place_uses.PlaceUses.{PlaceUses}

@@ -4,8 +4,8 @@ use Rattle.std.proofs.lemmas.Bool.{and_from, cases_Bool, cases_eq, cases_lt, eqb
 use Rattle.std.proofs.lemmas.List.{length-append, length-set}
 use Rattle.runs.proofs.public.Lists.{in-left, in-right}
 use Rattle.syntax.specs.Lists.{In}
-use Rattle.last_events.specs.LastEvents.{Uses, LastUse}
-use Rattle.last_events.specs.declared.uses.UseTable.{UseTable}
+use Rattle.dependence.specs.LastEvents.{Uses, LastUse}
+use Rattle.dependence.specs.declared.uses.UseTable.{UseTable}
 use Rattle.rings.specs.internal.Loosened.{is_marked}
 use Rattle.rings.specs.internal.Tally.{Adds, Counted, Loosens, Lowered, Moved, OneMore, Puts, counts_for, edge, has, one, tally, times, total}
 

@@ -1,7 +1,7 @@
 // The partner of an action among the ends that a walk has found.
 ghost use Rattle.std.specs.Prelude.{◌≡◌, ◌<◌, ℕ, Some, length, MatchOption, IfOk};
 ghost use Rattle.runs.specs.Tests.{same_place};
-ghost use Rattle.last_events.specs.LastEvents.{Uses, LastUse};
+ghost use Rattle.dependence.specs.LastEvents.{Uses, LastUse};
 ghost use Rattle.rings.specs.internal.Ends as model;
 
 use crate::ends::{End, Kind};
@@ -9,7 +9,7 @@ use crate::partner::Partner;
 use crate::sought::Sought;
 use crate::way::is_same_entry;
 use address::{Address, Entry};
-use last_events::UseTable;
+use dependence::UseTable;
 use std::alloc::{AllocError, Global};
 
 /// What has to go on before what is sought can come for the action at the place. Behind two ends that count nothing

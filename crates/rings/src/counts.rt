@@ -1,11 +1,11 @@
 // For how many those wait whose partner comes behind a place, as marks are taken away.
 ghost use Rattle.std.specs.Prelude.{◌≡◌, ◌↔◌, ◌<◌, ◌≤◌, ℕ, length, slice_index, IfOk, IsTrue, OnOk};
-ghost use Rattle.last_events.specs.LastEvents.{Uses};
+ghost use Rattle.dependence.specs.LastEvents.{Uses};
 ghost use Rattle.rings.specs.internal.Tally as model;
 
 use crate::waits::is_marked;
 use crate::way::small;
-use last_events::UseTable;
+use dependence::UseTable;
 use std::alloc::{AllocError, Global};
 
 /// For each of so many numbers in how many of the first `rows` rows it stands.

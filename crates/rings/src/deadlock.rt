@@ -2,7 +2,7 @@
 ghost use Rattle.std.specs.Prelude.{◌≡◌, ◌<◌, ℕ, true, length, map, slice_get, slice_index, Some, IfOk, OnOk};
 ghost use Rattle.std.specs.Option.{option_copied};
 ghost use Rattle.syntax.specs.Lists.{In};
-ghost use Rattle.last_events.specs.LastEvents.{Uses};
+ghost use Rattle.dependence.specs.LastEvents.{Uses};
 ghost use Rattle.system.specs.Residual.{Residual};
 ghost use Rattle.rings.specs.Partners.{partner_in};
 ghost use Rattle.rings.specs.Rings.{Helped, TellsDeadlocked};
@@ -35,7 +35,43 @@ pub fn deadlocked_among(
         → helped.now ≡ map help actions.now → IfOk result (λ marks. TellsDeadlocked help r actions.now marks.items) }
 {
     let tables = Tables::of(alloc, actions, partners)?;
+    firm_among(alloc, actions, partners, helped, &tables)
+}
+
+/// The same, where these are the tables of the actions.
+fn firm_among(
+    alloc: Global,
+    actions: &[LocalAction],
+    partners: &[Partner],
+    helped: &[bool],
+    tables: &Tables,
+) -> Result<Vec<bool>, AllocError>
+    requires partners { length partners.now ≡ length actions.now }
+    requires tables { HasTables tables.now actions.now partners.now }
+    ensures { (r : Residual) (help : Helped) → partners.now ≡ map (partner_in r) actions.now
+        → helped.now ≡ map help actions.now → IfOk result (λ marks. TellsDeadlocked help r actions.now marks.items) }
+{
     let mut marks = all_marked(alloc, actions.len())?;
+    take_loose(alloc, actions, partners, helped, tables, &mut marks)?;
+    Ok(marks)
+}
+
+/// Takes away the marks of those that are not deadlocked, where all are marked.
+fn take_loose(
+    alloc: Global,
+    actions: &[LocalAction],
+    partners: &[Partner],
+    helped: &[bool],
+    tables: &Tables,
+    marks: &mut Vec<bool>,
+) -> Result<(), AllocError>
+    requires partners { length partners.now ≡ length actions.now }
+    requires tables { HasTables tables.now actions.now partners.now }
+    requires size { length marks.old.items ≡ length actions.now }
+    requires set { (i : ℕ) → i < length actions.now → slice_get marks.old.items i ≡ Some true }
+    ensures { (r : Residual) (help : Helped) → partners.now ≡ map (partner_in r) actions.now
+        → helped.now ≡ map help actions.now → OnOk result (TellsDeadlocked help r actions.now marks.new.items) }
+{
     let groups = tables.waiters.count as usize;
     let mut counts = counts_of(alloc, &tables.above, actions.len(), groups)?;
     let mut todo = all_numbers(alloc, actions.len())?;
@@ -43,12 +79,11 @@ pub fn deadlocked_among(
         actions,
         partners,
         helped,
-        &tables,
-        &mut marks,
+        tables,
+        marks,
         &mut counts,
         &mut todo,
-    )?;
-    Ok(marks)
+    )
 }
 
 /// Takes marks away until each action that is marked is firm.

@@ -212,7 +212,6 @@ fn add_each_here(
 }
 
 /// The ends in turns in which these are sought.
-#[tactic(auto, using(crate::proofs::Turns::here_within))]
 pub(crate) fn within(alloc: Global, soughts: &[Sought]) -> Result<Vec<Found>, AllocError>
     ensures { IfOk result (λ ends. ends.items ≡ model.within soughts.now) }
 {
@@ -234,7 +233,6 @@ pub(crate) fn in_turns(alloc: Global, endless: bool, body: Summary) -> Result<Su
 }
 
 /// In the turns of a loop with these ends in its body.
-#[tactic(auto, using(crate::proofs::Turns::here_soughts))]
 fn sought_in_turns(alloc: Global, endless: bool, ends: &[Found]) -> Result<Summary, AllocError>
     ensures { IfOk result (λ made.
         model.sum_of made ≡ model.in_turns endless (model.working false ends.now)) }

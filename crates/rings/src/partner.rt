@@ -16,7 +16,7 @@ use crate::look::look;
 use crate::sought::Sought;
 use crate::wanted::{uses_of, wanted_by};
 use address::Address;
-use last_events::UseTable;
+use dependence::UseTable;
 use local_actions::LocalAction;
 use process_tree::Tree;
 use std::alloc::{AllocError, Global};

@@ -4,7 +4,7 @@ ghost use Rattle.runs.specs.Moves.{Place};
 ghost use Rattle.rings.specs.internal.Standing.{Sound, StandsAt, row_at};
 
 use address::Entry;
-use last_events::UseTable;
+use dependence::UseTable;
 use std::alloc::{AllocError, Global};
 use std::collections::BTreeMap;
 

@@ -15,7 +15,7 @@ use crate::partner::Partner;
 use crate::place_uses::PlaceUses;
 use crate::tables::{Tables, group_of, row_of};
 use crate::waits::{is_at_one, is_marked, may_wait};
-use last_events::UseTable;
+use dependence::UseTable;
 use local_actions::LocalAction;
 use std::alloc::{AllocError, Global};
 
@@ -71,12 +71,30 @@ fn ring_of_indexes(
     ensures first { IfOk result (λ ring. IsFirstRing actions.now partners.now marks.now ring.items) }
 {
     let tables = Tables::of(alloc, actions, partners)?;
-    let mut trail = trail_of(alloc, &tables, actions)?;
+    first_ring(alloc, actions, partners, &tables, marks)
+}
+
+/// The same, where these are the tables of the actions.
+fn first_ring(
+    alloc: Global,
+    actions: &[LocalAction],
+    partners: &[Partner],
+    tables: &Tables,
+    marks: &[bool],
+) -> Result<Vec<usize>, AllocError>
+    requires sizes { length partners.now ≡ length actions.now }
+    requires tables { HasTables tables.now actions.now partners.now }
+    ensures ring { IfOk result (λ ring.
+        model.Names (length actions.now) (model.waits actions.now partners.now marks.now) (model.same_at actions.now)
+        ring.items) }
+    ensures first { IfOk result (λ ring. IsFirstRing actions.now partners.now marks.now ring.items) }
+{
+    let mut trail = trail_of(alloc, tables, actions)?;
     for start in 0..actions.len() {
         if !is_new(trail.seen.as_slice(), start) {
             continue;
         }
-        let ring = ring_from(alloc, actions, partners, &tables, marks, &mut trail, start)?;
+        let ring = ring_from(alloc, actions, partners, tables, marks, &mut trail, start)?;
         if !ring.is_empty() {
             return Ok(ring);
         }

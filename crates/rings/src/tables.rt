@@ -2,7 +2,7 @@
 ghost use Rattle.std.specs.Prelude.{◌≡◌, ◌⊎◌, ◌↔◌, ◌<◌, ℕ, Some, IfOk, OnOk, slice_get};
 ghost use Rattle.std.specs.Option.{option_copied};
 ghost use Rattle.runs.specs.Moves.{Place};
-ghost use Rattle.last_events.specs.LastEvents.{Uses};
+ghost use Rattle.dependence.specs.LastEvents.{Uses};
 ghost use Rattle.rings.specs.internal.Standing.{HasAbove, HasActions, HasTables, HasUnder, HasWaiters, RowOver, Sound, StandsAt, group_of, row_at, row_of};
 ghost use Rattle.rings.specs.declared.partner.Partner.TheVariants as any_partner;
 
@@ -10,7 +10,7 @@ use crate::partner::Partner;
 use crate::place_uses::PlaceUses;
 use crate::way::small;
 use address::Entry;
-use last_events::UseTable;
+use dependence::UseTable;
 use local_actions::LocalAction;
 use std::alloc::{AllocError, Global};
 

@@ -10,7 +10,7 @@ ghost use Rattle.rings.specs.internal.Loosened.{is_marked};
 
 use crate::ends::End;
 use crate::sought::Sought;
-use last_events::UseTable;
+use dependence::UseTable;
 use local_actions::LocalAction;
 use std::alloc::{AllocError, Global};
 

@@ -28,7 +28,7 @@ use Rattle.runs.proofs.public.Lists.{in-left, in-parts, in-right}
 use Rattle.runs.proofs.public.Options.{none-some, some-injective}
 use Rattle.dependence.proofs.public.ListPlaces.{at-one, at-within, in-at, index-in, take-all, take-next}
 use Rattle.dependence.proofs.public.Tabling.{place-is, second-in}
-use Rattle.last_events.specs.internal.Forks.{is_ordered_entry}
+use Rattle.dependence.specs.internal.Forks.{is_ordered_entry}
 use Rattle.run_depths.specs.Since.{IsPlaceAt, IsSince}
 use Rattle.run_depths.specs.internal.Held.{AllHeld, AreReaches, CountsLess, CountsTo, GreatestBefore, GreatestOver, HoldsPlaces, IsHeld, IsHeldAt, IsHeldFor, IsOrdered, IsReach}
 use Rattle.run_depths.specs.declared.held.HeldPlace.{HeldPlace}

@@ -6,8 +6,8 @@ use Rattle.std.proofs.lemmas.Option.{slice_get_within}
 use Rattle.address.specs.Places.{Apart, Before}
 use Rattle.address.proofs.public.Places.{apart-irreflexive, apart-symmetric, before-asymmetric, before-irreflexive, before-not-apart}
 use Rattle.syntax.specs.Lists.{In}
-use Rattle.last_events.specs.LastEvents.{IsAt, LastBefore, OneTree, Orderly, PutAt, ticket_at}
-use Rattle.last_events.specs.declared.places.PlaceTable.{PlaceTable}
+use Rattle.dependence.specs.LastEvents.{IsAt, LastBefore, OneTree, Orderly, PutAt, ticket_at}
+use Rattle.dependence.specs.declared.places.PlaceTable.{PlaceTable}
 use Rattle.runs.specs.Events.{places}
 use Rattle.runs.specs.Live.{DependsOn, Live, Rising, later, same}
 use Rattle.runs.specs.Moves.{Place}

@@ -3,7 +3,7 @@ ghost use Rattle.std.specs.Prelude.{◌≡◌, ℕ, ◌<◌, ◌≤◌, ◌+◌,
 ghost use Rattle.std.specs.List.Sorted.{IsPermutation};
 ghost use Rattle.std.specs.Ordering.{is_lt};
 ghost use Rattle.address.specs.Order.{order_of};
-ghost use Rattle.last_events.specs.internal.Forks.{is_ordered_entry};
+ghost use Rattle.dependence.specs.internal.Forks.{is_ordered_entry};
 ghost use Rattle.runs.specs.Live as events;
 ghost use Rattle.run_depths.specs.Depths.{AreBelow, AreDepths};
 ghost use Rattle.run_depths.specs.Since.{IsSince};

@@ -2,7 +2,7 @@
 ghost use Rattle.std.specs.Prelude.{◌≡◌, ◌⊎◌, ◌+◌, ◌<◌, ◌≤◌, ℕ, Some, length, slice_get, slice_index, IfOk, IsTrue, OnOk, ◌↔◌};
 ghost use Rattle.address.specs.Places.{Before};
 ghost use Rattle.syntax.specs.Lists.{In};
-ghost use Rattle.last_events.specs.LastEvents.{IsAt, Orderly, PutAt};
+ghost use Rattle.dependence.specs.LastEvents.{IsAt, Orderly, PutAt};
 ghost use Rattle.runs.specs.Moves.{Place};
 ghost use Rattle.dependence.specs.internal.Tabled.{Placed};
 ghost use Rattle.run_depths.specs.Depths.{AreBelow, AreDepths};
@@ -11,8 +11,7 @@ ghost use Rattle.run_depths.specs.internal.PlacesHeld.{BehindLast, GreatestBehin
 
 use crate::depth::{depth_after, larger};
 use address::Address;
-use dependence::Live;
-use last_events::PlaceTable;
+use dependence::{Live, PlaceTable};
 use runs::Event;
 use std::alloc::{AllocError, Global};
 

@@ -35,7 +35,7 @@ impl Checked {
     /// The line of the command of this place, from 1, whichever arms were taken. None for a place of the environment,
     /// and for an address that is no place of a command. The arms of a choice have the same places: there it is the
     /// line in the first arm that has one, in order, what stands behind `else` as the last. The line at which an event
-    /// acts depends on the arms that were taken, and is `line_after` of crate `event_places`.
+    /// acts depends on the arms that were taken, and is `line_after` of crate `dependence`.
     pub fn line(&self, place: &Address) -> Option<u64>
         ensures { result ≡ line_at self.now place.now }
     {
@@ -44,7 +44,7 @@ impl Checked {
 
     /// Whether the place is one at which a `select` opens, whichever arms were taken. The arms of a choice have the
     /// same places: there it is that of some arm. After the arms that were taken it is `select_after` of crate
-    /// `event_places`.
+    /// `dependence`.
     pub fn select(&self, place: &Address) -> bool
         ensures { result ≡ is_open_of_select self.now place.now }
     {

@@ -8,7 +8,7 @@ use crate::tickets::Slots;
 pub(crate) const BLOCK: usize = 64;
 
 /// The place of the item at this index among those that are there, of which there are `count`. Where no place is empty
-/// it is the index, else it takes as long as to go through the counts.
+/// it is the index, else it takes as long as to go through the counts on one side.
 #[inline(always)]
 pub fn place_at<T>(slots: &Slots<T>, counts: &[u8], count: usize, index: usize) -> usize
     requires counted { Counted slots.now.entries counts.now }
@@ -19,11 +19,43 @@ pub fn place_at<T>(slots: &Slots<T>, counts: &[u8], count: usize, index: usize) 
     if count == slots.len() {
         return index;
     }
-    let (number, left) = block_at(slots, counts, index);
+    let (number, left) = block_of(slots, counts, count, index);
     place_from(slots, BLOCK * number, left)
 }
 
-/// The number of the block that has the item at this index, and its index among the items of the block.
+/// The number of the block that has the item at this index, and its index among the items of the block; there are
+/// `count` items in all. The counts are gone through on the shorter side.
+fn block_of<T>(slots: &Slots<T>, counts: &[u8], count: usize, index: usize) -> (usize, usize)
+    requires counted { Counted slots.now.entries counts.now }
+    requires count { count ≡ length (filled slots.now.entries) }
+    requires within { index < count }
+    ensures sum { rank slots.now.entries (64 * result.0) + result.1 ≡ index }
+    ensures within { 64 * result.0 < length slots.now.entries }
+{
+    if index <= count / 2 {
+        return block_at(slots, counts, index);
+    }
+    block_back(slots, counts, count, index)
+}
+
+/// The same, looked for from the last block on.
+fn block_back<T>(slots: &Slots<T>, counts: &[u8], count: usize, index: usize) -> (usize, usize)
+    requires counted { Counted slots.now.entries counts.now }
+    requires count { count ≡ length (filled slots.now.entries) }
+    requires within { index < count }
+    ensures sum { rank slots.now.entries (64 * result.0) + result.1 ≡ index }
+    ensures within { 64 * result.0 < length slots.now.entries }
+{
+    let mut number = counts.len();
+    let mut before = count;
+    while before > index {
+        number -= 1;
+        before -= counts[number] as usize;
+    }
+    (number, index - before)
+}
+
+/// The same, looked for from the first block on.
 fn block_at<T>(slots: &Slots<T>, counts: &[u8], index: usize) -> (usize, usize)
     requires counted { Counted slots.now.entries counts.now }
     requires within { index < length (filled slots.now.entries) }

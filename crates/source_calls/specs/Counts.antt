@@ -1,8 +1,8 @@
 -- How many calls stand in a command. (Numbers are cut at the largest one of 64 bits, which no source reaches.)
 use Rattle.std.specs.Prelude.{ℕ, ◌+◌, ◌-◌, ◌^◌, min, List, [], ◌∷◌, Option, None, Some}
-use Rattle.typed.specs.declared.tree.Command.{Command}
-use Rattle.typed.specs.declared.tree.Action.TheOpen.{Action-F, Arm-F, Command-F, Guarded-F, Labelled-F}
-use Rattle.typed.specs.declared.tree.Action.TheFolds.{fold-Command}
+use Rattle.types.specs.declared.tree.Command.{Command}
+use Rattle.types.specs.declared.tree.Action.TheOpen.{Action-F, Arm-F, Command-F, Guarded-F, Labelled-F}
+use Rattle.types.specs.declared.tree.Action.TheFolds.{fold-Command}
 
 -- both together
 abbrev pub together : ℕ → ℕ → ℕ

@@ -7,13 +7,13 @@ use Rattle.std.specs.Prelude.{ℕ, zero, suc, ◌==◌, ◌||◌, ◌%◌, not, 
 use Rattle.std.specs.Option.{option_or}
 use Rattle.address.specs.declared.Entry.{Entry}
 use Rattle.address.specs.declared.Entry.TheVariants.{Ordered, Branch}
-use Rattle.typed.specs.declared.tree.Action.{Action, out-Action}
-use Rattle.typed.specs.declared.tree.Action.TheOpen.{Action-F}
-use Rattle.typed.specs.declared.tree.Arm.{Arm, out-Arm}
-use Rattle.typed.specs.declared.tree.Command.{Command, out-Command}
-use Rattle.typed.specs.declared.tree.Guarded.{Guarded, out-Guarded}
-use Rattle.typed.specs.declared.tree.Labelled.{Labelled, out-Labelled}
-use Rattle.typed.specs.declared.tree.Procedure.{Procedure}
+use Rattle.types.specs.declared.tree.Action.{Action, out-Action}
+use Rattle.types.specs.declared.tree.Action.TheOpen.{Action-F}
+use Rattle.types.specs.declared.tree.Arm.{Arm, out-Arm}
+use Rattle.types.specs.declared.tree.Command.{Command, out-Command}
+use Rattle.types.specs.declared.tree.Guarded.{Guarded, out-Guarded}
+use Rattle.types.specs.declared.tree.Labelled.{Labelled, out-Labelled}
+use Rattle.types.specs.declared.tree.Procedure.{Procedure}
 use Rattle.source_calls.specs.Counts.{calls_in, together, with_all}
 use Rattle.source_calls.specs.internal.Parts.{calls_in_arm, calls_in_guarded, calls_in_labelled}
 use Rattle.source_calls.specs.declared.calls.Call.{Call}

@@ -4,7 +4,7 @@ ghost use Rattle.std.specs.Option.{option_copied};
 
 use crate::enter::{Waiting, enter_root, go_through};
 use std::alloc::{AllocError, Global};
-use typed::{Procedure, Typed};
+use types::{Procedure, Typed};
 
 /// A call, with what the names of its procedure stand for.
 #[derive(Drop)]

@@ -2,7 +2,7 @@
 use crate::calls::{Call, Made};
 use std::alloc::{AllocError, Global};
 use std::fmt::Write;
-use typed::{
+use types::{
     Action, Arm, Binding, ChannelUse, Command, Guarded, Labelled, Local, LocalKind, Port, Procedure,
 };
 

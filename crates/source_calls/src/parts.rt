@@ -4,7 +4,7 @@ ghost use Rattle.std.specs.Option.{option_map};
 ghost use Rattle.source_calls.specs.Counts as model;
 ghost use Rattle.source_calls.specs.internal.Parts as parts;
 
-use typed::{Action, Arm, Command, Guarded, Labelled};
+use types::{Action, Arm, Command, Guarded, Labelled};
 
 /// How many calls stand in the command; at most the largest number of 64 bits.
 #[cycle(calls)]

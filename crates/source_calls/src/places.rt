@@ -1,7 +1,7 @@
 // The call to which a place belongs: the way to it is gone in the bodies as they are written.
 ghost use Rattle.std.specs.Prelude.{◌≡◌, ◌≤◌, length, take, drop, option_map, option_and_then};
 ghost use Rattle.std.specs.Option.{option_copied};
-ghost use Rattle.event_places.specs.EventPlaces.{taken_by};
+ghost use Rattle.dependence.specs.EventPlaces.{taken_by};
 ghost use Rattle.runs.specs.Live.{events};
 ghost use Rattle.source_calls.specs.SpotView.{spot_view};
 ghost use Rattle.source_calls.specs.Stands as model;
@@ -13,7 +13,7 @@ use address::{Address, Entry};
 use dependence::Live;
 use std::alloc::{AllocError, Global};
 use syntax::Items;
-use typed::{Action, Arm, Command, Guarded, Labelled};
+use types::{Action, Arm, Command, Guarded, Labelled};
 
 /// A command in a call.
 #[derive(Clone, Copy)]

@@ -9,7 +9,7 @@ use Rattle.runs.specs.Object.{Reaches}
 use Rattle.runs.specs.Ready.{ReadyList, Sooner}
 use Rattle.runs.specs.Steps.{State}
 use Rattle.runs.specs.declared.event.Event.{Event}
-use Rattle.event_places.specs.EventPlaces.{line_after}
+use Rattle.dependence.specs.EventPlaces.{line_after}
 use Rattle.machine.specs.AtMachine.{AtMachine, object}
 use Rattle.syntax.specs.Texts.{lines}
 use Rattle.source_view.specs.View.{is_line, acts_on, is_ready_on, marks_on, line_text, lines_text, view_text}

@@ -18,7 +18,7 @@ use Rattle.runs.specs.Ready.{Sooner}
 use Rattle.runs.specs.Tests.{same_place}
 use Rattle.runs.specs.declared.event.Event.{Event}
 use Rattle.runs.proofs.public.Lists.{every-in}
-use Rattle.event_places.specs.EventPlaces.{line_after, is_open_after}
+use Rattle.dependence.specs.EventPlaces.{line_after, is_open_after}
 use Rattle.machine.specs.AtMachine.{AtMachine}
 use Rattle.source_view.specs.View.{is_line, acts_on, are_in_conflict, is_conflict_on}
 use Rattle.source_view.specs.internal.Marking.{conflicts_with_next, neighbours_on}

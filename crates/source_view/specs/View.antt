@@ -12,7 +12,7 @@ use Rattle.runs.specs.Ready.{ReadyList}
 use Rattle.runs.specs.Steps.{State}
 use Rattle.runs.specs.Tests.{same_place}
 use Rattle.runs.specs.declared.event.Event.{Event}
-use Rattle.event_places.specs.EventPlaces.{is_open_after}
+use Rattle.dependence.specs.EventPlaces.{is_open_after}
 use Rattle.machine.specs.AtMachine.{AtMachine, object}
 use Rattle.machine.specs.Branching.{line_of}
 use Rattle.source_view.specs.declared.marks.Marks.{Marks}

@@ -13,8 +13,8 @@ use Rattle.trace_file.specs.TraceText.{header_of, event_line, HasSteps, Begins}
 use Rattle.trace_file.specs.Loading.{IsFirstLine, IsNoEnd, IsStep, IsNoStep, CannotStep, DiffersAt, IsRefused}
 use Rattle.trace_file.specs.declared.version.Version.{Version}
 use Rattle.trace_file.specs.declared.version.Version.TheVariants.{First, Second}
-use Rattle.canonical_order.proofs.public.Canonicals.{one-canonical-order}
-use Rattle.canonical_order.specs.Canonical.{IsCanonicalOrder}
+use Rattle.trace_file.proofs.public.Canonicals.{one-canonical-order}
+use Rattle.trace_file.specs.Canonical.{IsCanonicalOrder}
 use Rattle.trace_file.specs.Laws.{NotRefused, OneFault}
 use Rattle.trace_file.proofs.LineLemmas.{has-one, step-same}
 use Rattle.trace_file.proofs.LawLemmas.{Writable, lines_of, begins-on, no-more, one-list-steps, same-steps, first-is-header, not-bare, next-can, step-some, header-clear}

@@ -21,8 +21,8 @@ use Rattle.trace_file.specs.TraceText.{header_of, choice_line, event_line, trace
 use Rattle.trace_file.specs.Loading.{IsFirstLine, IsNoEnd, IsStep, CannotStep}
 use Rattle.trace_file.specs.declared.version.Version.{Version}
 use Rattle.trace_file.specs.declared.version.Version.TheVariants.{First, Second}
-use Rattle.canonical_order.proofs.public.Canonicals.{canonical-rearranged, canonical-runs, is-its-own-order, orders-agree}
-use Rattle.canonical_order.specs.Canonical.{IsCanonicalOrder}
+use Rattle.trace_file.proofs.public.Canonicals.{canonical-rearranged, canonical-runs, is-its-own-order, orders-agree}
+use Rattle.trace_file.specs.Canonical.{IsCanonicalOrder}
 use Rattle.runs.proofs.public.Elements.{in-rearranged}
 use Rattle.runs.proofs.public.FromOpening.{one_state}
 use Rattle.runs.proofs.public.Lists.{every-in, every-of}

@@ -7,3 +7,10 @@ mod LongLemmas
 mod OrderLemmas
 mod RootLemmas
 mod SaveLemmas
+pub mod public
+mod Orders
+mod Placing
+mod Queues
+mod Taking
+mod Telling
+mod Waits

@@ -16,8 +16,8 @@ use Rattle.runs.proofs.public.FromOpening.{acting_once}
 use Rattle.runs.proofs.public.Lists.{every-in}
 use Rattle.runs.proofs.public.Options.{none-some, some-injective}
 use Rattle.machine.specs.AtMachine.{AtMachine, object}
-use Rattle.canonical_order.proofs.public.Stands.{stand-length}
-use Rattle.canonical_order.specs.Canonical.{IsCanonicalOrder, StandAt}
+use Rattle.trace_file.proofs.public.Stands.{stand-length}
+use Rattle.trace_file.specs.Canonical.{IsCanonicalOrder, StandAt}
 use Rattle.trace_file.specs.TraceText.{event_line, IsWritable, KeepsOrder}
 use Rattle.trace_file.specs.declared.fault.Fault.{Fault}
 use Rattle.trace_file.specs.declared.version.Version.TheVariants.{Second}

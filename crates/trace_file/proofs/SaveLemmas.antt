@@ -9,9 +9,9 @@ use Rattle.runs.specs.Events.{acting}
 use Rattle.runs.specs.Live.{Live, events}
 use Rattle.runs.specs.Steps.{State, Run, opening}
 use Rattle.runs.specs.declared.event.Event.{Event}
-use Rattle.canonical_order.proofs.public.Canonicals.{canonical-rearranged}
-use Rattle.canonical_order.proofs.public.Stands.{stand-length, stand-one}
-use Rattle.canonical_order.specs.Canonical.{IsCanonicalOrder, StandAt}
+use Rattle.trace_file.proofs.public.Canonicals.{canonical-rearranged}
+use Rattle.trace_file.proofs.public.Stands.{stand-length, stand-one}
+use Rattle.trace_file.specs.Canonical.{IsCanonicalOrder, StandAt}
 use Rattle.system.specs.declared.system.System.{System}
 use Rattle.std.specs.List.{flat_map}
 use Rattle.runs.proofs.public.Elements.{rearranged-in}

@@ -11,7 +11,7 @@ use Rattle.runs.specs.Sound.{Sound}
 use Rattle.runs.specs.Steps.{State, Run, opening}
 use Rattle.runs.specs.declared.event.Event.{Event}
 use Rattle.machine.specs.AtMachine.{AtMachine, object}
-use Rattle.canonical_order.specs.Canonical.{IsCanonicalOrder}
+use Rattle.trace_file.specs.Canonical.{IsCanonicalOrder}
 use Rattle.trace_file.specs.TraceText.{IsTrace, IsWritable, StandsFor}
 use Rattle.trace_file.specs.Loading.{IsLoaded, IsRefused}
 use Rattle.trace_file.specs.declared.fault.Fault.{Fault}

@@ -15,7 +15,7 @@ use Rattle.trace_file.specs.declared.fault.Fault.{Fault}
 use Rattle.trace_file.specs.TraceText.{header_of, choice_line, event_line, IsWritable, IsTrace, HasSteps, Begins, StandsFor}
 use Rattle.trace_file.specs.declared.version.Version.{Version}
 use Rattle.trace_file.specs.declared.version.Version.TheVariants.{Second}
-use Rattle.canonical_order.specs.Canonical.{IsCanonicalOrder}
+use Rattle.trace_file.specs.Canonical.{IsCanonicalOrder}
 
 -- the events under the tickets from t on
 abbrev pub ticketed : ℕ → List Event → Live

@@ -11,7 +11,7 @@ use Rattle.runs.specs.Object.{most_live}
 use Rattle.runs.specs.Steps.{State, Run, opening}
 use Rattle.runs.specs.declared.event.Choice.{Choice}
 use Rattle.runs.specs.declared.event.Event.{Event}
-use Rattle.canonical_order.specs.Canonical.{IsCanonicalOrder}
+use Rattle.trace_file.specs.Canonical.{IsCanonicalOrder}
 use Rattle.trace_file.specs.declared.version.Version.{Version}
 use Rattle.trace_file.specs.declared.version.Version.TheVariants.{First, Second}
 

@@ -9,9 +9,8 @@ ghost use Rattle.trace_file.specs.TraceText.{IsWritable, KeepsOrder};
 ghost use Rattle.trace_file.specs.internal.OneStep.{OrderStops, AllAtHome, FirstMoved};
 ghost use Rattle.trace_file.specs.declared.version.Version.TheVariants.{Second};
 
-use crate::Fault;
 use crate::version::Version;
-use canonical_order::canonical_order;
+use crate::{Fault, canonical_order};
 use dependence::Live;
 use machine::Machine;
 use std::alloc::Global;

@@ -13,10 +13,9 @@ ghost use Rattle.runs.specs.declared.event.Event.{Event};
 ghost use Rattle.trace_file.specs.TraceText.{event_line, IsTrace, IsWritable};
 ghost use Rattle.trace_file.specs.Loading.{Saves, after_writing};
 
-use crate::Fault;
 use crate::version::SECOND;
+use crate::{Fault, canonical_order};
 use address::{Address, Entry};
-use canonical_order::canonical_order;
 use dependence::Live;
 use devices::{CountedWrite, write_out};
 use line_text::{add_byte, add_bytes, add_decimal};

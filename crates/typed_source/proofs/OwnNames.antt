@@ -18,7 +18,7 @@ use Rattle.lexer.specs.declared.token.Kind.TheVariants.{Name}
 use Rattle.lexer.specs.declared.token.Token.{Token}
 use Rattle.syntax.specs.Lists.{In, Every}
 use Rattle.syntax.specs.Texts.{Text}
-use Rattle.typed.specs.declared.tree.Procedure.{Procedure}
+use Rattle.types.specs.declared.tree.Procedure.{Procedure}
 use Rattle.types.specs.Laws.{DeclaredNamesAreDistinct, DeclaredNamesStay, Distinct, declared_names}
 use Rattle.typed_source.proofs.GrammarTokens.{NamesAre, ProcedureIsSo, parsed_so}
 use Rattle.typed_source.specs.Laws.{HasOwnNames, NamesAreOwn}

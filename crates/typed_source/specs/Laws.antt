@@ -1,7 +1,7 @@
 -- What follows from the definitions.
 use Rattle.std.specs.Prelude.{List, ℕ}
 use Rattle.syntax.specs.Lists.{In, Every}
-use Rattle.typed.specs.declared.tree.Procedure.{Procedure}
+use Rattle.types.specs.declared.tree.Procedure.{Procedure}
 use Rattle.types.specs.Laws.{Distinct, declared_names}
 use Rattle.typed_source.specs.Source.{IsTyped}
 

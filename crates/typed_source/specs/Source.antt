@@ -6,7 +6,7 @@ use Rattle.lexer.specs.declared.token.Token.{Token}
 use Rattle.parser.specs.Accepted as parser
 use Rattle.refusals.specs.declared.types.Fault.TheVariants as not_typed
 use Rattle.syntax.specs.declared.declaration.Description.{Description}
-use Rattle.typed.specs.declared.tree.Procedure.{Procedure}
+use Rattle.types.specs.declared.tree.Procedure.{Procedure}
 use Rattle.types.specs.Declarations.{found_description}
 use Rattle.types.specs.Findings as types
 use Rattle.typed_source.specs.declared.fault.Fault.{Fault}

@@ -1,4 +1,5 @@
 ghost use Rattle.std.specs.Prelude.{◌≡◌};
+ghost use Rattle.typed_source.specs.FaultNumbers.{source_number, source_offset};
 ghost use Rattle.typed_source.specs.Wrapping.{of_lexer, of_parser, of_types};
 ghost use Rattle.typed_source.specs.declared.fault.Fault.TheVariants.{Memory};
 
@@ -19,6 +20,32 @@ pub enum Fault {
     /// The description is not typed.
     #[error("{0}")]
     Types(types::Fault),
+}
+
+impl Fault {
+    /// The number that stands for this refusal in messages.
+    pub fn number(&self) -> u32
+        ensures { result ≡ source_number self.now }
+    {
+        match self {
+            Fault::Memory => 1,
+            Fault::Lexer(fault) => fault.number(),
+            Fault::Parser(fault) => fault.number(),
+            Fault::Types(fault) => fault.number(),
+        }
+    }
+
+    /// Where it is in the source: an offset in bytes, from 0.
+    pub fn offset(&self) -> Option<u64>
+        ensures { result ≡ source_offset self.now }
+    {
+        match self {
+            Fault::Memory => None,
+            Fault::Lexer(fault) => fault.offset(),
+            Fault::Parser(fault) => fault.offset(),
+            Fault::Types(fault) => fault.offset(),
+        }
+    }
 }
 
 impl From<lexer::Fault> for Fault {

@@ -1,14 +1,17 @@
 //! Parts of a source that are judged, one behind the other. Each is dropped before the next is read.
 
 ghost use Rattle.std.specs.Prelude.{◌≡◌, ◌<◌, ℕ, false, List, [], length, IfSome, IfOk, IfErr};
+ghost use Rattle.lexer.specs.Standing.{rest_of};
 ghost use Rattle.lexer.specs.internal.Parts.{HasRead};
 ghost use Rattle.typed_source.specs.Source.{IsRefused};
 ghost use Rattle.typed_source.specs.internal.InParts.{Stands};
+ghost use Rattle.types.specs.internal.Judged.{Judges};
 
 use crate::Fault;
 use crate::part::next_part;
 use lexer::{Lexing, Token};
-use std::alloc::Global;
+use std::alloc::{AllocError, Global};
+use syntax::Description;
 use types::Typing;
 
 /// Reads the first part of the source and judges it, and tells whether it is the last. None: the part does not tell.
@@ -24,9 +27,17 @@ pub(crate) fn judged_first<'a>(
     let Some(first) = next_part(alloc, lexing, tokens, true)? else {
         return Ok(None);
     };
-    let mut typing = Typing::new(alloc, first.description.types.as_slice())?;
-    typing.add(alloc, first.description.procedures.as_slice())?;
+    let typing = judged(alloc, &first.description)?;
     Ok(Some((typing, first.is_last)))
+}
+
+/// The types and procedures of the description, judged.
+fn judged(alloc: Global, description: &Description) -> Result<Typing, AllocError>
+    ensures { IfOk result (λ typing. Judges typing description.now) }
+{
+    let mut typing = Typing::new(alloc, description.types.as_slice())?;
+    typing.add(alloc, description.procedures.as_slice())?;
+    Ok(typing)
 }
 
 /// Reads the next part of the source and judges it behind those before, and tells whether it is the last. None: the
@@ -40,7 +51,7 @@ pub(crate) fn judge_next<'a>(
     ensures judged { (source : List ℕ) → Stands source false lexing.old typing.old
         → IfOk result (λ found. IfSome found (λ is_last. Stands source is_last lexing.new typing.new)) }
     ensures fewer { IfOk result (λ found. IfSome found (λ is_last.
-        is_last ≡ false → length lexing.new.rest.now < length lexing.old.rest.now)) }
+        is_last ≡ false → length (rest_of lexing.new) < length (rest_of lexing.old))) }
     ensures fault { (source : List ℕ) → Stands source false lexing.old typing.old
         → IfErr result (λ fault. IsRefused source fault) }
 {

@@ -2,7 +2,8 @@
 //! time, so that its tokens and trees need not all be in memory. Where the parts alone do not tell, all are made.
 #![tactic(auto)]
 
-ghost use Rattle.std.specs.Prelude.{IfOk, IfErr, IfSome};
+ghost use Rattle.std.specs.Prelude.{[], IfOk, IfErr, IfSome};
+ghost use Rattle.lexer.specs.internal.Parts.{HasRead};
 ghost use Rattle.typed_source.specs.Source.{IsRefused, IsTyped};
 
 mod fault;
@@ -13,7 +14,7 @@ mod part;
 pub use fault::Fault;
 use judging::{judge_next, judged_first};
 pub use laws::names_are_own;
-use lexer::{Lexing, lex};
+use lexer::{Lexing, Token, lex};
 use parser::parse;
 use part::try_room;
 use std::alloc::Global;
@@ -34,14 +35,28 @@ fn typed_in_parts(alloc: Global, source: &[u8]) -> Result<Option<Typed>, Fault>
     ensures typed { IfOk result (λ found. IfSome found (λ typed. IsTyped source.now typed)) }
     ensures fault { IfErr result (λ fault. IsRefused source.now fault) }
 {
-    try_room(alloc, source.len());
     let mut lexing = Lexing::new(source);
     let mut tokens = Vec::new(alloc);
-    let Some((mut typing, mut is_last)) = judged_first(alloc, &mut lexing, &mut tokens)? else {
+    typed_from(alloc, source, &mut lexing, &mut tokens)
+}
+
+/// The same, of a source of which nothing is read yet. (It only borrows the tokens, so that no early end drops them.)
+fn typed_from<'a>(
+    alloc: Global,
+    source: &'a [u8],
+    lexing: &mut Lexing<'a>,
+    tokens: &mut Vec<Token<'a>>,
+) -> Result<Option<Typed>, Fault>
+    requires { HasRead source.now [] lexing.old }
+    ensures typed { IfOk result (λ found. IfSome found (λ typed. IsTyped source.now typed)) }
+    ensures fault { IfErr result (λ fault. IsRefused source.now fault) }
+{
+    try_room(alloc, source.len());
+    let Some((mut typing, mut is_last)) = judged_first(alloc, lexing, tokens)? else {
         return Ok(None);
     };
     while !is_last {
-        let Some(is_end) = judge_next(alloc, &mut lexing, &mut tokens, &mut typing)? else {
+        let Some(is_end) = judge_next(alloc, lexing, tokens, &mut typing)? else {
             return Ok(None);
         };
         is_last = is_end;

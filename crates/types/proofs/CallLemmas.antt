@@ -2,7 +2,7 @@
 use Rattle.std.proofs.Common.{◌≡◌, suc, List, [], ◌∷◌, length, Bool, true, false, ◌&&◌, refl, ap}
 use Rattle.types.specs.Calls.{all_fit}
 use Rattle.types.specs.Names.{VisibleNames}
-use Rattle.typed.specs.declared.tree.PortKind.{PortKind}
+use Rattle.types.specs.declared.tree.PortKind.{PortKind}
 use Rattle.syntax.specs.declared.name.Identifier.{Identifier}
 
 both_false : (a b : Bool) → false ≡ b → false ≡ (a && b)

@@ -8,12 +8,12 @@ use Rattle.types.specs.Declarations.{Declared, with_one, with_ports, with_locals
 use Rattle.types.specs.internal.Least.{least}
 use Rattle.types.specs.declared.scope.Meaning.{Meaning}
 use Rattle.types.specs.declared.scope.Meaning.TheVariants as meaning
-use Rattle.typed.specs.declared.tree.Command.{Command}
-use Rattle.typed.specs.declared.tree.Procedure.{Procedure}
-use Rattle.typed.specs.declared.tree.Local.{Local}
-use Rattle.typed.specs.declared.tree.LocalKind.{LocalKind}
-use Rattle.typed.specs.declared.tree.Port.{Port}
-use Rattle.typed.specs.declared.tree.PortKind.{PortKind}
+use Rattle.types.specs.declared.tree.Command.{Command}
+use Rattle.types.specs.declared.tree.Procedure.{Procedure}
+use Rattle.types.specs.declared.tree.Local.{Local}
+use Rattle.types.specs.declared.tree.LocalKind.{LocalKind}
+use Rattle.types.specs.declared.tree.Port.{Port}
+use Rattle.types.specs.declared.tree.PortKind.{PortKind}
 use Rattle.syntax.specs.declared.declaration.Local as tree_local
 use Rattle.syntax.specs.declared.declaration.Port as tree_port
 use Rattle.syntax.specs.declared.declaration.Procedure as tree_procedure

@@ -9,10 +9,10 @@ use Rattle.types.specs.Names.{is_among}
 use Rattle.types.specs.SameTree.{AllDiffer, all_labels, arm_channels}
 use Rattle.types.specs.declared.arms.LabelUse.{LabelUse}
 use Rattle.refusals.specs.declared.types.Fault.TheVariants.{BadArm}
-use Rattle.typed.specs.declared.tree.Arm.{Arm, out-Arm}
-use Rattle.typed.specs.declared.tree.Binding.{Binding}
-use Rattle.typed.specs.declared.tree.ChannelUse.{ChannelUse}
-use Rattle.typed.specs.declared.tree.Action.TheViews.{out-roll-Labelled}
+use Rattle.types.specs.declared.tree.Arm.{Arm, out-Arm}
+use Rattle.types.specs.declared.tree.Binding.{Binding}
+use Rattle.types.specs.declared.tree.ChannelUse.{ChannelUse}
+use Rattle.types.specs.declared.tree.Action.TheViews.{out-roll-Labelled}
 use Rattle.syntax.specs.Lists.{In, Every}
 use Rattle.types.proofs.SameNames.{not_among}
 

@@ -14,10 +14,10 @@ use Rattle.types.specs.Widths.{HasWidth, NameHasWidth, NameHasThisAlone}
 use Rattle.types.specs.internal.CommandParts.{judged_action, judged_labelled}
 use Rattle.types.specs.declared.arms.LabelUse.{LabelUse}
 use Rattle.types.specs.declared.expression.Valued.{Valued}
-use Rattle.typed.specs.declared.tree.Action.TheVariants as action
-use Rattle.typed.specs.declared.tree.Binding.{Binding}
-use Rattle.typed.specs.declared.tree.Command as typed_command
-use Rattle.typed.specs.declared.tree.VariableUse.{VariableUse}
+use Rattle.types.specs.declared.tree.Action.TheVariants as action
+use Rattle.types.specs.declared.tree.Binding.{Binding}
+use Rattle.types.specs.declared.tree.Command as typed_command
+use Rattle.types.specs.declared.tree.VariableUse.{VariableUse}
 use Rattle.syntax.specs.declared.command.Action.{Action}
 use Rattle.syntax.specs.declared.command.Arm.{Arm}
 use Rattle.syntax.specs.declared.command.CaseArm.{CaseArm}

@@ -10,11 +10,11 @@ use Rattle.types.specs.Uses.{arm_use, procedure_use}
 use Rattle.types.specs.internal.CommandParts.{judged_action, judged_guarded, judged_labelled, judged_arm}
 use Rattle.types.specs.internal.Least.{least}
 use Rattle.types.specs.declared.expression.Valued.{Valued}
-use Rattle.typed.specs.declared.tree.Arm as typed_arm
-use Rattle.typed.specs.declared.tree.Command as typed_command
-use Rattle.typed.specs.declared.tree.Action as typed_action
-use Rattle.typed.specs.declared.tree.Action.TheVariants as action
-use Rattle.typed.specs.declared.tree.Binding.{Binding}
+use Rattle.types.specs.declared.tree.Arm as typed_arm
+use Rattle.types.specs.declared.tree.Command as typed_command
+use Rattle.types.specs.declared.tree.Action as typed_action
+use Rattle.types.specs.declared.tree.Action.TheVariants as action
+use Rattle.types.specs.declared.tree.Binding.{Binding}
 use Rattle.syntax.specs.declared.command.Action.{Action}
 use Rattle.syntax.specs.declared.command.Arm.{Arm}
 use Rattle.syntax.specs.declared.command.CaseArm.{CaseArm}

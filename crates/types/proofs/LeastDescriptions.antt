@@ -8,11 +8,11 @@ use Rattle.types.specs.Names.{VisibleNames, declared, is_fresh, port_meaning, lo
 use Rattle.types.specs.internal.Least.{least}
 use Rattle.types.specs.declared.scope.Meaning.{Meaning}
 use Rattle.types.specs.declared.scope.Meaning.TheVariants as meaning
-use Rattle.typed.specs.declared.tree.Local.{Local}
-use Rattle.typed.specs.declared.tree.LocalKind.{LocalKind}
-use Rattle.typed.specs.declared.tree.Port.{Port}
-use Rattle.typed.specs.declared.tree.PortKind.{PortKind}
-use Rattle.typed.specs.declared.tree.Procedure.{Procedure}
+use Rattle.types.specs.declared.tree.Local.{Local}
+use Rattle.types.specs.declared.tree.LocalKind.{LocalKind}
+use Rattle.types.specs.declared.tree.Port.{Port}
+use Rattle.types.specs.declared.tree.PortKind.{PortKind}
+use Rattle.types.specs.declared.tree.Procedure.{Procedure}
 use Rattle.syntax.specs.declared.declaration.Description.{Description}
 use Rattle.syntax.specs.declared.declaration.Local as tree_local
 use Rattle.syntax.specs.declared.declaration.Port as tree_port

@@ -10,11 +10,11 @@ use Rattle.types.specs.internal.Least.{least}
 use Rattle.types.specs.internal.Owed.{guarded_by, guard_of, guarded_arm, guard_owes, guard_owed, conditional_owing, labelled_by, labels_of, labelled_arm, width_of, with_all_seen, seen_after, labels_owe, labels_owed, case_owing}
 use Rattle.types.specs.declared.arms.LabelUse.{LabelUse}
 use Rattle.types.specs.declared.expression.Valued.{Valued}
-use Rattle.typed.specs.declared.tree.Action.TheVariants as action
-use Rattle.typed.specs.declared.tree.Binding.{Binding}
-use Rattle.typed.specs.declared.tree.Command.{Command}
-use Rattle.typed.specs.declared.tree.Guarded as typed_arm
-use Rattle.typed.specs.declared.tree.Labelled.{Labelled}
+use Rattle.types.specs.declared.tree.Action.TheVariants as action
+use Rattle.types.specs.declared.tree.Binding.{Binding}
+use Rattle.types.specs.declared.tree.Command.{Command}
+use Rattle.types.specs.declared.tree.Guarded as typed_arm
+use Rattle.types.specs.declared.tree.Labelled.{Labelled}
 use Rattle.syntax.specs.declared.command.Action.TheFolds.{fold_out-CaseArm, fold_out-Guarded}
 use Rattle.syntax.specs.declared.command.CaseArm.{CaseArm, out-CaseArm}
 use Rattle.syntax.specs.declared.command.Guarded.{Guarded, out-Guarded}

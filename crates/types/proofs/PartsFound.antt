@@ -13,11 +13,11 @@ use Rattle.types.specs.declared.expression.Valued.{Valued}
 use Rattle.types.specs.declared.scope.Found.{Found}
 use Rattle.types.specs.declared.scope.Found.TheVariants.{Nothing}
 use Rattle.types.specs.declared.scope.Meaning.{Meaning}
-use Rattle.typed.specs.declared.tree.Arm as typed_arm
-use Rattle.typed.specs.declared.tree.Command as typed_command
-use Rattle.typed.specs.declared.tree.Action as typed_action
-use Rattle.typed.specs.declared.tree.Action.TheVariants as action
-use Rattle.typed.specs.declared.tree.Binding.{Binding}
+use Rattle.types.specs.declared.tree.Arm as typed_arm
+use Rattle.types.specs.declared.tree.Command as typed_command
+use Rattle.types.specs.declared.tree.Action as typed_action
+use Rattle.types.specs.declared.tree.Action.TheVariants as action
+use Rattle.types.specs.declared.tree.Binding.{Binding}
 use Rattle.syntax.specs.Lists.{Every}
 use Rattle.syntax.specs.declared.command.Action.{Action}
 use Rattle.syntax.specs.declared.command.Arm.{Arm}

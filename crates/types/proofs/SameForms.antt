@@ -15,13 +15,13 @@ use Rattle.types.specs.internal.CommandParts.{judged_action, judged_guarded, jud
 use Rattle.types.specs.declared.arms.LabelUse.{LabelUse}
 use Rattle.types.specs.declared.expression.Valued.{Valued}
 use Rattle.refusals.specs.declared.types.Fault.{Fault}
-use Rattle.typed.specs.declared.tree.Action.TheVariants as action
-use Rattle.typed.specs.declared.tree.Arm as typed_arm
-use Rattle.typed.specs.declared.tree.Binding.{Binding}
-use Rattle.typed.specs.declared.tree.ChannelUse.{ChannelUse}
-use Rattle.typed.specs.declared.tree.Command as typed_command
-use Rattle.typed.specs.declared.tree.Procedure.{Procedure}
-use Rattle.typed.specs.declared.tree.VariableUse.{VariableUse}
+use Rattle.types.specs.declared.tree.Action.TheVariants as action
+use Rattle.types.specs.declared.tree.Arm as typed_arm
+use Rattle.types.specs.declared.tree.Binding.{Binding}
+use Rattle.types.specs.declared.tree.ChannelUse.{ChannelUse}
+use Rattle.types.specs.declared.tree.Command as typed_command
+use Rattle.types.specs.declared.tree.Procedure.{Procedure}
+use Rattle.types.specs.declared.tree.VariableUse.{VariableUse}
 use Rattle.syntax.specs.Lists.{Every}
 use Rattle.syntax.specs.declared.command.Action.{Action}
 use Rattle.syntax.specs.declared.command.Arm.{Arm}

@@ -19,15 +19,15 @@ use Rattle.types.specs.declared.scope.Found.{Found}
 use Rattle.types.specs.declared.scope.Found.TheVariants.{Opened, Means}
 use Rattle.types.specs.declared.scope.Meaning.{Meaning}
 use Rattle.types.specs.declared.scope.Meaning.TheVariants as meaning
-use Rattle.typed.specs.declared.tree.Binding.{Binding}
-use Rattle.typed.specs.declared.tree.Binding.TheVariants as binding
-use Rattle.typed.specs.declared.tree.ChannelUse.{ChannelUse}
-use Rattle.typed.specs.declared.tree.LocalKind.TheVariants as local
-use Rattle.typed.specs.declared.tree.Port.{Port}
-use Rattle.typed.specs.declared.tree.PortKind.{PortKind}
-use Rattle.typed.specs.declared.tree.PortKind.TheVariants as port
-use Rattle.typed.specs.declared.tree.Procedure.{Procedure}
-use Rattle.typed.specs.declared.tree.VariableUse.{VariableUse}
+use Rattle.types.specs.declared.tree.Binding.{Binding}
+use Rattle.types.specs.declared.tree.Binding.TheVariants as binding
+use Rattle.types.specs.declared.tree.ChannelUse.{ChannelUse}
+use Rattle.types.specs.declared.tree.LocalKind.TheVariants as local
+use Rattle.types.specs.declared.tree.Port.{Port}
+use Rattle.types.specs.declared.tree.PortKind.{PortKind}
+use Rattle.types.specs.declared.tree.PortKind.TheVariants as port
+use Rattle.types.specs.declared.tree.Procedure.{Procedure}
+use Rattle.types.specs.declared.tree.VariableUse.{VariableUse}
 use Rattle.syntax.specs.Lists.{In}
 use Rattle.syntax.specs.declared.command.Label.{Label}
 use Rattle.syntax.specs.declared.command.LabelValue.{LabelValue}

@@ -5,10 +5,10 @@ use Rattle.types.specs.Findings.{every}
 use Rattle.types.specs.Names.{VisibleNames, port_meaning, local_meaning}
 use Rattle.types.specs.SameTree.{OneByOne, with_kind, SamePortKind, SameLocalKind, SamePort, SameLocal, ports_declared, locals_declared}
 use Rattle.types.specs.Visible.{Declaration}
-use Rattle.typed.specs.declared.tree.Local.{Local}
-use Rattle.typed.specs.declared.tree.LocalKind.{LocalKind}
-use Rattle.typed.specs.declared.tree.Port.{Port}
-use Rattle.typed.specs.declared.tree.PortKind.{PortKind}
+use Rattle.types.specs.declared.tree.Local.{Local}
+use Rattle.types.specs.declared.tree.LocalKind.{LocalKind}
+use Rattle.types.specs.declared.tree.Port.{Port}
+use Rattle.types.specs.declared.tree.PortKind.{PortKind}
 use Rattle.syntax.specs.Lists.{Every}
 use Rattle.syntax.specs.declared.declaration.Local as tree_local
 use Rattle.syntax.specs.declared.declaration.LocalKind as tree_local_kind

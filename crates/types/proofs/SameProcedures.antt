@@ -7,8 +7,8 @@ use Rattle.types.specs.Findings.{with_next, every}
 use Rattle.types.specs.SameTree.{Standing, SameCommand, SamePort, SameLocal, SameProcedure, SameProcedures, OneByOne, ports_declared, locals_declared, TreeStaysTheSame}
 use Rattle.types.specs.Visible.{Declaration, of_definition, of_procedure, outside, visible_in, valued_names, port_widths, local_widths}
 use Rattle.types.specs.declared.scope.Meaning.TheVariants as meaning
-use Rattle.typed.specs.declared.tree.Command as typed_command
-use Rattle.typed.specs.declared.tree.Procedure as typed
+use Rattle.types.specs.declared.tree.Command as typed_command
+use Rattle.types.specs.declared.tree.Procedure as typed
 use Rattle.syntax.specs.declared.declaration.Local.{Local}
 use Rattle.syntax.specs.declared.declaration.Port.{Port}
 use Rattle.syntax.specs.declared.declaration.Procedure.{Procedure}

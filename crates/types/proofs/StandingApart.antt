@@ -5,12 +5,12 @@ use Rattle.types.specs.Declarations.{local_kind, port_kind, one_local, one_port,
 use Rattle.types.specs.Findings.{Verdict, Findings, and, with_next, and_all, demands, one_fault, every}
 use Rattle.types.specs.Names.{VisibleNames, port_meaning, local_meaning}
 use Rattle.types.specs.declared.scope.Meaning.TheVariants as meaning
-use Rattle.typed.specs.declared.tree.Command as typed_command
-use Rattle.typed.specs.declared.tree.Local.{Local}
-use Rattle.typed.specs.declared.tree.LocalKind.{LocalKind}
-use Rattle.typed.specs.declared.tree.Port.{Port}
-use Rattle.typed.specs.declared.tree.PortKind.{PortKind}
-use Rattle.typed.specs.declared.tree.Procedure.{Procedure}
+use Rattle.types.specs.declared.tree.Command as typed_command
+use Rattle.types.specs.declared.tree.Local.{Local}
+use Rattle.types.specs.declared.tree.LocalKind.{LocalKind}
+use Rattle.types.specs.declared.tree.Port.{Port}
+use Rattle.types.specs.declared.tree.PortKind.{PortKind}
+use Rattle.types.specs.declared.tree.Procedure.{Procedure}
 use Rattle.syntax.specs.Lists.{Every}
 use Rattle.syntax.specs.declared.declaration.Local as tree_local
 use Rattle.syntax.specs.declared.declaration.Port as tree_port

@@ -6,8 +6,8 @@ use Rattle.types.specs.Findings.{Verdict, and, with_next, with_all, and_all}
 use Rattle.types.specs.internal.Least.{least}
 use Rattle.types.specs.internal.Owed.{labels_owe, labels_owed, seen_after}
 use Rattle.types.specs.declared.arms.LabelUse.{LabelUse}
-use Rattle.typed.specs.declared.tree.Arm.{Arm}
-use Rattle.typed.specs.declared.tree.Binding.{Binding}
+use Rattle.types.specs.declared.tree.Arm.{Arm}
+use Rattle.types.specs.declared.tree.Binding.{Binding}
 
 module _ {A : Type 0} (parts : List A) (i : ℕ) (part : A) (within : i < length parts) (here : part ≡ get_or parts i part) where
   -- what is said of the part and those behind it is said of all that were left

@@ -9,7 +9,7 @@ use Rattle.types.specs.Names.{VisibleNames}
 use Rattle.types.specs.Parts.{Name, Part, named, valued, names_of_type, names_of_part, names_of_expression, names_of_port, names_of_local, names_used, expressions_of_part, expressions_in, parts_of_command}
 use Rattle.types.specs.Visible.{Declaration, of_definition, of_procedure, outside, port_widths, local_widths, valued_names, visible_in, widths_of}
 use Rattle.types.specs.declared.expression.Valued.{Valued}
-use Rattle.typed.specs.declared.tree.Command as typed_command
+use Rattle.types.specs.declared.tree.Command as typed_command
 use Rattle.syntax.specs.Lists.{Every}
 use Rattle.syntax.specs.declared.declaration.Description.{Description}
 use Rattle.syntax.specs.declared.declaration.Local as tree_local

@@ -9,7 +9,7 @@ use Rattle.types.specs.Names.{VisibleNames}
 use Rattle.types.specs.Parts.{Name, Part, named, valued, names_of_expression, expressions_of_part, expressions_in, parts_of_command}
 use Rattle.types.specs.Visible.{Declaration, of_all, type_widths, operator_widths, shape_widths, expression_widths, widths_of}
 use Rattle.types.specs.declared.expression.Valued.{Valued}
-use Rattle.typed.specs.declared.tree.Binding.{Binding}
+use Rattle.types.specs.declared.tree.Binding.{Binding}
 use Rattle.syntax.specs.Lists.{In, Every}
 use Rattle.syntax.specs.declared.expression.Expr.{Expr, out-Expr}
 use Rattle.syntax.specs.declared.expression.Operator.{Operator}

@@ -9,14 +9,14 @@ use Rattle.types.specs.Uses.{label_use}
 use Rattle.types.specs.declared.arms.LabelUse.{LabelUse}
 use Rattle.types.specs.declared.expression.Valued.{Valued}
 use Rattle.refusals.specs.declared.types.Fault.TheVariants.{BadArm}
-use Rattle.typed.specs.declared.tree.Action.{Action}
-use Rattle.typed.specs.declared.tree.Action.TheVariants as action
-use Rattle.typed.specs.declared.tree.Arm.{Arm, roll-Arm, out-Arm}
-use Rattle.typed.specs.declared.tree.ChannelUse.{ChannelUse}
-use Rattle.typed.specs.declared.tree.Command.{Command}
-use Rattle.typed.specs.declared.tree.Guarded.{Guarded, roll-Guarded}
-use Rattle.typed.specs.declared.tree.Labelled.{Labelled, roll-Labelled}
-use Rattle.typed.specs.declared.tree.Binding.{Binding}
+use Rattle.types.specs.declared.tree.Action.{Action}
+use Rattle.types.specs.declared.tree.Action.TheVariants as action
+use Rattle.types.specs.declared.tree.Arm.{Arm, roll-Arm, out-Arm}
+use Rattle.types.specs.declared.tree.ChannelUse.{ChannelUse}
+use Rattle.types.specs.declared.tree.Command.{Command}
+use Rattle.types.specs.declared.tree.Guarded.{Guarded, roll-Guarded}
+use Rattle.types.specs.declared.tree.Labelled.{Labelled, roll-Labelled}
+use Rattle.types.specs.declared.tree.Binding.{Binding}
 use Rattle.syntax.specs.declared.command.Label.{Label}
 use Rattle.syntax.specs.declared.command.LabelValue.{LabelValue}
 use Rattle.syntax.specs.declared.command.LabelValue.TheVariants as label

@@ -6,8 +6,8 @@ use Rattle.types.specs.Uses.{type_use, value_use}
 use Rattle.types.specs.Findings.{Verdict, Keeping, Findings, becomes, if_right, both}
 use Rattle.types.specs.declared.expression.Valued.{Valued}
 use Rattle.refusals.specs.declared.types.Fault.TheVariants.{TooWide, GuardNotOneBit}
-use Rattle.typed.specs.declared.tree.Expression.TheVariants as typed
-use Rattle.typed.specs.declared.tree.Binding.{Binding}
+use Rattle.types.specs.declared.tree.Expression.TheVariants as typed
+use Rattle.types.specs.declared.tree.Binding.{Binding}
 use Rattle.types.specs.declared.uses.Named.{Named}
 use Rattle.types.specs.declared.uses.Named.TheVariants as named
 use Rattle.syntax.specs.declared.expression.Expr.{Expr}

@@ -3,7 +3,7 @@ use Rattle.std.specs.Prelude.{◌≡◌, ℕ, List, [], ◌∷◌, ◌++◌, map
 use Rattle.types.specs.Declarations.{found_description}
 use Rattle.types.specs.Parts.{Name, names_used, expressions_in}
 use Rattle.types.specs.Visible.{Declaration, visible_in, widths_of}
-use Rattle.typed.specs.declared.tree.Procedure as typed
+use Rattle.types.specs.declared.tree.Procedure as typed
 use Rattle.syntax.specs.Lists.{In, Every}
 use Rattle.syntax.specs.declared.declaration.Description.{Description}
 use Rattle.syntax.specs.declared.declaration.Local.{Local}

@@ -5,7 +5,7 @@ use Rattle.types.specs.Declarations.{found_description}
 use Rattle.types.specs.Laws.{IsAccepted, Apart}
 use Rattle.types.specs.Parts.{Name, names_used}
 use Rattle.types.specs.Visible.{element_width}
-use Rattle.typed.specs.declared.tree.Procedure as typed
+use Rattle.types.specs.declared.tree.Procedure as typed
 use Rattle.syntax.specs.declared.declaration.Local.{Local}
 use Rattle.syntax.specs.declared.declaration.Port.{Port}
 use Rattle.syntax.specs.declared.declaration.Procedure.{Procedure}

@@ -9,12 +9,12 @@ use Rattle.types.specs.declared.scope.Meaning.TheVariants as meaning
 use Rattle.types.specs.declared.scope.Found.{Found}
 use Rattle.types.specs.declared.scope.Found.TheVariants.{Nothing, Opened, Means}
 use Rattle.types.specs.declared.scope.Channel.{Channel}
-use Rattle.typed.specs.declared.tree.LocalKind.{LocalKind}
-use Rattle.typed.specs.declared.tree.LocalKind.TheVariants as local
-use Rattle.typed.specs.declared.tree.Binding.{Binding}
-use Rattle.typed.specs.declared.tree.PortKind.{PortKind}
-use Rattle.typed.specs.declared.tree.PortKind.TheVariants as port
-use Rattle.typed.specs.declared.tree.Binding.TheVariants as binding
+use Rattle.types.specs.declared.tree.LocalKind.{LocalKind}
+use Rattle.types.specs.declared.tree.LocalKind.TheVariants as local
+use Rattle.types.specs.declared.tree.Binding.{Binding}
+use Rattle.types.specs.declared.tree.PortKind.{PortKind}
+use Rattle.types.specs.declared.tree.PortKind.TheVariants as port
+use Rattle.types.specs.declared.tree.Binding.TheVariants as binding
 
 -- the visible names in order of declaration, each with what it means
 abbrev pub VisibleNames : Type 0

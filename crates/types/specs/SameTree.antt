@@ -8,25 +8,25 @@ use Rattle.types.specs.Declarations.{found_description}
 use Rattle.types.specs.Parts.{Name}
 use Rattle.types.specs.Visible.{Declaration, element_width, outside, visible_in}
 use Rattle.types.specs.Widths.{TypeHasThisAlone}
-use Rattle.typed.specs.declared.tree.Action.{Action}
-use Rattle.typed.specs.declared.tree.Action.TheVariants as action
-use Rattle.typed.specs.declared.tree.Arm.{Arm, roll-Arm, out-Arm}
-use Rattle.typed.specs.declared.tree.Binding.{Binding}
-use Rattle.typed.specs.declared.tree.Binding.TheVariants as binding
-use Rattle.typed.specs.declared.tree.ChannelUse.{ChannelUse}
-use Rattle.typed.specs.declared.tree.Command.{Command, roll-Command}
-use Rattle.typed.specs.declared.tree.Expression.{Expression}
-use Rattle.typed.specs.declared.tree.Expression.TheVariants as expression
-use Rattle.typed.specs.declared.tree.Guarded.{Guarded, roll-Guarded}
-use Rattle.typed.specs.declared.tree.Labelled.{Labelled, roll-Labelled, out-Labelled}
-use Rattle.typed.specs.declared.tree.Local.{Local}
-use Rattle.typed.specs.declared.tree.LocalKind.{LocalKind}
-use Rattle.typed.specs.declared.tree.LocalKind.TheVariants as local
-use Rattle.typed.specs.declared.tree.Port.{Port}
-use Rattle.typed.specs.declared.tree.PortKind.{PortKind}
-use Rattle.typed.specs.declared.tree.PortKind.TheVariants as port
-use Rattle.typed.specs.declared.tree.Procedure.{Procedure}
-use Rattle.typed.specs.declared.tree.VariableUse.{VariableUse}
+use Rattle.types.specs.declared.tree.Action.{Action}
+use Rattle.types.specs.declared.tree.Action.TheVariants as action
+use Rattle.types.specs.declared.tree.Arm.{Arm, roll-Arm, out-Arm}
+use Rattle.types.specs.declared.tree.Binding.{Binding}
+use Rattle.types.specs.declared.tree.Binding.TheVariants as binding
+use Rattle.types.specs.declared.tree.ChannelUse.{ChannelUse}
+use Rattle.types.specs.declared.tree.Command.{Command, roll-Command}
+use Rattle.types.specs.declared.tree.Expression.{Expression}
+use Rattle.types.specs.declared.tree.Expression.TheVariants as expression
+use Rattle.types.specs.declared.tree.Guarded.{Guarded, roll-Guarded}
+use Rattle.types.specs.declared.tree.Labelled.{Labelled, roll-Labelled, out-Labelled}
+use Rattle.types.specs.declared.tree.Local.{Local}
+use Rattle.types.specs.declared.tree.LocalKind.{LocalKind}
+use Rattle.types.specs.declared.tree.LocalKind.TheVariants as local
+use Rattle.types.specs.declared.tree.Port.{Port}
+use Rattle.types.specs.declared.tree.PortKind.{PortKind}
+use Rattle.types.specs.declared.tree.PortKind.TheVariants as port
+use Rattle.types.specs.declared.tree.Procedure.{Procedure}
+use Rattle.types.specs.declared.tree.VariableUse.{VariableUse}
 use Rattle.syntax.specs.Lists.{In}
 use Rattle.syntax.specs.declared.command.Action as written_action
 use Rattle.syntax.specs.declared.command.Action.TheOpen.{Action-F}

@@ -5,16 +5,17 @@ ghost use Rattle.types.specs.Findings as findings;
 ghost use Rattle.types.specs.internal.Least.{least};
 ghost use Rattle.types.specs.internal.Owed as owed;
 ghost use Rattle.types.specs.internal.Scopes.{entries};
-ghost use Rattle.typed.specs.declared.tree.Action.TheVariants as typed;
+ghost use Rattle.types.specs.declared.tree.Action.TheVariants as typed;
 
 use crate::expression::{Valued, least_value};
 use crate::scope::{Names, Scope};
 use crate::verdict::{Settled, Verdict, and, both, with_next};
-use crate::{Fault, uses};
+use crate::{
+    Action, Arm, Binding, ChannelUse, Command, Expression, Fault, Guarded, Labelled, uses,
+};
 use indexmap::IndexSet;
 use std::alloc::{AllocError, Global};
 use syntax::{Boxed, Items, Label, LabelValue};
-use typed::{Action, Arm, Binding, ChannelUse, Command, Expression, Guarded, Labelled};
 use value::Value;
 
 /// Arms, and what they owe as a whole where each of them is right.

@@ -8,11 +8,10 @@ ghost use Rattle.types.specs.internal.Scopes.{entries};
 
 use crate::scope::{Meaning, Names, Scope};
 use crate::verdict::{Settled, both, with_next};
-use crate::{Fault, uses};
+use crate::{Action, Binding, ChannelUse, Fault, PortKind, uses};
 use indexmap::IndexSet;
 use std::alloc::{AllocError, Global};
 use syntax::{Identifier, Items};
-use typed::{Action, Binding, ChannelUse, PortKind};
 use value::Width;
 
 /// A call of the procedure with the arguments.

@@ -9,7 +9,7 @@ ghost use Rattle.types.specs.internal.Least.{least};
 ghost use Rattle.types.specs.internal.Owed as owed;
 ghost use Rattle.types.specs.internal.Scopes.{scope_of};
 ghost use Rattle.syntax.specs.declared.command.Action.TheVariants as form;
-ghost use Rattle.typed.specs.declared.tree.Action.TheVariants as typed;
+ghost use Rattle.types.specs.declared.tree.Action.TheVariants as typed;
 
 use crate::arms::{
     Arms, arm_of, cased, conditional, distinct, guarded, labelled, new_labels, one_bit,
@@ -22,12 +22,11 @@ use crate::forms::{
     sending, sync, target,
 };
 use crate::scope::Scope;
-use crate::uses;
 use crate::verdict::{Settled, Verdict, and, with_next};
+use crate::{Action, Arm, Binding, Command, Guarded, Labelled, uses};
 use indexmap::IndexSet;
 use std::alloc::{AllocError, Global};
 use syntax::{Expr, Identifier, Items};
-use typed::{Action, Arm, Binding, Command, Guarded, Labelled};
 
 /// The command with its names settled, at a place around which these channels are open.
 #[cycle(settled_command)]

@@ -8,14 +8,13 @@ ghost use Rattle.types.specs.Names.{declared, is_fresh};
 ghost use Rattle.types.specs.internal.Least.{least};
 ghost use Rattle.types.specs.declared.scope.Meaning.TheVariants as meaning;
 
-use crate::Fault;
 use crate::command::settled_command;
 use crate::expression::{declared_width, type_width};
 use crate::scope::{Meaning, Names, Scope};
 use crate::verdict::{Settled, Verdict, and, both, with_next};
+use crate::{Command, Fault, Local, LocalKind, Port, PortKind, Procedure};
 use std::alloc::{AllocError, Global};
 use syntax::{Identifier, Items, Name, TypeDeclaration, TypeDefinition, TypeName};
-use typed::{Command, Local, LocalKind, Port, PortKind, Procedure};
 use value::{Value, Width};
 
 /// Declares the types, each with its elements, in order.

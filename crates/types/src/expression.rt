@@ -3,17 +3,16 @@ ghost use Rattle.types.specs.Expressions as expressions;
 ghost use Rattle.types.specs.Findings as findings;
 ghost use Rattle.types.specs.internal.Scopes.{entries};
 ghost use Rattle.types.specs.Names.{find};
-ghost use Rattle.typed.specs.declared.tree.Expression.TheVariants as typed;
+ghost use Rattle.types.specs.declared.tree.Expression.TheVariants as typed;
 ghost use Rattle.types.specs.Uses as uses;
 ghost use Rattle.types.specs.internal.Least.{least};
 
-use crate::Fault;
 use crate::scope::Names;
 use crate::uses::{self, Named};
 use crate::verdict::{Settled, Verdict, both};
+use crate::{Binding, Expression, Fault};
 use std::alloc::{AllocError, Global};
 use syntax::{Boxed, Name, Operator, Shape, TypeName};
-use typed::{Binding, Expression};
 use value::{MOST_BITS, Value, Width};
 
 /// A typed expression, and how many bits its value has.

@@ -6,15 +6,14 @@ ghost use Rattle.types.specs.internal.Scopes.{entries, scope_of};
 ghost use Rattle.types.specs.Names.{find};
 ghost use Rattle.types.specs.Uses as uses;
 ghost use Rattle.types.specs.internal.Least.{least};
-ghost use Rattle.typed.specs.declared.tree.Action.TheVariants as typed;
+ghost use Rattle.types.specs.declared.tree.Action.TheVariants as typed;
 
 use crate::expression::Valued;
 use crate::scope::Scope;
 use crate::verdict::{Verdict, both};
-use crate::{Fault, uses};
+use crate::{Action, Binding, ChannelUse, Command, Fault, VariableUse, uses};
 use std::alloc::{AllocError, Global};
 use syntax::Identifier;
-use typed::{Action, Binding, ChannelUse, Command, VariableUse};
 use value::Width;
 
 pub(crate) fn target(

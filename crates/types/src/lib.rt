@@ -14,6 +14,7 @@ mod expression;
 mod forms;
 mod laws;
 mod scope;
+mod tree;
 mod typing;
 mod uses;
 mod verdict;
@@ -26,7 +27,7 @@ pub use laws::{
 pub use refusals::types::Fault;
 use std::alloc::Global;
 use syntax::Description;
-pub use typed::{
+pub use tree::{
     Action, Arm, Binding, ChannelUse, Command, Expression, Guarded, Labelled, Local, LocalKind,
     Port, PortKind, Procedure, Typed, VariableUse,
 };

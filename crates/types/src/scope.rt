@@ -4,12 +4,11 @@ ghost use Rattle.std.specs.Option.{option_copied};
 ghost use Rattle.types.specs.Names as names;
 ghost use Rattle.types.specs.internal.Scopes.{entries};
 
-use crate::Fault;
 use crate::verdict::Settled;
+use crate::{Binding, Fault, LocalKind, PortKind};
 use indexmap::IndexMap;
 use std::alloc::{AllocError, Global};
 use syntax::{Identifier, Items, Name};
-use typed::{Binding, LocalKind, PortKind};
 use value::{Value, Width};
 
 /// What a declared name means.

@@ -7,15 +7,14 @@ ghost use Rattle.types.specs.internal.Least.{least};
 ghost use Rattle.syntax.specs.declared.declaration.Description.{Description};
 ghost use Rattle.refusals.specs.declared.types.Fault.TheVariants.{Memory};
 
-use crate::Fault;
 use crate::declaration::{declare_types, settled_procedures};
 use crate::scope::Scope;
 use crate::verdict::Verdict;
+use crate::{Fault, Procedure, Typed};
 use std::alloc::{AllocError, Global};
 use std::marker::Model;
 use std::mem;
 use syntax::{Items, TypeDeclaration};
-use typed::{Procedure, Typed};
 
 /// A description of which the types and the first procedures are judged. Nothing of their tree is kept, and once a
 /// fault is found no procedures either.
@@ -29,7 +28,7 @@ pub struct Typing {
 impl Model for Typing {
     ghost use Rattle.types.specs.internal.Judged.{Judgement};
     ghost use Rattle.std.specs.Coded.{codes};
-    ghost use Rattle.typed.specs.contracts.tree.Procedure as procedure;
+    ghost use Rattle.types.specs.contracts.tree.Procedure as procedure;
 
     ghost Value = { Judgement };
 

@@ -2,10 +2,9 @@
 ghost use Rattle.std.specs.Prelude.{◌≡◌};
 ghost use Rattle.types.specs.Uses as uses;
 
-use crate::Fault;
 use crate::scope::{Channel, Found, Meaning};
 use crate::verdict::Verdict;
-use typed::{Binding, ChannelUse, VariableUse};
+use crate::{Binding, ChannelUse, Fault, VariableUse};
 use value::{Value, Width};
 
 /// What the name means, if it is visible and no channel that is open.

@@ -5,7 +5,7 @@ use crate::scan::{acting_at_first_child, canonical, dependents, direct, follower
 use crate::threads::Threads;
 use address::Entry;
 use calculus::Event;
-use canonical_order::canonical_order;
+use trace_file::canonical_order;
 use dependence::Live;
 use std::alloc::Global;
 use std::io;

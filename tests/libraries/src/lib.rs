@@ -21,11 +21,21 @@ mod expressions;
 #[cfg(test)]
 mod faults;
 #[cfg(test)]
+mod from_the_specification;
+#[cfg(test)]
+mod from_the_specification_events;
+#[cfg(test)]
+mod from_the_specification_runs;
+#[cfg(test)]
+mod from_the_specification_texts;
+#[cfg(test)]
 mod gates;
 #[cfg(test)]
 mod histories;
 #[cfg(test)]
 mod inquiries;
+#[cfg(test)]
+mod lent_parts;
 #[cfg(test)]
 mod lines;
 #[cfg(test)]

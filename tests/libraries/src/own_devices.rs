@@ -1,6 +1,6 @@
 //! Sessions over a reader and a writer of one's own, which count their failures themselves.
 
-ghost use Rattle.std.specs.Prelude.{◌-◌, None, [], vec_len};
+ghost use Rattle.std.specs.Prelude.{◌-◌, Some, vec_len};
 
 use crate::one::{FIVE, ONE};
 use debug_session::{CountedLines, CountedWrite, Fault, debug};
@@ -15,11 +15,12 @@ struct Script<'a> {
 }
 
 impl CountedLines for Script<'_> {
-    ghost remaining = { λ _. None };
+    ghost remaining = { λ script. Some script.rest.now };
 
+    // It never fails.
     ghost failed = { λ _. 0 };
 
-    ghost buffered = { λ _. [] };
+    ghost buffered = { λ script. script.rest.now };
 
     ghost Asked = { Unit {0} };
 
@@ -39,8 +40,13 @@ impl CountedLines for Script<'_> {
     }
 
     fn read_line(&mut self, line: &mut Vec<u8>) -> Result<bool, ReadFault> {
+        let is_whole = self.look_at_line(line);
+        if let Ok(true) = is_whole {
+            self.pass_line(line.as_slice());
+            return Ok(true);
+        }
         line.clear();
-        if line.extend_from_slice(self.rest).is_err() {
+        if is_whole.is_err() || line.extend_from_slice(self.rest).is_err() {
             return Err(ReadFault::Memory);
         }
         self.rest = b"";
@@ -57,12 +63,25 @@ struct Paper {
     sent: usize,
     /// how many it was last asked to take
     wanted: usize,
+    failed: u64,
+}
+
+impl Paper {
+    fn new(alloc: Global, room: usize, good: usize) -> Result<Paper, Fail> {
+        Ok(Paper {
+            taken: Vec::with_capacity(alloc, room)?,
+            good,
+            sent: 0,
+            wanted: 0,
+            failed: 0,
+        })
+    }
 }
 
 impl CountedWrite for Paper {
-    ghost contents = { λ _. None };
+    ghost contents = { λ paper. Some paper.taken.items };
 
-    ghost failed = { λ _. 0 };
+    ghost failed = { λ paper. paper.failed };
 
     ghost tries = { λ _. 0 };
 
@@ -73,6 +92,7 @@ impl CountedWrite for Paper {
     fn write_some(&mut self, bytes: &[u8]) -> Result<usize, WriteFailed> {
         self.wanted = bytes.len();
         if self.taken.len() >= self.good || self.taken.extend_from_slice(&bytes[..1]).is_err() {
+            self.failed = self.failed.wrapping_add(1);
             return Err(WriteFailed);
         }
         Ok(1)
@@ -103,14 +123,10 @@ fn a_session_is_over_any_devices(rt: HostRuntime) -> Result<(), Fail> {
     let answers = b"step 1 meet i 5 /1.0.0 /0.0\nlive 1\n  1 meet i 5 /1.0.0 /0.0\n";
     let first = b"step 1 meet i 5 /1.0.0 /0.0\n".len();
     for good in 0..answers.len() + 1 {
-        let mut paper = Paper {
-            taken: Vec::with_capacity(rt.alloc(), 256)?,
-            good,
-            sent: 0,
-            wanted: 0,
-        };
+        let mut paper = Paper::new(rt.alloc(), 256, good)?;
         let (ended, _) = ended(rt.alloc(), lines, &mut paper)?;
         assert_eq!(rt; ended.is_ok(), good == answers.len());
+        assert_eq!(rt; paper.failed, if ended.is_ok() { 0 } else { 1 });
         assert!(rt; paper.taken.as_slice() == &answers[..good]);
         // What was written whole is flushed: the first answer, before more is read, and both at the end.
         let begun = if good < first { 0 } else { first };
@@ -127,12 +143,7 @@ fn behind_a_failed_write_no_line_is_taken(rt: HostRuntime) -> Result<(), Fail> {
     }
     // Answers of 7 bytes each are held up to 8,192 bytes: the line behind 1,170 of them is taken once those are out.
     for (good, taken) in [(0, 1_170), (1_000, 1_170), (8_193, 1_171), (8_197, 2_341)] {
-        let mut paper = Paper {
-            taken: Vec::with_capacity(rt.alloc(), 16_384)?,
-            good,
-            sent: 0,
-            wanted: 0,
-        };
+        let mut paper = Paper::new(rt.alloc(), 16_384, good)?;
         let (ended, rest) = ended(rt.alloc(), lines.as_slice(), &mut paper)?;
         assert!(rt; matches!(ended, Err(Fault::WriteFailed)));
         assert_eq!(rt; paper.taken.len(), good);
@@ -148,12 +159,7 @@ fn behind_a_failed_write_an_empty_line_stays_too(rt: HostRuntime) -> Result<(), 
         lines.extend_from_slice(b"live\n")?;
     }
     lines.extend_from_slice(b"\nlive\n")?;
-    let mut paper = Paper {
-        taken: Vec::with_capacity(rt.alloc(), 16_384)?,
-        good: 8_193,
-        sent: 0,
-        wanted: 0,
-    };
+    let mut paper = Paper::new(rt.alloc(), 16_384, 8_193)?;
     let (ended, rest) = ended(rt.alloc(), lines.as_slice(), &mut paper)?;
     assert!(rt; matches!(ended, Err(Fault::WriteFailed)));
     assert!(rt; rest == b"\nlive\n".as_slice());
@@ -163,12 +169,7 @@ fn behind_a_failed_write_an_empty_line_stays_too(rt: HostRuntime) -> Result<(), 
 #[test]
 fn a_bad_line_is_taken_once_the_answers_before_it_are_out(rt: HostRuntime) -> Result<(), Fail> {
     for (good, rest) in [(0, "no\nlive\n"), (6, "no\nlive\n"), (7, "live\n")] {
-        let mut paper = Paper {
-            taken: Vec::with_capacity(rt.alloc(), 256)?,
-            good,
-            sent: 0,
-            wanted: 0,
-        };
+        let mut paper = Paper::new(rt.alloc(), 256, good)?;
         let (ended, left) = ended(rt.alloc(), b"live\nno\nlive\n", &mut paper)?;
         let fault = if good < 7 {
             Fault::WriteFailed

@@ -18,8 +18,7 @@ use std::cmp::Ordering;
 use std::test::Fail;
 use store::Store;
 use syntax::{Boxed, Description};
-use typed::Typed;
-use types::check_types;
+use types::{Typed, check_types};
 use value::{Comparison, Value, add, bit_and, bit_or, bit_xor, compare, not, resize, sub};
 
 #[test]

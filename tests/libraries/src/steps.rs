@@ -78,7 +78,7 @@ fn undo(run: &mut Run, place: usize) -> Event {
 
 /// Whether these events are ready, in this order, and no others, by the fast call and by the plain one.
 fn are_ready(alloc: Global, run: &Run, told: &[Told]) -> Result<bool, Fail> {
-    let ready = ready_events(alloc, &run.uses, &run.tree, &run.store)?;
+    let ready = ready_events(alloc, &run.tree, &run.store)?;
     let plain = rendezvous::ready_events(alloc, &run.tree, &run.store)?;
     Ok(are_events(alloc, ready.as_slice(), told)? && are_events(alloc, plain.as_slice(), told)?)
 }
@@ -448,7 +448,7 @@ fn go_and_return(
     let mut run = begun(alloc, example)?;
     let first = numbers_of(alloc, run.tree.root())?;
     while run.records.len() < most {
-        let ready = ready_events(alloc, &run.uses, &run.tree, &run.store)?;
+        let ready = ready_events(alloc, &run.tree, &run.store)?;
         let Some(event) = ready.get(0) else {
             break;
         };

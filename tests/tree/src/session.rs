@@ -70,7 +70,7 @@ impl Session {
 
     /// Makes one of the events that are ready, at random. Whether there was one.
     pub fn step(&mut self, random: &mut Random, rows: &mut Rows) -> io::Result<bool> {
-        let ready = ready_events(self.alloc, &self.uses, &self.tree, &self.store)?;
+        let ready = ready_events(self.alloc, &self.tree, &self.store)?;
         if ready.is_empty() {
             return Ok(false);
         }
@@ -128,7 +128,7 @@ impl Session {
 
     /// Makes an event and takes it back at once: tree and store are to be as they were.
     pub fn step_and_undo(&mut self, random: &mut Random) -> io::Result<()> {
-        let ready = ready_events(self.alloc, &self.uses, &self.tree, &self.store)?;
+        let ready = ready_events(self.alloc, &self.tree, &self.store)?;
         if ready.is_empty() {
             return Ok(());
         }
@@ -151,7 +151,7 @@ impl Session {
         };
         self.look_at_values(state)?;
         let expected = allowed(self.alloc, state)?;
-        let ready = ready_events(self.alloc, &self.uses, &self.tree, &self.store)?;
+        let ready = ready_events(self.alloc, &self.tree, &self.store)?;
         let is_same = are_equal(ready.as_slice(), expected.as_slice());
         self.expect(is_same, "ready_events")?;
         let plain = rendezvous::ready_events(self.alloc, &self.tree, &self.store)?;

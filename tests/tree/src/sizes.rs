@@ -4,10 +4,9 @@ use crate::numbered::numbers_of;
 use crate::states::{allowed, are_equal};
 use allowed_events::ready_events;
 use calculus::{Event, Kind, replay};
-use channel_uses::ChannelUses;
 use event_inverse::{Record, apply, invert};
 use local_actions::{LocalAction, ActionKind, actions_of};
-use process_tree::{Tree, system_code};
+use process_tree::Tree;
 use sharing_check::Checked;
 use std::alloc::{AllocError, Global};
 use std::io;
@@ -21,7 +20,6 @@ const STEPS: usize = 150;
 struct Run {
     alloc: Global,
     checked: Checked,
-    uses: ChannelUses,
     tree: Tree,
     store: Store,
     events: Vec<Event>,
@@ -30,14 +28,11 @@ struct Run {
 
 impl Run {
     fn new(alloc: Global, checked: Checked) -> Result<Run, AllocError> {
-        let code = system_code(alloc, checked.system())?;
-        let uses = ChannelUses::new(alloc, &code)?;
         let tree = Tree::new(alloc, checked.system())?;
         let store = Store::new(alloc, checked.system())?;
         Ok(Run {
             alloc,
             checked,
-            uses,
             tree,
             store,
             events: Vec::new(alloc),
@@ -55,7 +50,7 @@ impl Run {
 
     /// Makes the first event that is ready. Whether there is one.
     fn step(&mut self) -> Result<bool, AllocError> {
-        let ready = ready_events(self.alloc, &self.uses, &self.tree, &self.store)?;
+        let ready = ready_events(self.alloc, &self.tree, &self.store)?;
         match ready.get(0) {
             Some(event) => {
                 let event = event.copy(self.alloc)?;
@@ -68,7 +63,7 @@ impl Run {
 
     /// Compares the ready events with those of the slow replay.
     fn look(&self) -> io::Result<()> {
-        let ready = ready_events(self.alloc, &self.uses, &self.tree, &self.store)?;
+        let ready = ready_events(self.alloc, &self.tree, &self.store)?;
         match replay(self.alloc, &self.checked, self.events.as_slice())? {
             Some(state) => {
                 let expected = allowed(self.alloc, &state)?;

@@ -2,8 +2,8 @@
 -- No reader has to believe it: the clause of `events_among` says what is listed.
 use Rattle.std.specs.Prelude.{◌≡◌, ◌↔◌, ◌≤◌, ℕ, List, Option, Some, None, slice_get}
 use Rattle.runs.specs.declared.event.Event.{Event}
-use Rattle.last_events.specs.LastEvents.{Uses}
-use Rattle.last_events.specs.declared.uses.UseTable.{UseTable}
+use Rattle.dependence.specs.LastEvents.{Uses}
+use Rattle.dependence.specs.declared.uses.UseTable.{UseTable}
 use Rattle.local_actions.specs.declared.action.LocalAction.{LocalAction}
 use Rattle.local_actions.specs.declared.action.ActionKind.{ActionKind}
 use Rattle.local_actions.specs.declared.action.ActionKind.TheVariants.{Sends, Syncs, Releases}

@@ -7,7 +7,7 @@ use Rattle.std.specs.Ordering.{is_eq}
 use Rattle.address.specs.Order.{order_of}
 use Rattle.address.specs.declared.Entry.{Entry}
 use Rattle.syntax.specs.Lists.{In}
-use Rattle.last_events.specs.LastEvents as last
+use Rattle.dependence.specs.LastEvents as last
 use Rattle.runs.specs.Dependence.{OnOneVariable, Earlier, Rearranged}
 use Rattle.runs.specs.Events.{acting}
 use Rattle.runs.specs.declared.event.Event.{Event}

@@ -6,7 +6,7 @@ use Rattle.address.specs.declared.Entry.{Entry}
 use Rattle.system.specs.Expression.{Store}
 use Rattle.process_tree.specs.Code.{Code, Codes, code_at}
 use Rattle.process_tree.specs.Proc.{Proc, Procs}
-use Rattle.last_events.specs.declared.uses.UseTable.{UseTable}
+use Rattle.dependence.specs.declared.uses.UseTable.{UseTable}
 use Rattle.local_actions.specs.Walk.{Walk, added}
 use Rattle.local_actions.specs.internal.Listed.{behind, listed}
 use Rattle.channel_uses.specs.OnChannel.{on}

@@ -12,13 +12,12 @@ use Rattle.runs.specs.Commands as runs
 use Rattle.machine.proofs.public.HeadlineLaws.{headline}
 use Rattle.runs.proofs.public.ObjectLaws.{stays-over-lists}
 use Rattle.locked_execution.specs.AtDesk.{AtDesk, execution}
-use Rattle.locked_execution.specs.Bridge.{commands_of}
 use Rattle.locked_execution.specs.Performs.{Answers, OnExecution, session_reply}
 use Rattle.locked_execution.specs.declared.command.Command.{Command}
 use Rattle.locked_execution.specs.declared.command.Reply.{Reply}
 use Rattle.locked_execution.proofs.public.AskedLists.{answered-joins}
 use Rattle.locked_execution.proofs.public.BackLaws.{none-take-less}
-use Rattle.locked_execution.proofs.public.BridgeLaws.{are-on-execution}
+use Rattle.locked_execution.proofs.public.BridgeLaws.{commands_of, are-on-execution}
 use Rattle.locked_execution.proofs.public.Unchanged.{desk-stays}
 use Rattle.dap_moves.specs.Laws.{LedNowhere, LedOn, LedByOne, KeepsHeadline, LosesNothingElse}
 use Rattle.dap_moves.specs.Known.{HasValue}

@@ -1,5 +1,5 @@
 -- Marks: what they stand for, and what the passes over them keep.
-use Rattle.std.proofs.Common.{◌≡◌, ◌≢◌, ◌⊎◌, ◌↔◌, inl, inr, ℕ, zero, suc, ◌+◌, ◌-◌, ◌<◌, ◌≤◌, List, [], ◌∷◌, ◌++◌, Bool, true, false, cond, length, take, drop, get_or, Some, refl, sym, ◌∙◌, ap, subst, arith}
+use Rattle.std.proofs.Common.{◌≡◌, ◌≢◌, ◌⊎◌, ◌↔◌, inl, inr, ℕ, zero, suc, ◌+◌, ◌<◌, ◌≤◌, List, [], ◌∷◌, ◌++◌, Bool, true, false, cond, length, take, drop, get_or, Some, refl, sym, ◌∙◌, ap, subst, arith}
 use Rattle.std.specs.Prelude.{slice_get, slice_set}
 use Rattle.std.specs.List.{count_by}
 use Rattle.std.proofs.lemmas.Bool.{cases_eq, cases_lt}
@@ -8,7 +8,7 @@ use Rattle.std.proofs.lemmas.Option.{slice_get_within, slice_get-get_or}
 use Rattle.syntax.specs.Lists.{In}
 use Rattle.runs.specs.InOrder.{InOrder}
 use Rattle.runs.specs.Dependence.{Without, ended, stays, leaves}
-use Rattle.runs.specs.Live.{Live, Rising, DependsOn, same, ConsequencesList}
+use Rattle.runs.specs.Live.{Live, Rising, IsLive, DependsOn, same, ConsequencesList}
 use Rattle.runs.specs.declared.event.Event.{Event}
 use Rattle.runs.proofs.public.DependsOnLaw.{depends-up}
 use Rattle.runs.proofs.public.Lists.{every-of, in-left, in-right, in-parts}
@@ -21,7 +21,7 @@ use Rattle.dependence.specs.internal.Marking.{MarkedAt, MarkedBelow, UnmarkedTo,
 use Rattle.dependence.proofs.public.ListPlaces.{in-at, at-one, at-within, take-next, set-here, set-other}
 use Rattle.dependence.proofs.public.Linking.{one-index}
 use Rattle.dependence.proofs.public.Standing.{lesser-stands}
-use Rattle.dependence.proofs.public.Following.{follows-on}
+use Rattle.dependence.proofs.public.Following.{follows-on, follows-live}
 use Rattle.dependence.proofs.public.FollowerLaws.{direct-follows, reached-through-followers}
 
 marked-in : (l : Live) (marks : List Bool) (t i : ℕ) (e : Event) → slice_get l i ≡ Some (t, e) → slice_get marks i ≡ Some true → In t (tickets_marked l marks)
@@ -175,15 +175,20 @@ module _ (low next : ℕ) (d l : Live) (t index s : ℕ) (e : Event) (old new : 
     ];
   }
 
--- once all places are passed, the marks are those of all that depends on t
-pub all-passed : (d l : Live) (t index : ℕ) (marks : List Bool) → IsRising d → IsRising l → ((x : ℕ × Event) → In x d → In x l) → length d ≤ index →
+-- what depends on a live event is live
+pub dependents-live : (l : Live) (t u : ℕ) → IsLive l t → DependsOn l t u → IsLive l u
+dependents-live l t u live depends = elim (follows-live l t u depends) [ inl is ↦ subst (λ (v : ℕ). IsLive l v) (sym is) live | inr other ↦ other ]
+
+-- once all marks that are set are passed, they are those of all that depends on t
+pub all-passed : (d l : Live) (t index : ℕ) (marks : List Bool) → IsRising d → IsRising l → IsLive l t → UnmarkedFrom marks index →
     MarkedBelow d l t index marks → ConsequencesList l t (tickets_marked d marks)
-all-passed d l t index marks r rises inside past b =
+all-passed d l t index marks r rises live past b =
     record {
       exactly = λ u. (
         (λ i.
-            let at = (is-marked d marks u).0 i in
-            (at.1.0, inside (u, at.1.0) (in-at d at.0 (u, at.1.0) at.1.1), b.sound u at)),
+            let depends = b.sound u ((is-marked d marks u).0 i) in
+            let there = dependents-live l t u live depends in
+            (there.0, there.1, depends)),
         (λ h. (is-marked d marks u).1 (reached u ((reached-through-followers 0 rises.0 l t u rises.1).0 h.2))),
       );
       ascending = marked-ascend 0 r.0 d marks r.1;
@@ -193,8 +198,8 @@ all-passed d l t index marks r rises inside past b =
     reached u here = b.start
     reached u (along {u = v} before f) =
         let at = reached v before in
-        let within : at.0 < length d = slice_get_within d at.0 (v, at.1.0) at.1.1 in
-        b.onward v u at.0 at.1 (omega arith) at f
+        let within : at.0 < index = elim (cases_lt at.0 index) [ inl less ↦ less | inr high ↦ absurd (past at.0 high at.2) ] in
+        b.onward v u at.0 at.1 within at f
 
 -- one more ticket is marked
 pub marked-next : (l : Live) (first marks : List Bool) (tickets : List ℕ) (i index : ℕ) (e : Event) → IsRising l → length marks ≡ length l → i < length tickets →

@@ -6,9 +6,9 @@ use Rattle.std.proofs.lemmas.Bool.{cases_lt}
 use Rattle.address.specs.Places.{Before, Apart}
 use Rattle.address.proofs.public.Places.{before-irreflexive, apart-irreflexive, apart-symmetric, same?}
 use Rattle.syntax.specs.Lists.{In}
-use Rattle.last_events.specs.LastEvents.{ticket_at, IsAt, Uses, PutAt, RemovedAt, Same, OneTree, Orderly}
-use Rattle.last_events.specs.declared.places.PlaceTable.{PlaceTable}
-use Rattle.last_events.specs.declared.uses.UseTable.{UseTable}
+use Rattle.dependence.specs.LastEvents.{ticket_at, IsAt, Uses, PutAt, RemovedAt, Same, OneTree, Orderly}
+use Rattle.dependence.specs.declared.places.PlaceTable.{PlaceTable}
+use Rattle.dependence.specs.declared.uses.UseTable.{UseTable}
 use Rattle.runs.specs.Events.{places, places_of}
 use Rattle.runs.specs.Live.{Live, Rising, LiveAt, WithoutTickets}
 use Rattle.runs.specs.Moves.{Place}

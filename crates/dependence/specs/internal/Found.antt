@@ -3,8 +3,8 @@
 use Rattle.std.specs.Prelude.{◌≡◌, ◌⊎◌, ℕ, suc, ◌<◌, ◌≤◌, ◌^◌, List, [], Some}
 use Rattle.address.specs.Places.{Before}
 use Rattle.syntax.specs.Lists.{In}
-use Rattle.last_events.specs.LastEvents.{IsAt}
-use Rattle.last_events.specs.declared.places.PlaceTable.{PlaceTable}
+use Rattle.dependence.specs.LastEvents.{IsAt}
+use Rattle.dependence.specs.declared.places.PlaceTable.{PlaceTable}
 use Rattle.runs.specs.Dependence.{SomeBefore, Directly}
 use Rattle.runs.specs.Events.{places}
 use Rattle.runs.specs.Live.{Live, Rising, LiveAt, DependsOn, LastWriter}

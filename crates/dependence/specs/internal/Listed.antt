@@ -1,9 +1,10 @@
 -- The live events as they are kept: by ticket, each with its links, and an empty place where one was taken out.
 -- No reader has to believe it: contracts see a `Live` as `Shown`, which has no places.
-use Rattle.std.specs.Prelude.{◌≡◌, ℕ, ◌*◌, List, length, map, Option, Some, slice_get, slice_set, nat_lt, if◌then◌else◌}
+use Rattle.std.specs.Prelude.{◌≡◌, ℕ, ◌*◌, List, length, map, Some, slice_get, nat_lt, if◌then◌else◌}
 use Rattle.std.specs.List.{remove}
 use Rattle.slots.specs.Places.{Places, filled, RiseFrom, Counted, EndsFilled}
 use Rattle.runs.specs.Live.{Live}
+use Rattle.runs.specs.declared.event.Event.{Event}
 use Rattle.dependence.specs.declared.kept.Kept.{Kept}
 use Rattle.dependence.specs.declared.links.Links.{Links}
 use Rattle.dependence.specs.internal.Tables.{StandsAt}
@@ -15,6 +16,10 @@ events_kept ks = map (λ k. (k.0, k.1.event)) ks
 -- the links of what is kept
 abbrev pub links_kept : List (ℕ × Kept) → List Links
 links_kept ks = map (λ k. k.1.links) ks
+
+-- places as live events, whatever event each has: of these the tickets alone count
+abbrev pub seats : Event → Places Kept → Live
+seats e ps = map (λ p. (p.0, e)) ps
 
 -- how many more there is room for: so many in the map, where the blocks go on behind its places
 abbrev pub room_in : Places Kept → ℕ → ℕ → ℕ

@@ -3,9 +3,9 @@
 use Rattle.std.specs.Prelude.{◌≡◌, ◌⊎◌, ◌↔◌, ℕ, ◌<◌, List, [], ◌∷◌, Option, Some, None}
 use Rattle.address.specs.Places.{Before, Apart}
 use Rattle.syntax.specs.Lists.{In}
-use Rattle.last_events.specs.LastEvents.{IsAt, Uses}
-use Rattle.last_events.specs.declared.places.PlaceTable.{PlaceTable}
-use Rattle.last_events.specs.declared.uses.UseTable.{UseTable}
+use Rattle.dependence.specs.LastEvents.{IsAt, Uses}
+use Rattle.dependence.specs.declared.places.PlaceTable.{PlaceTable}
+use Rattle.dependence.specs.declared.uses.UseTable.{UseTable}
 use Rattle.runs.specs.Events.{places}
 use Rattle.runs.specs.Live.{Live, LiveAt}
 use Rattle.runs.specs.Moves.{Place}

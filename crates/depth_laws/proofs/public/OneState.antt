@@ -18,8 +18,8 @@ use Rattle.runs.proofs.public.Elements.{in-rearranged, rearranged-in}
 use Rattle.runs.proofs.public.FromOpening.{acting_once, one_state, respecting_orders}
 use Rattle.runs.proofs.public.Lists.{every-in}
 use Rattle.runs.proofs.public.ReadyLists.{sooner-asymmetric}
-use Rattle.event_places.specs.EventPlaces.{at_choice, line_after, taken_by}
-use Rattle.event_places.proofs.public.Taken.{none_taken, taken_by_the_event}
+use Rattle.dependence.specs.EventPlaces.{at_choice, line_after, taken_by}
+use Rattle.dependence.proofs.public.Taken.{none_taken, taken_by_the_event}
 use Rattle.depth_laws.specs.Laws.{AreEqualRuns}
 
 -- two lists in order that have the same events are one

@@ -1,9 +1,9 @@
 -- What the fold over commands gives of arms, which are no commands themselves.
 -- No reader has to believe it: these are the folds of `calls_onto` in `Calls.antt`.
-use Rattle.typed.specs.declared.tree.Arm.{Arm}
-use Rattle.typed.specs.declared.tree.Guarded.{Guarded}
-use Rattle.typed.specs.declared.tree.Labelled.{Labelled}
-use Rattle.typed.specs.declared.tree.Action.TheFolds.{fold-Arm, fold-Guarded, fold-Labelled}
+use Rattle.types.specs.declared.tree.Arm.{Arm}
+use Rattle.types.specs.declared.tree.Guarded.{Guarded}
+use Rattle.types.specs.declared.tree.Labelled.{Labelled}
+use Rattle.types.specs.declared.tree.Action.TheFolds.{fold-Arm, fold-Guarded, fold-Labelled}
 use Rattle.described.specs.Calls.{Onto, OnLine, calls_layer, calls_arm, calls_command, calls_guarded, calls_labelled}
 
 -- the same of an arm of `select` or `arbitrate`

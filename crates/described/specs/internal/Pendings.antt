@@ -1,6 +1,6 @@
 -- Calls that are still to be told.
 use Rattle.std.specs.Prelude.{ℕ, List, [], ◌∷◌, take}
-use Rattle.typed.specs.declared.tree.Procedure.{Procedure}
+use Rattle.types.specs.declared.tree.Procedure.{Procedure}
 use Rattle.described.specs.Telling.{Found, entered_by, told_by, tellings}
 use Rattle.described.specs.declared.body_calls.BodyCall.{BodyCall}
 use Rattle.described.specs.declared.walk.Entered.{Entered}

@@ -6,10 +6,10 @@ use Rattle.system.specs.declared.command.Arm as tree_arm
 use Rattle.system.specs.declared.command.Command as tree_command
 use Rattle.system.specs.declared.command.Guarded as tree_guarded
 use Rattle.system.specs.declared.command.Labelled as tree_labelled
-use Rattle.typed.specs.declared.tree.Guarded.{Guarded}
-use Rattle.typed.specs.declared.tree.Labelled.{Labelled}
-use Rattle.typed.specs.declared.tree.Arm.{Arm}
-use Rattle.typed.specs.declared.tree.Action.TheFolds.{fold-Guarded, fold-Labelled, fold-Arm}
+use Rattle.types.specs.declared.tree.Guarded.{Guarded}
+use Rattle.types.specs.declared.tree.Labelled.{Labelled}
+use Rattle.types.specs.declared.tree.Arm.{Arm}
+use Rattle.types.specs.declared.tree.Action.TheFolds.{fold-Guarded, fold-Labelled, fold-Arm}
 
 -- an arm of `if`
 abbrev pub maker_of_guarded : List ProcedureMaker → Guarded → Maker tree_guarded.Guarded

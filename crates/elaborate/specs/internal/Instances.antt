@@ -8,10 +8,10 @@ use Rattle.elaborate.specs.declared.instance.Entrance.{Entrance}
 use Rattle.system.specs.Named.{prefix_of_call}
 use Rattle.system.specs.declared.expression.Use.{Use}
 use Rattle.system.specs.declared.expression.Expression as named
-use Rattle.typed.specs.declared.tree.Binding.{Binding}
-use Rattle.typed.specs.declared.tree.ChannelUse.{ChannelUse}
-use Rattle.typed.specs.declared.tree.VariableUse.{VariableUse}
-use Rattle.typed.specs.declared.tree.Expression.{Expression}
+use Rattle.types.specs.declared.tree.Binding.{Binding}
+use Rattle.types.specs.declared.tree.ChannelUse.{ChannelUse}
+use Rattle.types.specs.declared.tree.VariableUse.{VariableUse}
+use Rattle.types.specs.declared.tree.Expression.{Expression}
 
 -- what the names of an instance stand for
 abbrev pub names_of : Instance → Names

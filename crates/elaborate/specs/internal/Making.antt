@@ -1,15 +1,15 @@
 -- The variables and channels of a system as they are made, one behind the other. Numbers end at those of 32 bits.
 -- No reader has to believe it: `proofs/CopyLemmas.antt` ties it to the copies of `Copies.antt`.
 use Rattle.std.specs.Prelude.{ℕ, min, List, [], ◌∷◌, ◌++◌, Bool, true, false, length}
-use Rattle.typed.specs.declared.tree.Local.{Local}
-use Rattle.typed.specs.declared.tree.LocalKind.{LocalKind}
-use Rattle.typed.specs.declared.tree.LocalKind.TheVariants as local
-use Rattle.typed.specs.declared.tree.Port.{Port}
+use Rattle.types.specs.declared.tree.Local.{Local}
+use Rattle.types.specs.declared.tree.LocalKind.{LocalKind}
+use Rattle.types.specs.declared.tree.LocalKind.TheVariants as local
+use Rattle.types.specs.declared.tree.Port.{Port}
 use Rattle.elaborate.specs.declared.made.Made.{Made}
 use Rattle.system.specs.declared.system.ChannelKind.{ChannelKind}
 use Rattle.system.specs.declared.system.ChannelKind.TheVariants as kind
-use Rattle.typed.specs.declared.tree.PortKind.{PortKind}
-use Rattle.typed.specs.declared.tree.PortKind.TheVariants as port
+use Rattle.types.specs.declared.tree.PortKind.{PortKind}
+use Rattle.types.specs.declared.tree.PortKind.TheVariants as port
 use Rattle.elaborate.specs.declared.instance.Instance.{Instance}
 use Rattle.elaborate.specs.declared.instance.Entrance.{Entrance}
 

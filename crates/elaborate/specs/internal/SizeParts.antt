@@ -3,10 +3,10 @@
 use Rattle.elaborate.specs.declared.count.Size.{Size}
 use Rattle.elaborate.specs.SourceSize.{Cut, action_size, arm_size, command_size, guarded_size, labelled_size}
 use Rattle.std.specs.Prelude.{List}
-use Rattle.typed.specs.declared.tree.Guarded.{Guarded}
-use Rattle.typed.specs.declared.tree.Labelled.{Labelled}
-use Rattle.typed.specs.declared.tree.Arm.{Arm}
-use Rattle.typed.specs.declared.tree.Action.TheFolds.{fold-Guarded, fold-Labelled, fold-Arm}
+use Rattle.types.specs.declared.tree.Guarded.{Guarded}
+use Rattle.types.specs.declared.tree.Labelled.{Labelled}
+use Rattle.types.specs.declared.tree.Arm.{Arm}
+use Rattle.types.specs.declared.tree.Action.TheFolds.{fold-Guarded, fold-Labelled, fold-Arm}
 
 -- an arm of `if`
 abbrev pub size_of_guarded : Cut → List Size → Guarded → Size

@@ -6,12 +6,12 @@ use Rattle.elaborate.specs.Environment.{branch_on}
 use Rattle.elaborate.specs.Fit.{entry_named}
 use Rattle.elaborate.specs.internal.Makers.{WithMade, after_call, called, makers}
 use Rattle.elaborate.specs.internal.Making.{capped_number, nothing_made, ports_onto, Numbered}
-use Rattle.stimulus.specs.declared.stimulus.Entry.{Entry}
+use Rattle.elaborate.specs.declared.stimulus.Entry.{Entry}
 use Rattle.system.specs.declared.command.Command as tree_command
 use Rattle.system.specs.declared.system.Branch.{Branch}
 use Rattle.system.specs.declared.system.System.{System}
-use Rattle.typed.specs.declared.tree.Port.{Port}
-use Rattle.typed.specs.declared.tree.Procedure.{Procedure}
+use Rattle.types.specs.declared.tree.Port.{Port}
+use Rattle.types.specs.declared.tree.Procedure.{Procedure}
 
 -- the branch of each port, the first of which has this place
 abbrev pub walked_branches : List Entry → ℕ → List Port → List Branch

@@ -1,5 +1,5 @@
 -- The actions where a walk down along a place ends are those that are offered there.
-use Rattle.std.proofs.Common.{◌≡◌, ◌↔◌, inl, inr, ℕ, List, [], ◌∷◌, ◌++◌, Bool, true, false, ◌&&◌, cond, Option, Some, refl, sym, ap, ap₂, ◌∙◌, subst, eqb-true, eq-eqb, arith}
+use Rattle.std.proofs.Common.{◌≡◌, ◌↔◌, inl, inr, ℕ, List, [], ◌∷◌, ◌++◌, Bool, true, false, ◌&&◌, cond, Option, Some, None, IsSome, refl, sym, ap, ap₂, ◌∙◌, subst, eqb-true, eq-eqb, arith}
 use Rattle.std.proofs.lemmas.Bool.{and_parts, and_from}
 use Rattle.std.specs.Prelude.{◌==◌}
 use Rattle.address.specs.internal.OrderLaws.{less-not-equal}
@@ -116,3 +116,11 @@ module _ (s t : Store) (p q : Proc) (a : Place) (old new : Received) (y : Site) 
         λ i. let both = (in-under a x (listed s [] p).actions).0 (subst (λ (l : List LocalAction). In x l) list i) in ((all.exactly x).0 both.0, both.1),
         λ h. subst (λ (l : List LocalAction). In x l) (sym list) ((in-under a x (listed s [] p).actions).1 ((all.exactly x).1 h.0, h.1)),
       )
+
+  -- so where one is chosen, it is offered
+  pub offered-some : (k : ℕ) → IsSome (chosen [] k (at_site t new y)) → (x : ActionKind) × Offered (state (remaining [] p) s) (action_at a x) × (opened_arm x ≡ k)
+  offered-some k h = pick (chosen [] k (at_site t new y)) refl h
+    where
+      pick : (o : Option ActionKind) → chosen [] k (at_site t new y) ≡ o → IsSome o → (x : ActionKind) × Offered (state (remaining [] p) s) (action_at a x) × (opened_arm x ≡ k)
+      pick None e h = cc
+      pick (Some x) e h = let there = (offered-there k (Some x) (sym e) x).0 refl in (x, there.0, there.1)

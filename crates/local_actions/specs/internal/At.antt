@@ -17,6 +17,7 @@ use Rattle.local_actions.specs.internal.Listed.{listed}
 use Rattle.local_actions.specs.declared.action.LocalAction.{LocalAction}
 use Rattle.local_actions.specs.declared.action.ActionKind.{ActionKind}
 use Rattle.local_actions.specs.declared.action.ActionKind.TheVariants.{Opens}
+use Rattle.local_actions.specs.declared.around.OnWay.{OnWay}
 use Rattle.local_actions.specs.declared.site.Only.{Only}
 use Rattle.local_actions.specs.declared.site.Only.TheVariants.{Waiting, Holding, Again, Test, Close, Drain}
 use Rattle.local_actions.specs.declared.site.Site.{Site}
@@ -81,6 +82,14 @@ abbrev pub once_chosen : Store → Received → ℕ → Option (Bor memory.Once)
 once_chosen s env k None = None
 once_chosen s env k (Some o) = chosen [] k (action_at [] (once_kind s (puts_once env (once_view o.now))) ∷ [])
 
+-- what was received on a way is this, unless it was lost
+abbrev pub IsKept : OnWay → Received → Type 0
+IsKept w env = w.is_lost ≡ false → w.around ≡ env
+
 -- a walk down along the place has come from the process to this: there the process offers exactly what that does
 abbrev pub Leads : Proc → Place → Received → Received → Site → Type 0
 Leads p a old new x = (s : Store) → under a (listed s old p).actions ≡ below a (at_site s new x)
+
+-- the same of a walk that keeps what it receives on its way: where it lost that, it has come there none the less
+abbrev pub LeadsOn : Proc → Place → OnWay → OnWay → Site → Type 0
+LeadsOn p a old new x = (env : Received) → IsKept old env → (then : Received) × IsKept new then × Leads p a env then x

@@ -12,12 +12,11 @@ use Rattle.runs.proofs.public.Effects.{does-effect}
 use Rattle.runs.proofs.public.ObjectLaws.{stays, least-rollback-law, back-then-forth-law, rolls-exactly, rolled-value, consequences-exactly}
 use Rattle.machine.specs.Marks.{marks_behind}
 use Rattle.locked_execution.specs.AtDesk.{AtDesk, execution}
-use Rattle.locked_execution.specs.Bridge.{commands_of}
 use Rattle.locked_execution.specs.GoingBack.{NoneTakeLess, RollTakesNoOthers, ConsequencesTellRoll, ValueFromBefore, PerformsAll, AllAmountToBackAndForth}
 use Rattle.locked_execution.specs.Performs.{Performs, OnExecution, execution_command, session_reply}
 use Rattle.locked_execution.specs.declared.command.Command.{Command}
 use Rattle.locked_execution.specs.declared.command.Reply.{Reply}
-use Rattle.locked_execution.proofs.public.BridgeLaws.{are-on-execution}
+use Rattle.locked_execution.proofs.public.BridgeLaws.{commands_of, are-on-execution}
 use Rattle.locked_execution.proofs.SomeReplies.{same-opening}
 
 -- ---- laws of the execution

@@ -5,7 +5,7 @@ use Rattle.std.proofs.lemmas.List.Elements.{filter-append}
 use Rattle.syntax.specs.Lists.{Every}
 use Rattle.sharing_check.specs.declared.checked.Checked.{Checked}
 use Rattle.system_places.specs.SystemBranches.{branch_at}
-use Rattle.event_places.specs.EventPlaces.{line_after}
+use Rattle.dependence.specs.EventPlaces.{line_after}
 use Rattle.runs.specs.Moves.{Place}
 use Rattle.runs.specs.Events.{acting}
 use Rattle.runs.specs.Choices.{choice_of}

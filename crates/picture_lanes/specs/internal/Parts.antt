@@ -5,7 +5,7 @@ use Rattle.system.specs.declared.command.Arm.{Arm}
 use Rattle.system.specs.declared.command.Guarded.{Guarded}
 use Rattle.system.specs.declared.command.Labelled.{Labelled}
 use Rattle.system.specs.declared.command.Action.TheFolds.{fold-Arm, fold-Guarded, fold-Labelled}
-use Rattle.typed.specs.declared.tree.Procedure.{Procedure}
+use Rattle.types.specs.declared.tree.Procedure.{Procedure}
 use Rattle.picture_lanes.specs.Walk.{OfArm, OnLine, Walk, walk_arm, walk_command, walk_guarded, walk_labelled, walk_layer}
 
 -- the same of an arm of `select` or `arbitrate`

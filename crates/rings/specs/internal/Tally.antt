@@ -2,8 +2,8 @@
 -- No reader has to believe it: the contract of `deadlocked_among` ties it to `TellsDeadlocked`.
 use Rattle.std.specs.Prelude.{◌≡◌, ◌⊎◌, ℕ, zero, suc, ◌+◌, ◌<◌, ◌≤◌, ◌==◌, List, [], ◌∷◌, length, Bool, true, false, ◌&&◌, ◌||◌, Option, Some, None, slice_get, slice_index, slice_index_or}
 use Rattle.syntax.specs.Lists.{In}
-use Rattle.last_events.specs.LastEvents.{Uses}
-use Rattle.last_events.specs.declared.uses.UseTable.{UseTable}
+use Rattle.dependence.specs.LastEvents.{Uses}
+use Rattle.dependence.specs.declared.uses.UseTable.{UseTable}
 use Rattle.rings.specs.internal.Loosened.{is_marked}
 
 -- whether a number is one of these

@@ -2,8 +2,8 @@
 -- No reader has to believe it: the contract of `ring_among` ties it to `TellsRing`.
 use Rattle.std.specs.Prelude.{◌≡◌, ℕ, ◌≤◌, List, length, Bool, true, false, Option, Some, None, slice_get, slice_set}
 use Rattle.syntax.specs.Lists.{In}
-use Rattle.last_events.specs.LastEvents.{Uses}
-use Rattle.last_events.specs.declared.uses.UseTable.{UseTable}
+use Rattle.dependence.specs.LastEvents.{Uses}
+use Rattle.dependence.specs.declared.uses.UseTable.{UseTable}
 use Rattle.local_actions.specs.declared.action.LocalAction.{LocalAction}
 use Rattle.rings.specs.declared.place_uses.PlaceUses.{PlaceUses}
 use Rattle.rings.specs.declared.ring.Seen.{Seen}

@@ -2,8 +2,8 @@
 -- speaks of live events alone.
 use Rattle.std.specs.Prelude.{◌≡◌, ◌⊎◌, ◌↔◌, ℕ, ◌+◌, ◌<◌, List, [], Some, length, slice_get, slice_index}
 use Rattle.syntax.specs.Lists.{In}
-use Rattle.last_events.specs.LastEvents.{IsAt, LastBefore}
-use Rattle.last_events.specs.declared.places.PlaceTable.{PlaceTable}
+use Rattle.dependence.specs.LastEvents.{IsAt, LastBefore}
+use Rattle.dependence.specs.declared.places.PlaceTable.{PlaceTable}
 use Rattle.runs.specs.Live.{Live}
 use Rattle.runs.specs.Moves.{Place}
 use Rattle.runs.specs.declared.event.Event.{Event}

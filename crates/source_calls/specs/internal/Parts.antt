@@ -1,10 +1,10 @@
 -- What the fold over commands gives of arms, which are no commands themselves.
 -- No reader has to believe it: these are the folds of `calls_in` in `Counts.antt`.
 use Rattle.std.specs.Prelude.{ℕ}
-use Rattle.typed.specs.declared.tree.Arm.{Arm}
-use Rattle.typed.specs.declared.tree.Guarded.{Guarded}
-use Rattle.typed.specs.declared.tree.Labelled.{Labelled}
-use Rattle.typed.specs.declared.tree.Action.TheFolds.{fold-Arm, fold-Guarded, fold-Labelled}
+use Rattle.types.specs.declared.tree.Arm.{Arm}
+use Rattle.types.specs.declared.tree.Guarded.{Guarded}
+use Rattle.types.specs.declared.tree.Labelled.{Labelled}
+use Rattle.types.specs.declared.tree.Action.TheFolds.{fold-Arm, fold-Guarded, fold-Labelled}
 use Rattle.source_calls.specs.Counts.{counts_layer, counts_arm, counts_command, counts_guarded, counts_labelled}
 
 -- how many calls stand in an arm of `select` or `arbitrate`

@@ -17,7 +17,7 @@ use Rattle.trace_file.specs.TraceText.{header_of, Begins}
 use Rattle.trace_file.specs.Loading.{ticketed, IsFirstLine, IsStep, IsNoStep, DiffersAt}
 use Rattle.trace_file.specs.declared.version.Version.TheVariants.{Second}
 use Rattle.trace_file.specs.internal.Fields.{IsArm, IsNoArm}
-use Rattle.canonical_order.specs.Canonical.{IsCanonicalOrder}
+use Rattle.trace_file.specs.Canonical.{IsCanonicalOrder}
 
 -- the machine has the events of the lines so far, and `rest` is to be read
 pub record Loading (system : System) (steps : List ℕ) (m : AtMachine) (rest : List ℕ) : Type 0 where

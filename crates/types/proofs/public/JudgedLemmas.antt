@@ -7,8 +7,8 @@ use Rattle.types.specs.Names.{VisibleNames}
 use Rattle.types.specs.internal.Judged.{Judgement, scope_behind, last_scope, Judges, IsSpent}
 use Rattle.types.specs.internal.Least.{least}
 use Rattle.refusals.specs.declared.types.Fault.TheVariants.{Memory}
-use Rattle.typed.specs.declared.tree.PortKind.{PortKind}
-use Rattle.typed.specs.declared.tree.Procedure.{Procedure}
+use Rattle.types.specs.declared.tree.PortKind.{PortKind}
+use Rattle.types.specs.declared.tree.Procedure.{Procedure}
 use Rattle.syntax.specs.declared.declaration.Description.{Description}
 use Rattle.syntax.specs.declared.declaration.Procedure as tree_procedure
 use Rattle.syntax.specs.declared.declaration.TypeDeclaration.{TypeDeclaration}

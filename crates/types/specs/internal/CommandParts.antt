@@ -3,9 +3,9 @@
 use Rattle.types.specs.Arms.{GuardedArm, LabelledArm}
 use Rattle.types.specs.Commands.{Judged, action_layer, arm_layer, case_arm_layer, command_layer, guarded_layer}
 use Rattle.types.specs.Findings.{Keeping}
-use Rattle.typed.specs.declared.tree.Action.{Action}
-use Rattle.typed.specs.declared.tree.Arm.{Arm}
-use Rattle.typed.specs.declared.tree.Command.{Command}
+use Rattle.types.specs.declared.tree.Action.{Action}
+use Rattle.types.specs.declared.tree.Arm.{Arm}
+use Rattle.types.specs.declared.tree.Command.{Command}
 use Rattle.syntax.specs.declared.command.Action as syntax_action
 use Rattle.syntax.specs.declared.command.Action.TheFolds.{fold-Action, fold-Arm, fold-CaseArm, fold-Guarded}
 use Rattle.syntax.specs.declared.command.Arm as arm_of_select

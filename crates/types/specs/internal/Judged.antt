@@ -7,7 +7,7 @@ use Rattle.types.specs.Declarations.{after_procedure, types_of, judged_descripti
 use Rattle.types.specs.internal.Least.{least}
 use Rattle.types.specs.Findings.{Verdict}
 use Rattle.refusals.specs.declared.types.Fault.TheVariants.{Memory}
-use Rattle.typed.specs.declared.tree.Procedure as typed
+use Rattle.types.specs.declared.tree.Procedure as typed
 use Rattle.syntax.specs.declared.declaration.Description.{Description}
 use Rattle.syntax.specs.declared.declaration.Procedure.{Procedure}
 

@@ -9,12 +9,12 @@ use Rattle.types.specs.Findings.{Verdict, becomes, if_right, both, and, demands}
 use Rattle.types.specs.internal.Least.{least}
 use Rattle.types.specs.declared.arms.LabelUse.{LabelUse}
 use Rattle.types.specs.declared.expression.Valued.{Valued}
-use Rattle.typed.specs.declared.tree.Action.{Action}
-use Rattle.typed.specs.declared.tree.Action.TheVariants as action
-use Rattle.typed.specs.declared.tree.Command.{Command}
-use Rattle.typed.specs.declared.tree.Guarded.{Guarded, roll-Guarded}
-use Rattle.typed.specs.declared.tree.Labelled.{Labelled, roll-Labelled}
-use Rattle.typed.specs.declared.tree.Binding.{Binding}
+use Rattle.types.specs.declared.tree.Action.{Action}
+use Rattle.types.specs.declared.tree.Action.TheVariants as action
+use Rattle.types.specs.declared.tree.Command.{Command}
+use Rattle.types.specs.declared.tree.Guarded.{Guarded, roll-Guarded}
+use Rattle.types.specs.declared.tree.Labelled.{Labelled, roll-Labelled}
+use Rattle.types.specs.declared.tree.Binding.{Binding}
 use Rattle.syntax.specs.declared.command.CaseArm as arm_of_case
 use Rattle.syntax.specs.declared.command.CaseArm.{out-CaseArm}
 use Rattle.syntax.specs.declared.command.Guarded as arm_of_if

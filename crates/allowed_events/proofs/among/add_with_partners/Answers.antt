@@ -1,5 +1,5 @@
 use Rattle.std.proofs.Common.{◌≡◌, ◌<◌, ◌≤◌, ℕ, length, Option, None, MatchOption, refl, subst, arith, rules}
-use Rattle.last_events.specs.LastEvents.{Uses, LastUse}
+use Rattle.dependence.specs.LastEvents.{Uses, LastUse}
 use Rattle.allowed_events.proofs.ByChannel.{made-all, made-more, made-none}
 use Rattle.allowed_events.proofs.among.add_with_partners.Goals as goal
 

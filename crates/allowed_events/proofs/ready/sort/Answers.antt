@@ -5,7 +5,7 @@ use Rattle.allowed_events.proofs.Sooner.{sorting-start, sorting-step, sorting-st
 use Rattle.allowed_events.proofs.ready.sort.Goals as goal
 
 pub loop-event-init : goal.loop-event-init
-loop-event-init c = λ S w allowed. sorting-start c.args.events _ _ _ c.into_vec-left.ensures c.sort_unstable_by.ensures.permutation c.new-sorted.ensures.items
+loop-event-init c = λ S w allowed. sorting-start c.args.events _ _ _ c.into_vec-left.ensures c.reverse.ensures.permutation c.new-sorted.ensures.items
 
 pub loop-event-preserved : goal.loop-event-preserved
 loop-event-preserved c = λ S w allowed.

@@ -1,6 +1,6 @@
 use Rattle.std.proofs.Common.{◌<◌, ℕ, List, take, get_or, sym, subst, ◌∙◌, true≢false, arith}
 use Rattle.syntax.specs.Lists.{In}
-use Rattle.last_events.specs.LastEvents as last
+use Rattle.dependence.specs.LastEvents as last
 use Rattle.calculus.proofs.Alikeness.{some-from, none-past, all-past}
 use Rattle.calculus.proofs.ListPlaces.{number-got, taken-more, got-in}
 use Rattle.calculus.proofs.uses.none_from.Goals as goal

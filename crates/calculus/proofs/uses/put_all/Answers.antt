@@ -1,6 +1,6 @@
 use Rattle.std.proofs.Common.{◌≡◌, ◌⊎◌, ◌↔◌, ℕ, List, take, get_or, sym, subst}
 use Rattle.syntax.specs.Lists.{In}
-use Rattle.last_events.specs.LastEvents as last
+use Rattle.dependence.specs.LastEvents as last
 use Rattle.calculus.proofs.Alikeness.{put-more}
 use Rattle.calculus.proofs.ListPlaces.{number-got, taken-more}
 use Rattle.calculus.proofs.uses.put_all.Goals as goal

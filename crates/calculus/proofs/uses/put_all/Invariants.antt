@@ -1,6 +1,6 @@
 use Rattle.std.proofs.Common.{◌≡◌, ◌↔◌, ◌⊎◌, ℕ, take}
 use Rattle.syntax.specs.Lists.{In}
-use Rattle.last_events.specs.LastEvents as last
+use Rattle.dependence.specs.LastEvents as last
 use Rattle.calculus.proofs.uses.put_all.Given as goal
 
 abbrev pub invariant-loop-variable : goal.invariant-loop-variable

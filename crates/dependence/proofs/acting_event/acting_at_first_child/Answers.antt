@@ -1,5 +1,5 @@
 use Rattle.std.proofs.Common.{true≢false, sym, ◌∙◌}
-use Rattle.last_events.specs.LastEvents.{first_child}
+use Rattle.dependence.specs.LastEvents.{first_child}
 use Rattle.dependence.proofs.ActingPlaces.{none-stands, stands-live, acts-alone, acts-elsewhere}
 use Rattle.dependence.proofs.acting_event.acting_at_first_child.Goals as goal
 

@@ -1,4 +1,4 @@
-use Rattle.std.proofs.Common.{◌≤◌, ◌<◌, ℕ, length, take, refl, sym, ap, subst, arith, ◌+◌}
+use Rattle.std.proofs.Common.{ℕ, length, take, refl, sym, subst, arith, ◌+◌, ◌∙◌, true≢false}
 use Rattle.std.proofs.lemmas.List.{length_push}
 use Rattle.runs.specs.Live.{Live}
 use Rattle.dependence.specs.internal.Tables.{CountsAmong}
@@ -39,7 +39,7 @@ loop-other-preserved c =
     record {
       counted = subst (λ (n : ℕ). CountsAmong c.args.event.now (take n l) c.loop-other.count) (sym size)
           (among-same c.args.event.now l step c.loop-other.count _ c.requires.rising less is c.loop-other.invariant.counted
-          (λ d. let on = c.depends_directly.ensures.1 d in let off = c.if-depends_directly.false in cc));
+          (λ d. true≢false (sym (c.depends_directly.ensures.1 d) ∙ c.if-depends_directly.false)));
       bound = omega arith;
     }
 

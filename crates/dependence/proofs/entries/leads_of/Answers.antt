@@ -16,12 +16,12 @@ returns-then-len-le1 c =
     let found = candidates-found l c.args.new.now.ticket c.args.new.now.event.now c.requires.found.0 c.requires.new.rising c.requires.found.1 c.requires.behind
     c.args.found.now.items cs c.requires.found.2 c.in_ok-add_by_variables.ensures in
     record {
-      falling = IfOk-weaker c.copied.result _ _ (λ leads is. subst (λ (k : List ℕ). Falling k) (sym (is ∙ c.as_slice.ensures.value)) (few-falling cs few)) c.copied.ensures;
-      topmost = IfOk-weaker c.copied.result _ _ (λ leads is. (
+      falling = IfOk-weaker c.from_slice.result _ _ (λ leads is. subst (λ (k : List ℕ). Falling k) (sym (is ∙ c.as_slice.ensures.value)) (few-falling cs few)) c.from_slice.ensures.ok;
+      topmost = IfOk-weaker c.from_slice.result _ _ (λ leads is. (
         cs,
         found,
         subst (λ (k : List ℕ). (t : ℕ) → In t k ↔ Topmost l cs t) (sym (is ∙ c.as_slice.ensures.value)) (few-topmost l cs few),
-      )) c.copied.ensures;
+      )) c.from_slice.ensures.ok;
     }
 
 pub told_topmost-requires : goal.told_topmost-requires

@@ -46,3 +46,6 @@ loop-looks-preserved c =
           (λ i. true≢false (sym (in-is here c.args.tickets.now i) ∙ sym c.is_among.ensures ∙ c.if-is_among.false))
           (c.add_followers-in-loop-looks.ensures c.if-not-add_followers-2.false) c.loop-looks.invariant.pends;
     }
+
+pub is_among-requires : goal.is_among-requires
+is_among-requires c = c.requires.ascending

@@ -6,7 +6,7 @@ use Rattle.runs.specs.Live.{Live}
 use Rattle.runs.specs.declared.event.Event.{Event}
 use Rattle.dependence.specs.Shown.{tickets_marked}
 use Rattle.dependence.proofs.FromIndex.{get-drop}
-use Rattle.dependence.proofs.public.ListPlaces.{at-within, drop-all}
+use Rattle.dependence.proofs.public.ListPlaces.{drop-all}
 use Rattle.dependence.proofs.ListedLaws.{tickets-on, tickets-off, tickets-none}
 use Rattle.dependence.proofs.marks.copy_each.Goals as goal
 use Rattle.dependence.proofs.marks.copy_each.Goals.{then-marks-index+in_ok-push, else-marks-index}

@@ -2,7 +2,7 @@ use Rattle.std.proofs.Common.{◌≡◌, ◌<◌, ℕ, suc, ◌-◌, List, Bool,
 use Rattle.std.specs.Prelude.{slice_set}
 use Rattle.std.proofs.lemmas.Option.{slice_get_within}
 use Rattle.dependence.specs.internal.Marking.{EndsAt, UnmarkedFrom}
-use Rattle.dependence.proofs.MarkEnds.{removed-unset, removed-cleared, ends-shorter, ends-removed, cleared-from, cleared-behind}
+use Rattle.dependence.proofs.MarkEnds.{removed-unset, removed-cleared, ends-shorter, ends-removed, cleared-from, cleared-kept}
 use Rattle.dependence.proofs.public.ListPlaces.{index-in}
 use Rattle.dependence.proofs.marks.remove_mark.Goals as goal
 
@@ -53,7 +53,7 @@ end_below-left-requires c =
     let long : length c.as_slice.result.now ≡ length marks = ap length lent ∙ length-set marks index false in
     record {
       within = omega arith;
-      none = subst (λ (k : List Bool). UnmarkedFrom k c.args.end) (sym lent) (cleared-behind marks index c.args.end within c.requires.ended);
+      none = subst (λ (k : List Bool). UnmarkedFrom k c.args.end) (sym lent) (cleared-kept marks index c.args.end within c.requires.ended.none);
     }
 
 pub returns : goal.returns

@@ -1,6 +1,6 @@
 use Rattle.std.proofs.Common.{ℕ, List, [], take, subst}
 use Rattle.syntax.specs.Lists.{In}
-use Rattle.last_events.specs.LastEvents.{Uses}
+use Rattle.dependence.specs.LastEvents.{Uses}
 use Rattle.dependence.specs.internal.Tabled.{MoreUses}
 use Rattle.dependence.proofs.public.ListPlaces.{in-take, take-all}
 use Rattle.dependence.proofs.public.Tabling.{uses-kept, uses-in, uses-same, uses-next, has-next, read-next}

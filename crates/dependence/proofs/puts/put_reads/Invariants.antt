@@ -1,6 +1,6 @@
 use Rattle.std.proofs.Common.{ℕ, take}
 use Rattle.syntax.specs.Lists.{In}
-use Rattle.last_events.specs.LastEvents.{Uses}
+use Rattle.dependence.specs.LastEvents.{Uses}
 use Rattle.dependence.specs.internal.Tabled.{MoreUses}
 use Rattle.dependence.proofs.puts.put_reads.Given as goal
 

@@ -1,10 +1,9 @@
-use Rattle.std.proofs.Common.{◌≡◌, ◌∙◌, ◌<◌, ◌-◌, ◌+◌, ◌↔◌, ℕ, suc, List, Bool, [], ◌∷◌, ◌++◌, cond, length, get_or, IsTrue, sym, ap, subst, arith}
+use Rattle.std.proofs.Common.{◌≡◌, ◌∙◌, ◌<◌, ◌-◌, ◌+◌, ◌↔◌, ℕ, suc, List, Bool, [], ◌∷◌, ◌++◌, cond, length, IsTrue, sym, ap, subst, arith}
 use Rattle.system.specs.Expression.{is_in}
 use Rattle.runs.specs.InOrder.{InOrder}
 use Rattle.runs.specs.declared.event.Event.{Event}
 use Rattle.syntax.specs.Lists.{In}
 use Rattle.dependence.specs.Followers.{ListsFollowers}
-use Rattle.dependence.specs.declared.links.Links.{Links}
 use Rattle.dependence.specs.internal.Sweeping.{FlagAt, Swept}
 use Rattle.dependence.proofs.public.Linking.{linked-there}
 use Rattle.dependence.proofs.public.ListPlaces.{at-one}
@@ -79,3 +78,6 @@ returns c = record {
   topmost = swept-all 0 c.requires.rising.0 c.args.list.now.live c.args.candidates.now c.args.low c.args.high c.loop-index.index c.loop-index.flags.items
       c.loop-index.kept.items c.requires.rising.1 c.requires.stand c.loop-index-test.false c.loop-index.invariant.swept;
 }
+
+pub is_among-is_one-requires : goal.is_among-is_one-requires
+is_among-is_one-requires c = c.requires.ascending

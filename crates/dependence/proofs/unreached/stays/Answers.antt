@@ -1,8 +1,9 @@
-use Rattle.std.proofs.Common.{◌∙◌, inl, inr, ℕ, Option, Some, true, MatchOption, subst}
+use Rattle.std.proofs.Common.{◌∙◌, inl, inr, ℕ, Option, true, MatchOption, subst, false, true≢false, sym}
 use Rattle.std.proofs.lemmas.Bool.{cases_eq}
 use Rattle.runs.specs.Live.{NoDependent, FirstDependent}
 use Rattle.dependence.proofs.Distinct.{unreached-none, unreached-past, one-topmost, followed-not, below-last}
 use Rattle.dependence.proofs.Wholes.{first-follower}
+use Rattle.runs.proofs.public.Options.{some-injective}
 use Rattle.dependence.proofs.unreached.stays.Goals as goal
 
 pub returns-in_default-clause-yes : goal.returns-in_default-clause-yes
@@ -48,3 +49,6 @@ pub returns-clause-no : goal.returns-clause-no
 returns-clause-no c = λ is top.
     let k = c.is_alone.ensures.no is in
     k.3 (top.1 k.0 k.1 k.2)
+
+pub returns-then-have_common-clause-yes : goal.returns-then-have_common-clause-yes
+returns-then-have_common-clause-yes c = λ e. absurd (true≢false (sym (some-injective false true e)))

@@ -49,3 +49,9 @@ returns c =
       falling = c.loop-index.invariant.falling;
       topmost = λ t. ((λ i. ((told t).0 i).1), (λ top. (told t).1 (top.0, top)));
     }
+
+pub is_below_rest-is_new-requires-clause-ascending : goal.is_below_rest-is_new-requires-clause-ascending
+is_below_rest-is_new-requires-clause-ascending c = c.requires.ascending
+
+pub stays-requires-clause-ascending : goal.stays-requires-clause-ascending
+stays-requires-clause-ascending c = c.requires.ascending

@@ -2,8 +2,8 @@ use Rattle.std.proofs.Common.{◌≡◌, ◌∙◌, ℕ, List, [], sym, subst, r
 use Rattle.syntax.specs.Lists.{In}
 use Rattle.runs.specs.Events.{places}
 use Rattle.runs.specs.Live.{Live, Rising, IsLive}
-use Rattle.last_events.specs.LastEvents.{IsAt}
-use Rattle.last_events.specs.declared.places.PlaceTable.{PlaceTable}
+use Rattle.dependence.specs.LastEvents.{IsAt}
+use Rattle.dependence.specs.declared.places.PlaceTable.{PlaceTable}
 use Rattle.dependence.specs.Behind.{ComesBehind}
 use Rattle.dependence.specs.declared.links.Links.{Links}
 use Rattle.dependence.specs.internal.Found.{FoundByPlace, PlacesFound}

@@ -1,6 +1,6 @@
 -- What is put on the work tells what the calls that are left do not.
 use Rattle.std.proofs.Common.{◌≡◌, List, length, reverse, take}
-use Rattle.typed.specs.declared.tree.Procedure.{Procedure}
+use Rattle.types.specs.declared.tree.Procedure.{Procedure}
 use Rattle.described.specs.Telling.{Found, tell_calls, tellings}
 use Rattle.described.specs.internal.Pendings.{leads}
 use Rattle.described.proofs.walk.push_calls.Given as goal

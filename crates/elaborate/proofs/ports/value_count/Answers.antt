@@ -1,7 +1,7 @@
 use Rattle.std.proofs.Common.{◌≡◌, ℕ, ◌+◌, ◌-◌, ◌^◌, ◌≤◌, min, List, length, drop, ap, arith, drop_of_length-le}
 use Rattle.elaborate.specs.SourceSize.{sent_on}
-use Rattle.stimulus.specs.declared.stimulus.Entry.{Entry}
-use Rattle.typed.specs.declared.tree.Port.{Port}
+use Rattle.elaborate.specs.declared.stimulus.Entry.{Entry}
+use Rattle.types.specs.declared.tree.Port.{Port}
 use Rattle.elaborate.proofs.ports.value_count.Goals as goal
 
 -- nothing is left to count

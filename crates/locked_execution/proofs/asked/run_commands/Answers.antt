@@ -2,11 +2,14 @@ use Rattle.std.proofs.Common.{[], refl, ◌∙◌, arith, take}
 use Rattle.machine.proofs.public.HeadlineLaws.{headline}
 use Rattle.runs.proofs.public.ObjectLaws.{stays-over-lists, tickets-grow}
 use Rattle.locked_execution.specs.AtDesk.{execution}
-use Rattle.locked_execution.specs.Bridge.{commands_of}
-use Rattle.locked_execution.proofs.public.AskedLists.{answered-more}
+use Rattle.locked_execution.proofs.public.AskedLists.{answered-more, answered-all, session-within}
 use Rattle.locked_execution.proofs.public.BackLaws.{none-take-less, all-amount-to-back-and-forth}
-use Rattle.locked_execution.proofs.public.BridgeLaws.{are-on-execution}
+use Rattle.locked_execution.proofs.public.BridgeLaws.{commands_of, are-on-execution}
 use Rattle.locked_execution.proofs.asked.run_commands.Goals as goal
+
+pub perform-reply-requires : goal.perform-reply-requires
+perform-reply-requires c =
+    session-within c.args.commands.now c.loop-session.session-index c.loop-session-item.result c.requires c.loop-session-test.true c.loop-session-item.is
 
 pub loop-session-preserved : goal.loop-session-preserved
 loop-session-preserved c = record {
@@ -21,6 +24,11 @@ loop-session-preserved c = record {
 
 pub returns-in_err-replies-clause-headline : goal.returns-in_err-replies-clause-headline
 returns-in_err-replies-clause-headline c = c.is_sound.ensures.execution
+
+pub returns-clause-answered : goal.returns-clause-answered
+returns-clause-answered c =
+    answered-all c.args.desk.now c.loop-session.desk c.args.commands.now c.loop-session.session-index c.loop-session.replies.items
+    c.loop-session-test.false c.loop-session.invariant.answered
 
 pub returns-clause-headline : goal.returns-clause-headline
 returns-clause-headline c =

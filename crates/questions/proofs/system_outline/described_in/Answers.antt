@@ -2,7 +2,7 @@ use Rattle.std.proofs.Common.{inl, inr, List, subst, sym}
 use Rattle.std.proofs.lemmas.Result.{IfOk-weaker}
 use Rattle.described.specs.Description.{Describes}
 use Rattle.system.specs.declared.system.System.{System}
-use Rattle.typed.specs.declared.tree.Procedure.{Procedure}
+use Rattle.types.specs.declared.tree.Procedure.{Procedure}
 use Rattle.typed_source.specs.Source.{IsTyped}
 use Rattle.questions.proofs.system_outline.described_in.Goals as goal
 

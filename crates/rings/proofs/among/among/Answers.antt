@@ -1,5 +1,5 @@
 use Rattle.std.proofs.Common.{◌≡◌, ◌<◌, ◌≤◌, ℕ, length, Option, None, MatchOption, sym, subst, arith, rules}
-use Rattle.last_events.specs.LastEvents.{Uses, LastUse}
+use Rattle.dependence.specs.LastEvents.{Uses, LastUse}
 use Rattle.rings.specs.internal.Ends.{channel_of}
 use Rattle.rings.proofs.Chosen.{next-end, no-more-ends, open-ends}
 use Rattle.rings.proofs.among.among.Goals as goal

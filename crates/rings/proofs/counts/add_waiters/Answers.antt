@@ -1,5 +1,5 @@
 use Rattle.std.proofs.Common.{◌≡◌, ◌<◌, ℕ, Option, None, MatchOption, subst, rules}
-use Rattle.last_events.specs.LastEvents.{LastUse, Uses}
+use Rattle.dependence.specs.LastEvents.{LastUse, Uses}
 use Rattle.rings.proofs.Tallied.{adds-all, adds-more, adds-none}
 use Rattle.rings.proofs.counts.add_waiters.Goals as goal
 

@@ -1,5 +1,5 @@
 use Rattle.std.proofs.Common.{◌≡◌, ◌<◌, ◌∙◌, ℕ, List, Bool, true, false, length, slice_get, slice_set, refl, sym, ap, subst}
-use Rattle.last_events.specs.LastEvents.{LastUse}
+use Rattle.dependence.specs.LastEvents.{LastUse}
 use Rattle.rings.specs.internal.Loosened.{is_marked}
 use Rattle.rings.specs.internal.Tally.{Lowered}
 use Rattle.rings.proofs.Tallied.{counts-some, found-counted, loosens-more}

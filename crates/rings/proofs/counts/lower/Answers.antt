@@ -1,5 +1,5 @@
 use Rattle.std.proofs.Common.{◌≡◌, ◌<◌, ◌≤◌, ◌∙◌, length, sym, arith, true≢false}
-use Rattle.last_events.specs.LastEvents.{LastUse}
+use Rattle.dependence.specs.LastEvents.{LastUse}
 use Rattle.rings.proofs.Tallied.{lowered, puts-both, puts-not, puts-one}
 use Rattle.rings.proofs.counts.lower.Goals as goal
 

@@ -1,5 +1,5 @@
 use Rattle.std.proofs.Common.{◌≡◌, ◌<◌, ◌≤◌, ◌∙◌, ℕ, Option, None, MatchOption, length, subst, arith, rules}
-use Rattle.last_events.specs.LastEvents.{LastUse, Uses}
+use Rattle.dependence.specs.LastEvents.{LastUse, Uses}
 use Rattle.rings.proofs.Tallied.{moved-all, moved-none, raised}
 use Rattle.rings.proofs.counts.raise.Goals as goal
 

@@ -1,5 +1,5 @@
 use Rattle.std.proofs.Common.{◌≡◌, ◌<◌, ◌∙◌, ℕ, Option, None, MatchOption, refl, sym, subst, rules}
-use Rattle.last_events.specs.LastEvents.{LastUse, Uses}
+use Rattle.dependence.specs.LastEvents.{LastUse, Uses}
 use Rattle.rings.proofs.Trailing.{nexts-all, nexts-more, nexts-none, nexts-some}
 use Rattle.rings.proofs.ring.next_in.Goals as goal
 

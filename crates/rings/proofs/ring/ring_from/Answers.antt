@@ -24,7 +24,7 @@ search-init c =
     let u : Test = same_at c.args.actions.now in
     let less : c.args.start < length c.args.trail.now.seen.items = mark-within c.args.trail.now.seen.items c.args.start New c.requires.start in
     let within : c.args.start < n = subst (λ (k : ℕ). c.args.start < k) c.requires.so_far.size less in
-    let way : c.push.new.self.items ≡ c.args.start ∷ [] = first_of (cc, search rules) in
+    let way : c.push.new.self.items ≡ c.args.start ∷ [] = c.in_ok-push.ensures.items ∙ ap (λ (z : List ℕ). z ++ c.args.start ∷ []) c.new-way.ensures.items in
     let on : is_open (slice_get c.args.trail.now.seen.items c.args.start) ≡ is_open (Some New) = ap is_open c.requires.start in (
       begins-as n w u c.args.trail.now.seen.items c.enter.new.trail.seen.items c.args.start c.push.new.self.items c.requires.so_far within c.enter.ensures.seen way,
       subst (λ (z : List ℕ). SoundTrail c.args.tables.now c.args.actions.now c.enter.new.trail z) (sym way)

@@ -1,44 +1,4 @@
-use Rattle.std.proofs.Common.{◌≡◌, ◌∙◌, ◌+◌, List, true, length, slice_get, refl, sym, ap, arith, rules}
-use Rattle.rings.specs.declared.ring.Seen.{Seen}
-use Rattle.rings.specs.internal.Search.{is_new, same_at, waits}
-use Rattle.rings.proofs.FirstFound.{goes-further, none-first, not-begun}
-use Rattle.rings.proofs.Marked.{at-first, none-left, searched, was-new}
-use Rattle.rings.proofs.Trailing.{no-way}
 use Rattle.rings.proofs.ring.ring_of_indexes.Goals as goal
 
-pub loop-start-init : goal.loop-start-init
-loop-start-init c = (
-  at-first (length c.args.actions.now) (waits c.args.actions.now c.args.partners.now c.args.marks.now) (same_at c.args.actions.now) c.in_ok-trail.trail.seen.items c.in_ok-trail.ensures.size
-      c.in_ok-trail.ensures.done c.in_ok-trail.ensures.on_way,
-  record {
-    opens = c.in_ok-trail.ensures.left;
-    size = c.in_ok-trail.ensures.held;
-    on_way = no-way c.in_ok-tables.tables.standing c.args.actions.now c.in_ok-trail.trail.held.items;
-  },
-  not-begun c.args.actions.now c.args.partners.now c.args.marks.now c.in_ok-trail.trail.seen.items c.in_ok-trail.ensures.done,
-)
-
-pub ring_from-requires-clause-start : goal.ring_from-requires-clause-start
-ring_from-requires-clause-start c =
-    let on : c.is_new.result ≡ true = first_of (cc, search rules) in
-    was-new c.loop-start.trail.seen.items c.loop-start.start (ap (λ (l : List Seen). is_new (slice_get l c.loop-start.start)) (sym c.as_slice.ensures.value) ∙ sym c.is_new.ensures ∙ on)
-
-pub loop-start-preserved : goal.loop-start-preserved
-loop-start-preserved c =
-    let none : length c.in_ok-ring.ring.items ≡ 0 = first_of (search rules, omega arith, cc) in (
-      searched (length c.args.actions.now) (waits c.args.actions.now c.args.partners.now c.args.marks.now) (same_at c.args.actions.now) c.loop-start.trail.seen.items
-          c.ring_from.new.trail.seen.items c.loop-start.start (c.loop-start.start + 1) c.in_ok-ring.ring.items c.loop-start.invariant.0 refl none c.in_ok-ring.ensures.ring,
-      c.in_ok-ring.ensures.sound,
-      goes-further c.args.actions.now c.args.partners.now c.args.marks.now c.loop-start.trail.seen.items c.ring_from.new.trail.seen.items c.in_ok-ring.ring.items c.loop-start.invariant.2 none
-          (c.in_ok-ring.ensures.first c.loop-start.invariant.2.0 c.loop-start.invariant.2.1),
-    )
-
-pub returns-clause-ring : goal.returns-clause-ring
-returns-clause-ring c =
-    none-left (length c.args.actions.now) (waits c.args.actions.now c.args.partners.now c.args.marks.now) (same_at c.args.actions.now) c.loop-start.trail.seen.items c.loop-start.start _
-    c.loop-start.invariant.0 (omega arith) (search rules)
-
-pub returns-clause-first : goal.returns-clause-first
-returns-clause-first c =
-    none-first c.args.actions.now c.args.partners.now c.args.marks.now c.loop-start.trail.seen.items c.loop-start.start _ c.loop-start.invariant.0 c.loop-start.invariant.2 (omega arith)
-    (search rules)
+pub first_ring-requires : goal.first_ring-requires
+first_ring-requires c = record { sizes = c.requires; tables = c.in_ok-tables.ensures }

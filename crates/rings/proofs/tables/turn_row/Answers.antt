@@ -1,5 +1,5 @@
 use Rattle.std.proofs.Common.{◌≡◌, ◌<◌, ◌≤◌, ℕ, Option, None, MatchOption, subst, arith, rules}
-use Rattle.last_events.specs.LastEvents.{LastUse, Uses}
+use Rattle.dependence.specs.LastEvents.{LastUse, Uses}
 use Rattle.rings.proofs.Edging.{turned-all, turned-more, turned-none}
 use Rattle.rings.proofs.tables.turn_row.Goals as goal
 

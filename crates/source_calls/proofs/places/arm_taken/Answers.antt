@@ -1,5 +1,5 @@
 use Rattle.std.proofs.Common.{sym}
-use Rattle.event_places.proofs.public.Taken.{arm-of-the-live, no-live-arm}
+use Rattle.dependence.proofs.public.Taken.{arm-of-the-live, no-live-arm}
 use Rattle.source_calls.proofs.places.arm_taken.Goals as goal
 
 pub returns-in-Some : goal.returns-in-Some

@@ -1,7 +1,7 @@
 use Rattle.std.proofs.Common.{suc, ◌-◌, length, take, drop, get_or, arith, ap, ◌∙◌}
 use Rattle.runs.specs.Live.{events}
 use Rattle.runs.specs.Moves.{Place}
-use Rattle.event_places.specs.EventPlaces.{line_after}
+use Rattle.dependence.specs.EventPlaces.{line_after}
 use Rattle.source_view.specs.internal.Marking.{no_marks, with_events}
 use Rattle.source_view.proofs.Agreeing.{first-and-rest, after-one}
 use Rattle.source_view.proofs.ready_marks.add_ready.Goals as goal

@@ -1,5 +1,5 @@
 use Rattle.std.proofs.Common.{ℕ, List, ◌+◌, refl, sym, subst}
-use Rattle.canonical_order.specs.Canonical.{StandAt}
+use Rattle.trace_file.specs.Canonical.{StandAt}
 use Rattle.trace_file.proofs.OrderLemmas.{all-home, one-moved}
 use Rattle.trace_file.proofs.order.refuse_moved.Goals as goal
 

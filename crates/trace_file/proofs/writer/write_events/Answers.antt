@@ -1,6 +1,6 @@
 use Rattle.std.proofs.Common.{ℕ, List, sym, subst}
-use Rattle.canonical_order.proofs.public.Stands.{stand-within}
-use Rattle.canonical_order.specs.Canonical.{StandAt}
+use Rattle.trace_file.proofs.public.Stands.{stand-within}
+use Rattle.trace_file.specs.Canonical.{StandAt}
 use Rattle.trace_file.proofs.SaveLemmas.{written-more, written-whole, lines-whole}
 use Rattle.trace_file.proofs.writer.write_events.Goals as goal
 

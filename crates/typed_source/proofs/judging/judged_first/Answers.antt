@@ -1,6 +1,4 @@
-use Rattle.std.proofs.Common.{◌≡◌, [], true, Err, rules}
-use Rattle.types.proofs.public.JudgedLemmas.{judges-all}
-use Rattle.types.specs.internal.Judged.{Judges}
+use Rattle.std.proofs.Common.{◌≡◌, true, Err, rules}
 use Rattle.typed_source.specs.internal.InParts.{IsNext}
 use Rattle.typed_source.proofs.WholeLemmas.{refused_first, stands_first}
 use Rattle.typed_source.proofs.judging.judged_first.Goals as goal
@@ -14,7 +12,4 @@ pub returns-clause-judged : goal.returns-clause-judged
 returns-clause-judged c = λ source read.
     let first = c.in-Some.first in
     let next : IsNext true c.args.lexing.now first c.next_part.new.lexing = rw c.in-Some.is at c.in_ok-first.ensures.read in
-    let judged : Judges c.add.new.self first.description =
-    judges-all c.add.new.self first.description c.as_slice.result.now c.as_slice-2.result.now c.as_slice.ensures c.as_slice-2.ensures
-    (c.in_ok-add.ensures.judged (record { types = c.as_slice.result.now; procedures = [] }) c.in_ok-typing.ensures) in
-    stands_first source c.args.lexing.now c.next_part.new.lexing first c.add.new.self read next judged
+    stands_first source c.args.lexing.now c.next_part.new.lexing first c.in_ok-typing.typing read next c.in_ok-typing.ensures

@@ -6,8 +6,8 @@ use Rattle.types.specs.internal.CommandParts.{judged_arm}
 use Rattle.types.specs.internal.Least.{least}
 use Rattle.types.specs.internal.Owed.{guarded_arm, guard_owed, labelled_arm, labels_of}
 use Rattle.types.specs.internal.Scopes.{scope_of}
-use Rattle.typed.specs.declared.tree.Arm.{Arm}
-use Rattle.typed.specs.declared.tree.Command.{Command}
+use Rattle.types.specs.declared.tree.Arm.{Arm}
+use Rattle.types.specs.declared.tree.Command.{Command}
 use Rattle.types.proofs.Owed.{if_is, case_is}
 use Rattle.types.proofs.Turns.{with_part, with_one, and_one, and_labels}
 use Rattle.types.proofs.command.+settled_command.Goals as goal

@@ -1,4 +1,4 @@
-use Rattle.std.proofs.Common.{◌<◌, ◌≤◌, refl, arith}
+use Rattle.std.proofs.Common.{◌<◌, ◌≤◌, ◌∙◌, refl, sym, true≢false, arith}
 use Rattle.dependence.proofs.Candidacy.{none-yet, none-from, none-behind, none-left, read-before}
 use Rattle.dependence.proofs.accesses.NewEvent.is_read_before.Goals as goal
 
@@ -7,7 +7,7 @@ loop-reader-init c = record { low = omega arith; none = none-yet c.args.self.now
 
 pub returns-then-reader-writer : goal.returns-then-reader-writer
 returns-then-reader-writer c = (
-  (λ on. cc),
+  (λ on. absurd (true≢false (sym on))),
   (λ read. absurd (none-behind c.args.self.now c.requires c.args.variable c.in-Some.reader c.loop-reader.end c.args.below c.args.writer c.in-Some.ensures
       c.loop-reader.invariant.none c.if-reader-writer.true read)),
 )
@@ -26,12 +26,12 @@ loop-reader-preserved c =
     record {
       low = omega arith;
       none = none-from c.args.self.now c.requires c.args.variable c.in-Some.reader c.loop-reader.end c.args.below c.in-Some.ensures c.loop-reader.invariant.none
-          (λ before. let on = c.is_before.ensures.1 before in let off = c.if-is_before.false in cc);
+          (λ before. true≢false (sym (c.is_before.ensures.1 before) ∙ c.if-is_before.false));
     }
 
 pub returns : goal.returns
 returns c = (
-  (λ on. cc),
+  (λ on. absurd (true≢false (sym on))),
   (λ read. absurd (none-left c.args.self.now c.requires c.args.variable c.loop-reader.end c.args.below c.args.writer c.in_default.ensures
       c.loop-reader.invariant.none read)),
 )

@@ -1,7 +1,7 @@
 use Rattle.std.proofs.Common.{sym, subst, refl}
 use Rattle.std.specs.Prelude.{MatchOption}
 use Rattle.runs.specs.Live.{Live}
-use Rattle.last_events.specs.LastEvents.{first_child}
+use Rattle.dependence.specs.LastEvents.{first_child}
 use Rattle.dependence.specs.Acting.{ActsAlone, NoneActs}
 use Rattle.dependence.specs.Shown.{Shown}
 use Rattle.dependence.specs.internal.Tables.{IsRising}

@@ -2,13 +2,14 @@ use Rattle.std.proofs.Common.{◌∙◌, ◌≡◌, ◌∷◌, ◌++◌, [], ℕ
 use Rattle.std.proofs.lemmas.Result.{MatchResult-from_err}
 use Rattle.dependence.specs.declared.kept.Kept.{Kept}
 use Rattle.dependence.specs.internal.Listed.{Listed}
-use Rattle.dependence.specs.internal.Tables.{FollowersChanged, Removed}
+use Rattle.dependence.specs.internal.Tables.{FollowersChanged}
 use Rattle.indexmap.specs.IndexMap.{set_value_at}
 use Rattle.slots.specs.Places.{filled}
 use Rattle.dependence.specs.declared.links.Links.{Links}
 use Rattle.dependence.specs.internal.Listed.{links_kept}
 use Rattle.dependence.proofs.ListedLaws.{held-at, listed-changed, live-changed, room-changed, changed-kept}
 use Rattle.slots.proofs.public.PlaceLaws.{none-some, value-is}
+use Rattle.std.proofs.lemmas.Option.{slice_get_within}
 use Rattle.dependence.proofs.live_list.LiveList.add_follower.Goals as goal
 
 pub invariant_of-self : goal.invariant_of-self
@@ -76,3 +77,6 @@ returns-clause-changed c =
     let new : List Links = links_kept (filled (set_value_at c.self.inside.slots.entries place (Some m))) in
     subst (λ (s : Listed). FollowersChanged s.live c.args.lead (λ (b : List ℕ) (a : List ℕ). a ≡ b ++ c.args.ticket ∷ []) s.links new) c.self.view_is
     (changed-kept c.self.inside.slots.entries place c.args.lead k m (λ (b : List ℕ) (a : List ℕ). a ≡ b ++ c.args.ticket ∷ []) at c.in_ok-push-in-Some.ensures.ok refl)
+
+pub index_mut-requires : goal.index_mut-requires
+index_mut-requires c = slice_get_within c.self.inside.slots.entries c.place_of-place.result _ c.place_of-place.ensures.1

@@ -1,5 +1,4 @@
-use Rattle.std.proofs.Common.{◌∙◌, ◌≡◌, ◌∷◌, ◌++◌, [], ℕ, List, Some, refl, sym, ap, subst}
-use Rattle.std.proofs.lemmas.Result.{MatchResult-from_err}
+use Rattle.std.proofs.Common.{◌∙◌, List, Some, refl, sym, ap, subst}
 use Rattle.dependence.specs.declared.kept.Kept.{Kept}
 use Rattle.dependence.specs.internal.Listed.{Listed}
 use Rattle.dependence.specs.internal.Tables.{FollowersChanged, Removed}
@@ -9,6 +8,7 @@ use Rattle.dependence.specs.declared.links.Links.{Links}
 use Rattle.dependence.specs.internal.Listed.{links_kept, LinksOf}
 use Rattle.dependence.proofs.ListedLaws.{stands-at, links-stand, held-at, listed-changed, live-changed, room-changed, changed-kept}
 use Rattle.slots.proofs.public.PlaceLaws.{none-some, value-is}
+use Rattle.std.proofs.lemmas.Option.{slice_get_within}
 use Rattle.dependence.proofs.live_list.LiveList.remove_follower.Goals as goal
 
 pub remove-requires : goal.remove-requires
@@ -54,3 +54,6 @@ returns-clause-changed c =
     let new : List Links = links_kept (filled (set_value_at c.self.inside.slots.entries place (Some m))) in
     subst (λ (s : Listed). FollowersChanged s.live c.args.lead (Removed c.args.ticket) s.links new) c.self.view_is
     (changed-kept c.self.inside.slots.entries place c.args.lead k m (Removed c.args.ticket) at c.remove.ensures refl)
+
+pub index_mut-requires : goal.index_mut-requires
+index_mut-requires c = slice_get_within c.self.inside.slots.entries c.place_of-place.result _ c.place_of-place.ensures.1

@@ -1,11 +1,12 @@
-use Rattle.std.proofs.Common.{◌≡◌, ◌∙◌, ◌-◌, ℕ, List, Option, Some, sym, ap}
+use Rattle.std.proofs.Common.{◌≡◌, ◌∙◌, ◌-◌, ℕ, List, Option, Some, sym, ap, length, subst}
 use Rattle.std.specs.Prelude.{slice_get}
 use Rattle.std.specs.List.{remove}
-use Rattle.slots.specs.Places.{Places, filled, rank}
+use Rattle.slots.specs.Places.{Places, filled, rank, Counted}
 use Rattle.slots.proofs.public.PlaceLaws.{some-is}
 use Rattle.dependence.specs.declared.kept.Kept.{Kept}
 use Rattle.dependence.specs.internal.Listed.{Listed, events_kept, links_kept}
 use Rattle.dependence.proofs.ListedLaws.{stands-at, links-stand, map-removed, count-less}
+use Rattle.dependence.proofs.Edges.{take-whole}
 use Rattle.dependence.proofs.live_list.LiveList.take.Goals as goal
 
 pub invariant_of-self : goal.invariant_of-self
@@ -38,3 +39,10 @@ returns c =
         links = ap links_kept gone ∙ map-removed (λ (x : ℕ × Kept). x.1.links) (filled es) index ∙ ap (λ (s : Listed). remove s.links index) c.self.view_is;
       },
     )
+
+pub settle-requires-clause-counted : goal.settle-requires-clause-counted
+settle-requires-clause-counted c =
+    let counts : List ℕ = c.take_at-kept.new.counts in
+    let size = c.take_at-kept.auto.counts ∙ ap length c.as_mut_slice.ensures.value in
+    let whole = take-whole counts c.self.inside.counts.items c.self.inside.counts.len size (sym c.as_mut_slice.ensures.len ∙ ap length c.as_mut_slice.ensures.value) in
+    subst (λ (cs : List ℕ). Counted c.take_at-kept.new.slots.entries cs) (sym whole) c.take_at-kept.ensures.counted

@@ -1,4 +1,5 @@
 use Rattle.std.proofs.Common.{◌≡◌, ◌∙◌, Some, IsSome, refl, sym, ap, subst}
+use Rattle.runs.specs.Steps.{opening}
 use Rattle.runs.specs.declared.event.Event.{Event}
 use Rattle.dependence.specs.Shown.{Shown}
 use Rattle.event_inverse.specs.Grown.{TreeAndStore, applied}
@@ -66,3 +67,15 @@ returns-in-Ok-clause-marked c = c.in-Ok.ensures.entered.marked
 
 pub returns-in-Err-clause-marked : goal.returns-in-Err-clause-marked
 returns-in-Err-clause-marked c = ap (λ (s : Shown). s.marked) c.unmake.ensures.live ∙ c.in-Err.ensures.refused.marked
+
+pub returns-in-Ok-clause-added : goal.returns-in-Ok-clause-added
+returns-in-Ok-clause-added c =
+    let entered = c.in-Ok.ensures.entered in
+    λ i. record { opening = opening c.args.system.now; live = entered.live i; next = entered.next i }
+
+pub returns-in-Err-clause-unchanged : goal.returns-in-Err-clause-unchanged
+returns-in-Err-clause-unchanged c =
+    let refused = c.in-Err.ensures.refused in
+    let live = ap (λ (s : Shown). s.live) c.unmake.ensures.live ∙ refused.live in
+    let next = c.unmake.ensures.next ∙ refused.next in
+    λ i. record { opening = opening c.args.system.now; live = live i; next = next i }

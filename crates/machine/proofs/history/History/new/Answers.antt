@@ -8,6 +8,10 @@ use Rattle.dependence.specs.Shown.{Shown}
 use Rattle.machine.proofs.public.Standing.{stands-new}
 use Rattle.machine.proofs.history.History.new.Goals as goal
 
+pub returns-clause-shown : goal.returns-clause-shown
+returns-clause-shown c =
+    ap (λ (s : Shown). record { checked = c.args.system.now; live = s.live; next = 1; marked = s.marked }) c.new-3.ensures
+
 pub returns-clause-holds : goal.returns-clause-holds
 returns-clause-holds c =
     stands-new c.args.system.now (both_view c.in_ok-tree.tree c.in_ok-store.store) c.new-3.result.live c.new-4.result

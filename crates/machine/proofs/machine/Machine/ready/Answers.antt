@@ -20,7 +20,7 @@ returns-clause-answers c =
     let T = state_of_tree (tree_of c.self.inside.history) in
     let lists =
     IfOk-weaker c.ready.result (λ events. Reaches o T × ReadyList T events.items) (λ events. Does o Command.Ready (Reply.Ready events.items) o)
-    (λ events both. ((T, both.0, both.1), refl)) (c.ready.ensures c.self.inside.system c.self.invariant.0 c.self.invariant.1) in
+    (λ events both. ((T, both.0, both.1), refl)) (c.ready.ensures c.self.inside.system c.self.invariant.0) in
     subst (λ (h : AtMachine). Answers (object h) Command.Ready (ready_reply c.or_no_memory.result) (object h)) c.self.view_is
     (told-of o Command.Ready ready_reply c.ready.result c.or_no_memory.result refl lists tt c.or_no_memory.ensures)
 
@@ -30,7 +30,7 @@ returns-clause-events c =
     let T = state_of_tree (tree_of c.self.inside.history) in
     let told =
     ok-told (λ events. Reaches o T × ReadyList T events.items) Memory c.ready.result c.or_no_memory.result
-    (c.ready.ensures c.self.inside.system c.self.invariant.0 c.self.invariant.1) c.or_no_memory.ensures in
+    (c.ready.ensures c.self.inside.system c.self.invariant.0) c.or_no_memory.ensures in
     subst (λ (h : AtMachine). IfOk c.or_no_memory.result (λ events. (S : State) × Reaches (object h) S × ReadyList S events.items)) c.self.view_is
     (IfOk-weaker c.or_no_memory.result (λ events. Reaches o T × ReadyList T events.items) (λ events. (S : State) × Reaches o S × ReadyList S events.items)
     (λ events both. (T, both.0, both.1)) told)

@@ -1,3 +1,0 @@
-pub mod Canonical
-pub mod Laws
-pub mod internal

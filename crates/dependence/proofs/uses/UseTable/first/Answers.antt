@@ -1,0 +1,12 @@
+use Rattle.std.proofs.Common.{ℕ, List, [], get_or, Vec, ap, ◌∙◌}
+use Rattle.std.specs.Global.{Global}
+use Rattle.dependence.specs.internal.Tickets.{rows_of}
+use Rattle.dependence.proofs.TicketLaws.{first-of}
+use Rattle.dependence.proofs.uses.UseTable.first.Goals as goal
+
+pub returns : goal.returns
+returns c =
+    first-of c.args.self.now c.args.number c.row_at-tickets.result.now
+    (c.row_at-tickets.ensures ∙ ap (λ (rows : List (Vec ℕ Global)). get_or (rows_of rows) c.args.number []) c.as_slice.ensures.value
+    ∙ ap (λ (table : List (List ℕ)). get_or table c.args.number []) c.self.view_is)
+    c.first_from.result c.args.from c.args.below c.first_from.ensures

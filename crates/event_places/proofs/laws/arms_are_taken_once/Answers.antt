@@ -1,8 +1,0 @@
-use Rattle.event_places.proofs.public.Taken.{taken_by_the_event, none_taken}
-use Rattle.event_places.proofs.laws.arms_are_taken_once.Goals as goal
-
-pub returns-clause-event : goal.returns-clause-event
-returns-clause-event c = taken_by_the_event c.acting_once.ensures
-
-pub returns-clause-none : goal.returns-clause-none
-returns-clause-none c = none_taken

@@ -1,2 +1,0 @@
-pub mod EventPlaces
-pub mod Laws

@@ -1,9 +1,0 @@
-use Rattle.std.proofs.Common.{◌≡◌, ◌≤◌, ◌-◌, take, length}
-use Rattle.last_events.proofs.forks.fork.Given as goal
-
--- the entries passed are the same in both
-abbrev pub invariant-loop-count : goal.invariant-loop-count
-invariant-loop-count l = (l.count ≤ length l.a) × (l.count ≤ length l.b) × (take l.count l.a ≡ take l.count l.b)
-
-abbrev pub decreases-loop-count : goal.decreases-loop-count
-decreases-loop-count l = length l.a - l.count

@@ -1,2 +1,0 @@
-pub mod LastEvents
-pub mod internal

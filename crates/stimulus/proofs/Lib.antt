@@ -1,7 +1,0 @@
-mod Cuts
-mod Numbers
-mod Readings
-mod Entries
-mod Lines
-mod Fronts
-mod Fewness

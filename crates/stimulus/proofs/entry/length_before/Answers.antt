@@ -1,6 +1,0 @@
-use Rattle.stimulus.proofs.Cuts.{without_more}
-use Rattle.stimulus.proofs.entry.length_before.Goals as goal
-
-pub loop-count-preserved : goal.loop-count-preserved
-loop-count-preserved c =
-    without_more c.args.byte c.args.text.now c.loop-count.count c.loop-count-test.true c.loop-count.invariant c.if-held-byte.false

@@ -1,7 +1,0 @@
-use Rattle.std.proofs.Common.{take}
-use Rattle.stimulus.specs.internal.CutAt.{Lacks}
-use Rattle.stimulus.proofs.entry.length_before.Given as goal
-
--- the byte is not among those passed
-abbrev pub invariant-loop-count : goal.invariant-loop-count
-invariant-loop-count l = Lacks l.byte (take l.count l.text)

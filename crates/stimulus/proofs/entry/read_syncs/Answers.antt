@@ -1,7 +1,0 @@
-use Rattle.stimulus.proofs.Entries.{no_given-syncs}
-use Rattle.stimulus.proofs.Numbers.{no_syncs-large}
-use Rattle.stimulus.proofs.entry.read_syncs.Goals as goal
-
-pub returns-else-number-le-MOST_SYNCS : goal.returns-else-number-le-MOST_SYNCS
-returns-else-number-le-MOST_SYNCS c =
-    no_given-syncs c.args.digits.now (no_syncs-large c.args.digits.now c.in-Some.number c.in-Some.ensures c.if-number-le-MOST_SYNCS.false)

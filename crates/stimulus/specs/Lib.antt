@@ -1,2 +1,0 @@
-pub mod StimulusText
-pub mod internal

@@ -1,2 +1,0 @@
-pub mod CutAt
-pub mod LineParts
