@@ -25,10 +25,10 @@ use Rattle.locked_execution.specs.declared.command.Command.{Command}
 use Rattle.locked_execution.specs.declared.command.Reply.{Reply}
 use Rattle.locked_execution.proofs.public.Unchanged.{all-same}
 use Rattle.dap_moves.specs.Moves.{quiet}
-use Rattle.dap_moves.specs.Parts.{NewestBelow, takes_part}
+use Rattle.dap_views.specs.Parts.{NewestBelow, takes_part}
 use Rattle.dap_moves.specs.TakingBack.{IsLast, IsRolled, IsUndone, Returned}
 use Rattle.dap_moves.specs.internal.Rolling.{GoesOn, GoesOut, IsNewestAt, NoneFrom, RollsAll, gone}
-use Rattle.dap_moves.specs.declared.seen.Watched.{Watched}
+use Rattle.dap_views.specs.declared.watched.Watched.{Watched}
 use Rattle.dap_moves.proofs.Backward.{refused-undo}
 
 -- what an undo of a live step is answered: that it is undone, or that another depends on it, which changes nothing

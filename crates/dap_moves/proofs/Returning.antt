@@ -11,7 +11,7 @@ use Rattle.locked_execution.specs.declared.command.Command.{Command}
 use Rattle.locked_execution.specs.declared.command.Reply.{Reply}
 use Rattle.dap_moves.specs.Moves.{quiet}
 use Rattle.dap_moves.specs.TakingBack.{EndsRightly, EndsWith, GoesBack, GoesPast, IsLast, KeepsBack, NoneLeft, Returned, Returns, TakesBack, seen_on}
-use Rattle.dap_moves.specs.declared.seen.Watched.{Watched}
+use Rattle.dap_views.specs.declared.watched.Watched.{Watched}
 use Rattle.dap_moves.specs.declared.taken_back.Rewound.{Rewound}
 use Rattle.dap_moves.specs.internal.Rolling.{GoesOn, GoesOut, IsNewestAt, RollsOne, StopsBehind, TakesOneBack, gone}
 use Rattle.dap_moves.specs.declared.taken_back.Rolled.{Rolled}

@@ -32,7 +32,7 @@ use Rattle.dap_moves.specs.Running.{GoesYet, IsHeld, NoneWatched, NothingGoes, R
 use Rattle.dap_moves.specs.declared.run.Ended.{Ended}
 use Rattle.dap_moves.specs.declared.run.Plan.{Plan}
 use Rattle.dap_moves.specs.declared.run.Turn.{Turn}
-use Rattle.dap_moves.specs.declared.seen.Watched.{Watched}
+use Rattle.dap_views.specs.declared.watched.Watched.{Watched}
 use Rattle.dap_moves.specs.internal.Turning.{EndsAfter, Stands, StepsIfNext, TakesOne, Took, turn_of}
 use Rattle.dap_moves.proofs.Passing.{acting_is_action}
 

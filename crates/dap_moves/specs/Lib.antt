@@ -1,9 +1,7 @@
-pub mod Handles
 pub mod Known
 pub mod Laws
 pub mod Led
 pub mod Moves
-pub mod Parts
 pub mod Passing
 pub mod Running
 pub mod TakingBack

@@ -12,7 +12,7 @@ use Rattle.locked_execution.specs.AtDesk.{AtDesk}
 use Rattle.locked_execution.specs.Performs.{Answers}
 use Rattle.locked_execution.specs.declared.command.Command.{Command}
 use Rattle.locked_execution.specs.declared.command.Reply.{Reply}
-use Rattle.dap_moves.specs.Parts.{takes_part, NoneBelow, NewestBelow}
+use Rattle.dap_views.specs.Parts.{takes_part, NoneBelow, NewestBelow}
 use Rattle.dap_moves.specs.declared.back.Back.{Back}
 
 -- the session of an adapter

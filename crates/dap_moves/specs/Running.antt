@@ -15,7 +15,7 @@ use Rattle.dap_moves.specs.Moves.{quiet}
 use Rattle.dap_moves.specs.Passing.{IsIdle, IsNext, MayAsk, MayGo, MayStep, NoneSooner, StopsAt, Turned, Turns}
 use Rattle.dap_moves.specs.declared.run.Ended.{Ended}
 use Rattle.dap_moves.specs.declared.run.Plan.{Plan}
-use Rattle.dap_moves.specs.declared.seen.Watched.{Watched}
+use Rattle.dap_views.specs.declared.watched.Watched.{Watched}
 
 -- whether an event writes this variable, or is on this channel
 abbrev pub is_hit : Watched → Event → Bool

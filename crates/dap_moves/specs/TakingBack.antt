@@ -1,9 +1,7 @@
 -- Where a run back goes, and why it ends there.
-use Rattle.std.specs.Prelude.{◌≡◌, ◌⊎◌, ℕ, ◌+◌, ◌++◌, List, [], ◌∷◌, true, false, Option, None, Some, length, slice_get, unwrap_or}
+use Rattle.std.specs.Prelude.{◌≡◌, ◌⊎◌, ℕ, ◌+◌, ◌++◌, List, [], ◌∷◌, true, false, Option, None, Some, length, slice_get}
 use Rattle.syntax.specs.Lists.{Every}
-use Rattle.system_places.specs.SystemBranches.{branch_at}
 use Rattle.runs.specs.Choices.{choice_of}
-use Rattle.runs.specs.Events.{acting}
 use Rattle.runs.specs.Live.{LiveAt}
 use Rattle.runs.specs.declared.event.Choice.{Choice}
 use Rattle.runs.specs.declared.event.Event.{Event}
@@ -13,10 +11,11 @@ use Rattle.locked_execution.specs.AtDesk.{AtDesk}
 use Rattle.locked_execution.specs.Performs.{Answers}
 use Rattle.locked_execution.specs.declared.command.Command.{Command}
 use Rattle.locked_execution.specs.declared.command.Reply.{Reply}
+use Rattle.dap_views.specs.Seen.{acting_branch}
 use Rattle.dap_moves.specs.Moves.{NewestTicket, quiet}
 use Rattle.dap_moves.specs.Passing.{PassesBy, StopsAt}
 use Rattle.dap_moves.specs.Running.{is_watched}
-use Rattle.dap_moves.specs.declared.seen.Watched.{Watched}
+use Rattle.dap_views.specs.declared.watched.Watched.{Watched}
 use Rattle.dap_moves.specs.declared.taken_back.Rewound.{Rewound}
 
 -- the live step of the greatest ticket has this one
@@ -64,10 +63,6 @@ Returns d only (t ∷ ts) d' = (t.from ≡ d) × TakesBack only t × Returns t.l
 abbrev pub seen_on : Option ℕ → Returned → AtMachine
 seen_on None t = t.left.machine
 seen_on (Some k) t = t.from.machine
-
--- the branch in which an event acts
-abbrev pub acting_branch : AtMachine → Event → ℕ
-acting_branch m e = unwrap_or (branch_at m.checked (acting e)) 0
 
 -- the run goes on behind it: it is not watched, and no action of it is on one of the lines
 pub record GoesPast (only : Option ℕ) (lines : List ℕ) (watched : List Watched) (t : Returned) : Type 0 where

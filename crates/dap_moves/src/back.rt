@@ -6,7 +6,7 @@ ghost use Rattle.dap_moves.specs.Led.{Led};
 ghost use Rattle.dap_moves.specs.Moves.{StepsBack, NewestTicket, NewestOf};
 
 use crate::QUIET;
-use crate::parts::newest_below;
+use dap_views::newest_below;
 use dependence::Live;
 use locked_execution::{Command, Desk, Reply};
 use system::System;

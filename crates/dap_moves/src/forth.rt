@@ -5,7 +5,7 @@ ghost use Rattle.dap_moves.specs.Led.{Led};
 ghost use Rattle.dap_moves.specs.Moves.{StepsAt, targets, joins};
 
 use crate::QUIET;
-use crate::parts::{acts_in, takes_part};
+use dap_views::{acts_in, takes_part};
 use locked_execution::{Command, Desk, Reply};
 use runs::{Event, Refusal};
 use std::alloc::Global;

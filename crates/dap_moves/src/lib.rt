@@ -4,10 +4,8 @@
 
 mod back;
 mod forth;
-mod handles;
 mod known;
 mod laws;
-mod parts;
 mod run;
 mod seen;
 mod stops;
@@ -15,13 +13,11 @@ mod taken_back;
 
 pub use back::{Back, step_back};
 pub use forth::{step_at, target_at};
-pub use handles::{Handle, frame_id, frame_of, handle_of, reference};
 pub use known::{ready_events, value_of};
 pub use laws::{led_laws, run_laws, step_back_laws};
 pub use locked_execution::{Command, Desk, Machine, Reply};
-pub use parts::{acts_in, newest_below, takes_part};
 pub use run::{Ended, Plan, go_on};
-pub use seen::{Watched, has_choice, is_watched, see};
+pub use seen::{has_choice, is_watched, see};
 pub use stops::first_stop;
 pub use taken_back::{Marks, Rewound, rewind, rewind_branch};
 

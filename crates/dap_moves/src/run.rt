@@ -17,9 +17,9 @@ ghost use Rattle.dap_moves.specs.internal.Turning.{ActsFirst, EndsAfter, IsNeare
 use crate::QUIET;
 use crate::forth::step_at;
 use crate::known::ready_events;
-use crate::parts::acts_in;
-use crate::seen::{Watched, is_seen, is_watched, keep};
+use crate::seen::{is_seen, is_watched, keep};
 use address::Address;
+use dap_views::{Watched, acts_in};
 use dependence::line_after;
 use locked_execution::{Command, Desk, Machine, Reply};
 use runs::{Choice, Event, Refusal};

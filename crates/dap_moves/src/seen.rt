@@ -5,17 +5,9 @@ ghost use Rattle.runs.specs.Choices.{choice_of};
 ghost use Rattle.machine.specs.Branching.{is_branch};
 ghost use Rattle.dap_moves.specs.Running.{Keeps, Sees, is_hit, is_watched};
 
+use dap_views::Watched;
 use runs::{Choice, Event};
 use std::alloc::Global;
-
-/// What is watched.
-#[derive(Clone, Copy, Debug, PartialEq, Eq)]
-pub enum Watched {
-    /// the variable of this number, where an event writes it
-    Variable(u32),
-    /// the channel of this number, where an event is on it
-    Channel(u32),
-}
 
 /// Whether the event writes a variable that is watched, or is on a channel that is.
 pub fn is_watched(watched: &[Watched], event: &Event) -> bool

@@ -8,9 +8,9 @@ ghost use Rattle.dap_moves.specs.internal.Rolling.{GoesOut, IsNewestAt, NoneFrom
 
 use crate::QUIET;
 use crate::back::undo;
-use crate::parts::newest_below;
 use crate::run::line_among;
-use crate::seen::{Watched, is_watched, keep};
+use crate::seen::{is_watched, keep};
+use dap_views::{Watched, newest_below};
 use locked_execution::{Command, Desk, Machine, Reply};
 use runs::{Choice, Event};
 use std::alloc::Global;

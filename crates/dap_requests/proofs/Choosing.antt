@@ -15,7 +15,7 @@ use Rattle.dap_messages.specs.declared.answer.Answer.{Answer}
 use Rattle.dap_messages.specs.declared.members.Listed.{Listed}
 use Rattle.dap_messages.specs.declared.members.Members.{Members}
 use Rattle.dap_moves.specs.Moves.{acts, joins, targets}
-use Rattle.dap_moves.specs.Parts.{takes_part}
+use Rattle.dap_views.specs.Parts.{takes_part}
 use Rattle.dap_threads.specs.Frames.{FindsNamed}
 use Rattle.dap_threads.specs.Given.{AreNumbered, numbers_to}
 use Rattle.dap_views.specs.declared.index.Index.{Index}

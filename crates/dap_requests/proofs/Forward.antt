@@ -31,7 +31,7 @@ use Rattle.dap_moves.specs.TakingBack.{GoesBack}
 use Rattle.dap_moves.specs.declared.back.Back.{Back}
 use Rattle.dap_moves.specs.declared.run.Ended.{Ended}
 use Rattle.dap_moves.specs.declared.run.Plan.{Plan}
-use Rattle.dap_moves.specs.declared.seen.Watched.{Watched}
+use Rattle.dap_views.specs.declared.watched.Watched.{Watched}
 use Rattle.dap_moves.specs.declared.taken_back.Rewound.{Rewound}
 use Rattle.dap_threads.specs.Threads.{branch_named}
 use Rattle.dap_views.specs.declared.program.Program.{Program}

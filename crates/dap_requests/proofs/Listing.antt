@@ -14,7 +14,7 @@ use Rattle.dap_messages.specs.declared.answer.Outcome.{Outcome}
 use Rattle.dap_messages.specs.declared.members.Listed.{Listed}
 use Rattle.dap_messages.specs.declared.members.Members.{Members}
 use Rattle.dap_moves.specs.Stops.{FirstStop, stops}
-use Rattle.dap_moves.specs.declared.seen.Watched.{Watched}
+use Rattle.dap_views.specs.declared.watched.Watched.{Watched}
 use Rattle.dap_views.specs.Counted.{shown_line}
 use Rattle.dap_views.specs.declared.index.Index.{Index}
 use Rattle.dap_views.specs.declared.lines.Lines.{Lines}

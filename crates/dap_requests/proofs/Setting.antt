@@ -13,7 +13,7 @@ use Rattle.system.specs.declared.command.Command.{Command}
 use Rattle.dap_messages.specs.Written.{Has, Puts}
 use Rattle.dap_messages.specs.declared.answer.Answer.{Answer}
 use Rattle.dap_messages.specs.declared.members.Members.{Members}
-use Rattle.dap_moves.specs.declared.seen.Watched.{Watched}
+use Rattle.dap_views.specs.declared.watched.Watched.{Watched}
 use Rattle.dap_views.specs.Named.{found}
 use Rattle.dap_views.specs.declared.index.Index.{Index}
 use Rattle.dap_views.specs.declared.program.Program.{Program}

@@ -18,7 +18,7 @@ use Rattle.dap_moves.specs.Moves.{StepsAt, targets}
 use Rattle.dap_moves.specs.Running.{RunsFrom, Sees}
 use Rattle.dap_moves.specs.declared.run.Ended.{Ended}
 use Rattle.dap_moves.specs.declared.run.Plan.{Plan}
-use Rattle.dap_moves.specs.declared.seen.Watched.{Watched}
+use Rattle.dap_views.specs.declared.watched.Watched.{Watched}
 use Rattle.dap_views.specs.declared.program.Program.{Program}
 
 -- how a thread stands behind a step that was answered so; `excepts` where a refusal is an exception to the client

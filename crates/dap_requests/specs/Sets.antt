@@ -11,7 +11,7 @@ use Rattle.dap_messages.specs.Notes.{IsDone, IsRefusal}
 use Rattle.dap_messages.specs.declared.answer.Answer.{Answer}
 use Rattle.dap_messages.specs.declared.answer.Effect.{Effect}
 use Rattle.dap_messages.specs.declared.told.Told.{Told}
-use Rattle.dap_moves.specs.declared.seen.Watched.{Watched}
+use Rattle.dap_views.specs.declared.watched.Watched.{Watched}
 use Rattle.dap_views.specs.Counted.{at_most_all}
 use Rattle.dap_views.specs.Files.{same_file}
 use Rattle.dap_views.specs.Kept.{SameButLines, SameButWatched}

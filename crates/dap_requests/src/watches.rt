@@ -11,9 +11,9 @@ ghost use Rattle.dap_requests.specs.Sets.{SetsWatched, TellsNoData, WatchesOnly,
 use crate::breakpoints::items_in;
 use crate::lists::{give, give_made};
 use dap_messages::{Answer, Listed, Members, Request, field, text_in};
-use dap_moves::{Handle, Machine, Watched};
+use dap_moves::Machine;
 use dap_threads::{frame_in, handle_named};
-use dap_views::{Program, Thing, Words};
+use dap_views::{Handle, Program, Thing, Watched, Words};
 use serde_json::Value;
 use std::alloc::Global;
 

@@ -13,7 +13,7 @@ use Rattle.dap_messages.specs.declared.answer.Answer.{Answer}
 use Rattle.dap_messages.specs.declared.members.Listed.{Listed}
 use Rattle.dap_messages.specs.declared.members.Members.{Members}
 use Rattle.dap_messages.proofs.public.Held.{has_put}
-use Rattle.dap_moves.specs.Handles.{frame_id}
+use Rattle.dap_views.specs.Handles.{frame_id}
 use Rattle.dap_views.specs.declared.index.Index.{Index}
 use Rattle.dap_views.specs.declared.sight.Sight.{Sight}
 use Rattle.dap_threads.specs.Frames.{frame_count}

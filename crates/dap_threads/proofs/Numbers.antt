@@ -5,7 +5,7 @@ use Rattle.std.proofs.Math.Nat.{mod-lt, min-le_right}
 use Rattle.std.proofs.Math.Pow.{split}
 use Rattle.std.proofs.lemmas.Bool.Decides.{nat_tests}
 use Rattle.dap_messages.specs.declared.answer.Answer.{Answer}
-use Rattle.dap_moves.specs.Handles.{frame_id}
+use Rattle.dap_views.specs.Handles.{frame_id}
 use Rattle.dap_views.specs.Seen.{first_branch}
 use Rattle.dap_views.specs.declared.index.Index.{Index}
 use Rattle.dap_views.specs.declared.sight.Sight.{Sight}

@@ -14,7 +14,7 @@ use Rattle.dap_messages.specs.Written.{Has, Pushes}
 use Rattle.dap_messages.specs.declared.answer.Answer.{Answer}
 use Rattle.dap_messages.specs.declared.members.Listed.{Listed}
 use Rattle.dap_messages.specs.declared.members.Members.{Members}
-use Rattle.dap_moves.specs.declared.handles.Handle.{Handle}
+use Rattle.dap_views.specs.declared.handles.Handle.{Handle}
 use Rattle.dap_views.specs.Around.{around}
 use Rattle.dap_views.specs.declared.index.Index.{Index}
 use Rattle.dap_views.specs.declared.index.Named.{Named}

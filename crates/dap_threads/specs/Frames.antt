@@ -3,7 +3,7 @@
 use Rattle.std.specs.Prelude.{ℕ, zero, suc, ◌≡◌, ◌⊎◌, ◌+◌, ◌-◌, ◌<◌, ◌==◌, ◌&&◌, not, min, max, if◌then◌else◌, List, [], ◌∷◌, ◌++◌, Bool, true, false, Option, None, Some, length, map, slice_get}
 use Rattle.dap_messages.specs.Notes.{IsRefusal}
 use Rattle.dap_messages.specs.declared.answer.Answer.{Answer}
-use Rattle.dap_moves.specs.Handles.{frame_id}
+use Rattle.dap_views.specs.Handles.{frame_id}
 use Rattle.dap_views.specs.Around.{call_of_branch, call_of_place, calls_around}
 use Rattle.dap_views.specs.Ranks.{rank_of}
 use Rattle.dap_views.specs.Seen.{first_branch}

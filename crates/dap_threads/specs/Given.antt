@@ -6,8 +6,8 @@ use Rattle.serde_json.specs.View.{items_of}
 use Rattle.dap_messages.specs.Arguments.{number_named}
 use Rattle.dap_messages.specs.Notes.{IsDoneWith}
 use Rattle.dap_messages.specs.declared.answer.Outcome.{Outcome}
-use Rattle.dap_moves.specs.Handles.{number_of, reference}
-use Rattle.dap_moves.specs.declared.handles.Handle.{Handle}
+use Rattle.dap_views.specs.Handles.{number_of, reference}
+use Rattle.dap_views.specs.declared.handles.Handle.{Handle}
 
 -- a request is done, and its response gives a list of this name with these items
 pub record Gives (name : List ℕ) (items : List Data) (outcome : Outcome) : Type 0 where

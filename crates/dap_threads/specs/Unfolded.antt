@@ -1,7 +1,7 @@
 -- What is unfolded, by its numbers.
 use Rattle.std.specs.Prelude.{ℕ, ◌≡◌, ◌-◌, ◌&&◌, min, nat_lt, Bool, true, Option, None, Some, length}
-use Rattle.dap_moves.specs.Handles.{reference}
-use Rattle.dap_moves.specs.declared.handles.Handle.{Handle}
+use Rattle.dap_views.specs.Handles.{reference}
+use Rattle.dap_views.specs.declared.handles.Handle.{Handle}
 use Rattle.dap_views.specs.declared.index.Index.{Index}
 
 -- how many instances there are: the calls, 4294967295 where they are more

@@ -6,7 +6,7 @@ ghost use Rattle.system_places.specs.SystemBranches.{branch_count};
 ghost use Rattle.dap_messages.specs.Arguments.{number_named};
 ghost use Rattle.dap_messages.specs.Notes.{IsRefusal};
 ghost use Rattle.dap_messages.specs.Written.{Has};
-ghost use Rattle.dap_moves.specs.Handles.{frame_id as model_id};
+ghost use Rattle.dap_views.specs.Handles.{frame_id as model_id};
 ghost use Rattle.dap_views.specs.Around.{calls_around};
 ghost use Rattle.dap_threads.specs.Frames.{FindsFrame, FindsNamed, Misses, at_call, at_place, call_of, count_of, frame_count, seen_call};
 ghost use Rattle.dap_threads.specs.Frames as model;
@@ -15,9 +15,12 @@ ghost use Rattle.dap_threads.specs.Threads.{branch_of, branch_named};
 
 use crate::places::places_in;
 use dap_messages::{Answer, Listed, Members, Request};
-use dap_moves::{Machine, frame_id, frame_of};
-use dap_views::{Index, Program, Rank, Sight, Words, add_action, add_waits, channel_of, line_at};
+use dap_views::{
+    Index, Program, Rank, Sight, Words, add_action, add_waits, channel_of, frame_id, frame_of,
+    line_at,
+};
 use local_actions::LocalAction;
+use machine::Machine;
 use std::alloc::{AllocError, Global};
 use system_places::branch_count;
 

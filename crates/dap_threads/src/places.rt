@@ -3,9 +3,9 @@ ghost use Rattle.std.specs.Prelude.{◌≡◌, IfOk, OnOk, slice_get};
 ghost use Rattle.dap_threads.specs.Frames as model;
 ghost use Rattle.dap_threads.specs.Frames.{is_again, is_branch, is_place_in, is_ranked, is_ranked_in, same_rank, with_all};
 
-use dap_moves::Machine;
 use dap_views::{Rank, Sight, same_place};
 use local_actions::LocalAction;
+use machine::Machine;
 use std::alloc::{AllocError, Global};
 use system::System;
 use system_places::branch_at;

@@ -8,7 +8,7 @@ ghost use Rattle.dap_messages.specs.Arguments.{number_named};
 ghost use Rattle.dap_messages.specs.Notes.{IsRefusal};
 ghost use Rattle.dap_messages.specs.Written.{Has};
 ghost use Rattle.dap_messages.specs.declared.members.Listed.{Listed as List_of};
-ghost use Rattle.dap_moves.specs.declared.handles.Handle as unfolds;
+ghost use Rattle.dap_views.specs.declared.handles.Handle as unfolds;
 ghost use Rattle.dap_views.specs.Around.{around};
 ghost use Rattle.dap_views.specs.declared.index.Named.{Named as Name};
 ghost use Rattle.dap_threads.specs.Frames.{FindsNamed};
@@ -19,10 +19,11 @@ ghost use Rattle.dap_threads.specs.internal.Listing.{AddsUnfolded, HasReference,
 
 use crate::frames::frame_in;
 use dap_messages::{Answer, Listed, Members, Request};
-use dap_moves::{Handle, Machine, handle_of, newest_below, reference};
 use dap_views::{
-    Index, Named, Program, Sight, Thing, Words, add_action, add_who, channel_of, event_words,
+    Handle, Index, Named, Program, Sight, Thing, Words, add_action, add_who, channel_of,
+    event_words, handle_of, newest_below, reference,
 };
+use machine::Machine;
 use runs::Event;
 use std::alloc::Global;
 use system_places::branch_count;

@@ -1,9 +1,11 @@
 pub mod Around
 pub mod Counted
 pub mod Files
+pub mod Handles
 pub mod Kept
 pub mod Lined
 pub mod Named
+pub mod Parts
 pub mod Paths
 pub mod Ranks
 pub mod Seen

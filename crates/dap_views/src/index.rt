@@ -5,7 +5,7 @@ ghost use Rattle.dap_views.specs.Named.{call_named, differs, has_name, is_named,
 
 use crate::words::Words;
 use address::Address;
-use dap_moves::Machine;
+use machine::Machine;
 use source_calls::{Call, Calls};
 use std::alloc::{AllocError, Global};
 use std::str;

@@ -7,8 +7,8 @@ use crate::index::Index;
 use crate::lines::Lines;
 use crate::paths::{base_of, is_same_file};
 use crate::sight::Sight;
+use crate::watched::Watched;
 use dap_messages::Members;
-use dap_moves::Watched;
 use runs::Choice;
 use std::alloc::Global;
 

@@ -1,7 +1,7 @@
 // An event in plain words, with its line.
 use crate::sight::line_at;
 use crate::words::Words;
-use dap_moves::Machine;
+use machine::Machine;
 use runs::{Event, Kind};
 use std::alloc::Global;
 use system::System;

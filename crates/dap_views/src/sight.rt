@@ -7,15 +7,14 @@ ghost use Rattle.runs.specs.Tests.{same_place};
 ghost use Rattle.local_actions.specs.Actions.{OffersExactly};
 ghost use Rattle.machine.specs.AtMachine.{object};
 ghost use Rattle.dap_views.specs.Ranks.{is_at, is_there, rank_of};
-ghost use Rattle.dap_moves.specs.TakingBack.{acting_branch};
-ghost use Rattle.dap_views.specs.Seen.{SeesState, first_branch};
+ghost use Rattle.dap_views.specs.Seen.{SeesState, acting_branch, first_branch};
 
 use crate::lines::Lines;
 use crate::words::Words;
 use address::Address;
-use dap_moves::Machine;
 use dependence::line_after;
 use local_actions::{ActionKind, LocalAction};
+use machine::Machine;
 use runs::Event;
 use std::alloc::{AllocError, Global};
 use syntax::Items;

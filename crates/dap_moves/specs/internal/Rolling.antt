@@ -11,11 +11,12 @@ use Rattle.locked_execution.specs.Performs.{Answers}
 use Rattle.locked_execution.specs.declared.command.Command.{Command}
 use Rattle.locked_execution.specs.declared.command.Reply.{Reply}
 use Rattle.dap_moves.specs.Moves.{quiet}
-use Rattle.dap_moves.specs.Parts.{NewestBelow, takes_part}
+use Rattle.dap_views.specs.Parts.{NewestBelow, takes_part}
 use Rattle.dap_moves.specs.Passing.{PassesBy, StopsAt}
 use Rattle.dap_moves.specs.Running.{is_watched}
-use Rattle.dap_moves.specs.TakingBack.{acting_branch, GoesBack, GoesPast, IsRolled, IsUndone, Returned, TakesBack}
-use Rattle.dap_moves.specs.declared.seen.Watched.{Watched}
+use Rattle.dap_views.specs.Seen.{acting_branch}
+use Rattle.dap_moves.specs.TakingBack.{GoesBack, GoesPast, IsRolled, IsUndone, Returned, TakesBack}
+use Rattle.dap_views.specs.declared.watched.Watched.{Watched}
 use Rattle.dap_moves.specs.declared.taken_back.Rewound.{Rewound}
 use Rattle.dap_moves.specs.declared.taken_back.Rolled.{Rolled}
 

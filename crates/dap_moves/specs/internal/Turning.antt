@@ -14,7 +14,7 @@ use Rattle.dap_moves.specs.Running.{GoesYet, IsHeld, NothingGoes, StandsBefore, 
 use Rattle.dap_moves.specs.declared.run.Ended.{Ended}
 use Rattle.dap_moves.specs.declared.run.Plan.{Plan}
 use Rattle.dap_moves.specs.declared.run.Turn.{Turn}
-use Rattle.dap_moves.specs.declared.seen.Watched.{Watched}
+use Rattle.dap_views.specs.declared.watched.Watched.{Watched}
 
 -- what a step of the branch comes to that was answered so
 abbrev pub turn_of : List Watched → ℕ → Reply → Turn

@@ -5,8 +5,8 @@ use Rattle.serde_json.specs.View.{view}
 use Rattle.dap_messages.specs.Written.{Has}
 use Rattle.dap_messages.specs.declared.members.Listed.{Listed}
 use Rattle.dap_messages.specs.declared.members.Members.{Members}
-use Rattle.dap_moves.specs.Handles.{number_of, reference}
-use Rattle.dap_moves.specs.declared.handles.Handle.{Handle}
+use Rattle.dap_views.specs.Handles.{number_of, reference}
+use Rattle.dap_views.specs.declared.handles.Handle.{Handle}
 use Rattle.dap_views.specs.declared.index.Named.{Named}
 use Rattle.dap_threads.specs.Given.{AreUnfoldedBy}
 use Rattle.dap_threads.specs.Variables.{AreLeaves, AreNamed}

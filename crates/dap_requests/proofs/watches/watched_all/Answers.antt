@@ -1,5 +1,5 @@
 use Rattle.std.proofs.Common.{List, Option, ℕ, ◌∙◌, ap, is_some}
-use Rattle.dap_moves.specs.declared.seen.Watched.{Watched}
+use Rattle.dap_views.specs.declared.watched.Watched.{Watched}
 use Rattle.dap_requests.specs.Sets.{watched_by}
 use Rattle.dap_requests.proofs.Listing.{verified_more, watched_behind}
 use Rattle.dap_requests.proofs.watches.watched_all.Goals as goal

@@ -1,5 +1,5 @@
 use Rattle.std.proofs.Common.{sym, ◌∙◌, ◌++◌, ◌∷◌, [], ◌+◌}
-use Rattle.dap_moves.specs.Handles.{frame_id}
+use Rattle.dap_views.specs.Handles.{frame_id}
 use Rattle.dap_threads.specs.Stack.{asked_ids}
 use Rattle.dap_threads.proofs.Listing.{asked_more, asked_same, listed_more, lists_on}
 use Rattle.dap_threads.proofs.frames.asked_frames.Goals as goal

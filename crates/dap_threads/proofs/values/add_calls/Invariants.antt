@@ -1,6 +1,6 @@
 -- Those among the calls before are added.
 use Rattle.std.proofs.Common.{ℕ, map}
-use Rattle.dap_moves.specs.declared.handles.Handle.{Handle}
+use Rattle.dap_views.specs.declared.handles.Handle.{Handle}
 use Rattle.dap_threads.specs.Variables.{calls_within}
 use Rattle.dap_threads.specs.internal.Listing.{AddsUnfolded}
 use Rattle.dap_threads.proofs.values.add_calls.Given as goal

@@ -2,7 +2,7 @@ use Rattle.std.proofs.Common.{ℕ, codes, refl, subst}
 use Rattle.serde_json.specs.Data.{boolean, number, unsigned}
 use Rattle.dap_messages.specs.Written.{Has}
 use Rattle.dap_messages.proofs.public.Held.{has_put, has_stays}
-use Rattle.dap_moves.specs.Handles.{reference}
+use Rattle.dap_views.specs.Handles.{reference}
 use Rattle.dap_threads.proofs.values.scope.Goals as goal
 
 pub returns : goal.returns

@@ -1,5 +1,5 @@
 use Rattle.std.proofs.Common.{◌+◌, ◌∷◌, [], ap}
-use Rattle.dap_moves.specs.declared.handles.Handle.{Handle}
+use Rattle.dap_views.specs.declared.handles.Handle.{Handle}
 use Rattle.dap_threads.proofs.Unfolding.{reference_as, unfolded_more, unfolded_none}
 use Rattle.dap_threads.proofs.values.scopes_titled.Goals as goal
 

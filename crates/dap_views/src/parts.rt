@@ -4,7 +4,7 @@ ghost use Rattle.runs.specs.Events.{acting};
 ghost use Rattle.runs.specs.declared.event.Event.{Event as AnEvent};
 ghost use Rattle.machine.specs.Branching.{is_branch};
 ghost use Rattle.system_places.specs.SystemBranches.{branch_at};
-ghost use Rattle.dap_moves.specs.Parts.{takes_part, second_in, NoneBelow, NewestBelow};
+ghost use Rattle.dap_views.specs.Parts.{takes_part, second_in, NoneBelow, NewestBelow};
 
 use dependence::Live;
 use runs::Event;

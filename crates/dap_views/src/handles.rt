@@ -1,8 +1,8 @@
 // The numbers by which a client names frames and what it unfolds: no table is kept, so one state has one number for
 // each.
 ghost use Rattle.std.specs.Prelude.{ℕ, ◌≡◌, ◌<◌, ◌^◌, ◌*◌, ◌+◌, Some};
-ghost use Rattle.dap_moves.specs.declared.handles.Handle.{Handle as Unfolded};
-ghost use Rattle.dap_moves.specs.Handles as model;
+ghost use Rattle.dap_views.specs.declared.handles.Handle.{Handle as Unfolded};
+ghost use Rattle.dap_views.specs.Handles as model;
 
 /// How many frames a thread may show.
 const MOST_FRAMES: u64 = 32_768;

@@ -1,8 +1,8 @@
 use Rattle.std.proofs.Common.{◌≡◌, ℕ, ◌≤◌, ◌<◌, Some, false}
 use Rattle.std.specs.Prelude.{slice_get}
 use Rattle.runs.specs.declared.event.Event.{Event}
-use Rattle.dap_moves.specs.Parts.{takes_part}
-use Rattle.dap_moves.proofs.parts.newest_below.Given as goal
+use Rattle.dap_views.specs.Parts.{takes_part}
+use Rattle.dap_views.proofs.parts.newest_below.Given as goal
 
 abbrev pub invariant-loop-left : goal.invariant-loop-left
 invariant-loop-left l = record {

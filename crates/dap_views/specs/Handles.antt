@@ -1,6 +1,6 @@
 -- The numbers of frames, and of what is unfolded.
 use Rattle.std.specs.Prelude.{ℕ, ◌+◌, ◌*◌, ◌^◌}
-use Rattle.dap_moves.specs.declared.handles.Handle.{Handle}
+use Rattle.dap_views.specs.declared.handles.Handle.{Handle}
 
 -- the number of a frame
 abbrev pub frame_id : ℕ → ℕ → ℕ
