@@ -38,9 +38,16 @@ const INLINE: usize = 5;
 /// entries from the root. The empty list is the root.
 ///
 /// One of up to 5 entries takes no memory of its own.
-#[derive(Debug, Drop)]
+#[derive(Debug)]
 pub struct Address {
     entries: SmallVec<Entry, INLINE>,
+}
+
+/// Written out: who lets one go then relies on this, and proves nothing of the parts once more.
+impl Drop for Address {
+    fn drop(self) {
+        let Address { entries: _ } = self;
+    }
 }
 
 impl Model for Address {

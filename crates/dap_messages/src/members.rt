@@ -12,11 +12,21 @@ use serde_json::{Map, Value, push, put};
 use std::alloc::Global;
 
 /// An object that is being made.
-#[derive(Drop)]
 pub struct Members {
     alloc: Global,
     made: Map<String, Value>,
     lacks: bool,
+}
+
+/// Written out: who lets one go then relies on this, and proves nothing of the parts once more.
+impl Drop for Members {
+    fn drop(self) {
+        let Members {
+            alloc: _,
+            made: _,
+            lacks: _,
+        } = self;
+    }
 }
 
 impl Members {

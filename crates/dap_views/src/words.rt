@@ -6,9 +6,15 @@ use std::str;
 use system::{QualifiedName, System};
 
 /// A text for people that is being made, a line or a few. A part for which there is no memory is left out.
-#[derive(Drop)]
 pub struct Words {
     text: String,
+}
+
+/// Written out: who lets one go then relies on this, and proves nothing of the parts once more.
+impl Drop for Words {
+    fn drop(self) {
+        let Words { text: _ } = self;
+    }
 }
 
 impl Words {

@@ -22,7 +22,6 @@ use std::marker::Model;
 use syntax::Boxed;
 
 /// The live events of an execution with their tickets, in order of tickets, the followers of each, and marks.
-#[derive(Drop)]
 pub struct Live {
     alloc: Global,
     list: LiveList,
@@ -34,6 +33,21 @@ pub struct Live {
     tables: Tables,
     /// room in which is looked for what a new event follows
     found: Vec<u64>,
+}
+
+/// Written out: who lets one go then relies on this, and proves nothing of the parts once more.
+impl Drop for Live {
+    fn drop(self) {
+        let Live {
+            alloc: _,
+            list: _,
+            marks: _,
+            first_marked: _,
+            marked_to: _,
+            tables: _,
+            found: _,
+        } = self;
+    }
 }
 
 impl Model for Live {

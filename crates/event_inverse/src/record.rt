@@ -10,11 +10,20 @@ pub(crate) enum Removed {
 }
 
 /// What the undo of an event needs beside the event. What it stands for is what the event left (`inverse_view`).
-#[derive(Drop)]
 pub struct Inverse {
     pub(crate) removed: Removed,
     /// the value that stood in the variable that the event wrote, if it wrote one
     pub(crate) overwritten: Option<Value>,
+}
+
+/// Written out: who lets one go then relies on this, and proves nothing of the parts once more.
+impl Drop for Inverse {
+    fn drop(self) {
+        let Inverse {
+            removed: _,
+            overwritten: _,
+        } = self;
+    }
 }
 
 /// An event with its inverse.

@@ -15,11 +15,17 @@ use std::marker::Model;
 ///
 /// Lists and objects are opened and closed; a comma is put before each further value by itself. Whoever opens is to
 /// close. Where a call is refused for want of memory, a part of what it adds may be there.
-#[derive(Drop)]
 pub struct Json {
     bytes: Vec<u8>,
     /// whether what comes next is the first of its list, or stands behind a name
     first: bool,
+}
+
+/// Written out: who lets one go then relies on this, and proves nothing of the parts once more.
+impl Drop for Json {
+    fn drop(self) {
+        let Json { bytes: _, first: _ } = self;
+    }
 }
 
 impl Model for Json {

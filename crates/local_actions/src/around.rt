@@ -21,10 +21,16 @@ pub struct Arrived {
 }
 
 /// What was received in the arms around a place.
-#[derive(Drop)]
 pub struct Around {
     /// the outermost first
     arrived: Items<Arrived>,
+}
+
+/// Written out: who lets one go then relies on this, and proves nothing of the parts once more.
+impl Drop for Around {
+    fn drop(self) {
+        let Around { arrived: _ } = self;
+    }
 }
 
 impl Model for Around {

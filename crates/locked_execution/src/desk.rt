@@ -7,10 +7,19 @@ use machine::{Breaks, Machine};
 use std::marker::Model;
 
 /// A machine and the sixteen sessions that work on it, each with breakpoints of its own.
-#[derive(Drop)]
 pub struct Desk {
     pub(crate) machine: Machine,
     pub(crate) sessions: [Breaks; 16],
+}
+
+/// Written out: who lets one go then relies on this, and proves nothing of the parts once more.
+impl Drop for Desk {
+    fn drop(self) {
+        let Desk {
+            machine: _,
+            sessions: _,
+        } = self;
+    }
 }
 
 impl Model for Desk {

@@ -44,12 +44,23 @@ pub type Var = u32;
 
 /// One execution of a system: its live events with their tickets, and the ticket of the next step. The tree and the
 /// values to which they lead are changed in place, by a step and by its undo; no event is ever replayed.
-#[derive(Drop)]
 pub struct Machine {
     alloc: Global,
     system: Checked,
     uses: ChannelUses,
     history: History,
+}
+
+/// Written out: who lets one go then relies on this, and proves nothing of the parts once more.
+impl Drop for Machine {
+    fn drop(self) {
+        let Machine {
+            alloc: _,
+            system: _,
+            uses: _,
+            history: _,
+        } = self;
+    }
 }
 
 impl Model for Machine {

@@ -6,10 +6,19 @@ use system::{QualifiedName, System};
 
 /// A text that is put together piece by piece. Where there is no memory for a piece, that piece and all further ones
 /// are left out, and the text is refused when it is asked for.
-#[derive(Drop)]
 pub struct Text {
     bytes: Vec<u8>,
     is_whole: bool,
+}
+
+/// Written out: who lets one go then relies on this, and proves nothing of the parts once more.
+impl Drop for Text {
+    fn drop(self) {
+        let Text {
+            bytes: _,
+            is_whole: _,
+        } = self;
+    }
 }
 
 impl Text {

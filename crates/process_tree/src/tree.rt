@@ -27,9 +27,15 @@ use syntax::Items;
 use system::System;
 
 /// The tree of an execution. What it stands for is a process (`tree_view`).
-#[derive(Drop)]
 pub struct Tree {
     proc: Proc,
+}
+
+/// Written out: who lets one go then relies on this, and proves nothing of the parts once more.
+impl Drop for Tree {
+    fn drop(self) {
+        let Tree { proc: _ } = self;
+    }
 }
 
 impl Tree {

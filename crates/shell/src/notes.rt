@@ -38,7 +38,6 @@ pub(crate) struct Seen<'a> {
 }
 
 /// The record of a session.
-#[derive(Drop)]
 pub struct Notes {
     alloc: Global,
     pub(crate) script: Vec<u8>,
@@ -54,6 +53,23 @@ pub struct Notes {
     is_cut: bool,
     /// How many steps the commands of this line took or took back.
     steps: u64,
+}
+
+/// Written out: who lets one go then relies on this, and proves nothing of the parts once more.
+impl Drop for Notes {
+    fn drop(self) {
+        let Notes {
+            alloc: _,
+            script: _,
+            is_whole: _,
+            session: _,
+            shows: _,
+            shown: _,
+            head: _,
+            is_cut: _,
+            steps: _,
+        } = self;
+    }
 }
 
 impl Notes {

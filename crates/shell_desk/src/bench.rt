@@ -12,7 +12,6 @@ use std::marker::Model;
 /// A desk, the session whose lines come, the steps that were numbered last, the branch that acted last, behind which a run
 /// goes on, the branch that was stepped last, and the line of the breakpoint at which a run of the session ended, as long
 /// as no step is taken or taken back and no lines of another session come.
-#[derive(Drop)]
 pub struct Bench {
     pub(crate) desk: Desk,
     pub(crate) session: u32,
@@ -20,6 +19,20 @@ pub struct Bench {
     pub(crate) turn: Option<u32>,
     pub(crate) branch: Option<u32>,
     pub(crate) stopped: Option<u64>,
+}
+
+/// Written out: who lets one go then relies on this, and proves nothing of the parts once more.
+impl Drop for Bench {
+    fn drop(self) {
+        let Bench {
+            desk: _,
+            session: _,
+            numbered: _,
+            turn: _,
+            branch: _,
+            stopped: _,
+        } = self;
+    }
 }
 
 impl Model for Bench {

@@ -11,9 +11,15 @@ use system::{System, Variable};
 use value::{Value, resize};
 
 /// The values of the variables, which contracts see as the list of them by number.
-#[derive(Drop)]
 pub struct Store {
     values: Vec<Value>,
+}
+
+/// Written out: who lets one go then relies on this, and proves nothing of the parts once more.
+impl Drop for Store {
+    fn drop(self) {
+        let Store { values: _ } = self;
+    }
 }
 
 impl Model for Store {

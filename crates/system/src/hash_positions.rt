@@ -7,9 +7,15 @@ use std::alloc::{AllocError, Global};
 use std::marker::Model;
 
 /// For each hash of a list the first position at which it stands.
-#[derive(Drop)]
 pub struct HashPositions {
     index: IndexMap<u64, usize>,
+}
+
+/// Written out: who lets one go then relies on this, and proves nothing of the parts once more.
+impl Drop for HashPositions {
+    fn drop(self) {
+        let HashPositions { index: _ } = self;
+    }
 }
 
 impl Model for HashPositions {

@@ -12,10 +12,16 @@ use syntax::Name;
 /// call around its declaration, a `:` behind each, and the name that is declared.
 ///
 /// The numbers are kept once for all names of a call, so a name takes little more memory than what is declared.
-#[derive(Drop)]
 pub struct QualifiedName {
     prefix: Prefix,
     own: Name,
+}
+
+/// Written out: who lets one go then relies on this, and proves nothing of the parts once more.
+impl Drop for QualifiedName {
+    fn drop(self) {
+        let QualifiedName { prefix: _, own: _ } = self;
+    }
 }
 
 impl Model for QualifiedName {

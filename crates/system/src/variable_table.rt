@@ -12,12 +12,21 @@ use std::marker::Model;
 use syntax::Items;
 
 /// The variables of a system, which contracts see as the list by number. A number by name is looked up in an index.
-#[derive(Drop)]
 pub struct VariableTable {
     /// by number
     variables: Items<Variable>,
     /// the first number of each hash of a name: two names of one hash are rare
     positions: HashPositions,
+}
+
+/// Written out: who lets one go then relies on this, and proves nothing of the parts once more.
+impl Drop for VariableTable {
+    fn drop(self) {
+        let VariableTable {
+            variables: _,
+            positions: _,
+        } = self;
+    }
 }
 
 impl Model for VariableTable {
